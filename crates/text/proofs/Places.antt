@@ -1,0 +1,227 @@
+-- Laws of places. Assumes nothing.
+use Prim.Native.Nat.{ℕ, zero, suc, _+_, _-_, _≤_, _<_}
+use mathlib.Core.Path.{_≡_, refl, sym, ap, _∙_}
+use mathlib.Core.Bool.{Bool, true, false, cond, _&&_, _||_, and-false}
+use mathlib.Core.List.{List, [], _∷_, _++_}
+use native.Mathlib.Numerals.{add-one}
+use native.Mathlib.Nat.{add-suc, add-zero, suc-add}
+use native.Mathlib.Omega.{arith}
+use lib.Dec.{eqb}
+use lib.ListN.{length, take, drop, getD, length-take}
+use lib.Seq.{take-suc, getD-drop}
+use Rattle.text.specs.declared.Place.{Place}
+use Rattle.text.specs.declared.Scan.{Scan}
+use Rattle.text.specs.Bytes.{isEol}
+use Rattle.text.specs.Gaps.{gapEnd}
+use Rattle.text.specs.Places.{start, over, step, scan, scanAt, placeAt, closes, Whole, IsPlace}
+use Rattle.text.proofs.Bools.{or-l, or-r}
+use Rattle.text.proofs.Gaps.{gap-stops, gap-within}
+
+-- Scanning
+
+pub scan-append : (c : Scan) (xs ys : List ℕ) → scan c (xs ++ ys) ≡ scan (scan c xs) ys
+unfolding scan
+scan-append c [] ys = refl
+scan-append c (x ∷ xs) ys = scan-append (step c x) xs ys
+
+-- one byte more
+pub scan-take : (c : Scan) (s : List ℕ) (n : ℕ) → n < length s → scan c (take (n + 1) s) ≡ step (scan c (take n s)) (getD s n 0)
+unfolding scan
+scan-take c s n h = rw (add-one, take-suc s n 0, scan-append)
+
+pub scanAt-suc : (s : List ℕ) (o : ℕ) → o < length s → scanAt s (o + 1) ≡ step (scanAt s o) (getD s o 0)
+unfolding scanAt
+scanAt-suc s o h = scan-take start s o h
+
+-- d is c but for half, and b closes a line end in both or in neither: one step over b makes them equal
+pub record Like (c d : Scan) (b : ℕ) : Type 0 where
+  pub line : c .line ≡ d .line
+  pub column : c .column ≡ d .column
+  pub closing : closes (c .half) b ≡ closes (d .half) b
+
+pub like-self : (c : Scan) (b : ℕ) → Like c c b
+like-self c b = record { line = refl; column = refl; closing = refl }
+
+pub like-step : (c d : Scan) (b : ℕ) → Like c d b → step c b ≡ step d b
+unfolding step
+like-step c d b h = rw (h .closing, h .line, h .column)
+
+pub like-next : (s : List ℕ) (at : ℕ) (c : Scan) → at < length s → Like c (scanAt s at) (getD s at 0) → step c (getD s at 0) ≡ scanAt s (at + 1)
+like-next s at c h l = like-step c (scanAt s at) (getD s at 0) l ∙ sym (scanAt-suc s at h)
+
+-- a place is enough to go on from, where it parts no line end
+pub like-whole : (s : List ℕ) (p : Place) → IsPlace s p → Like (record { line = p .line; column = p .column; half = 0 }) (scanAt s (p .offset)) (getD s (p .offset) 0)
+unfolding placeAt Whole
+like-whole s p i = record { line = ap (λ (q : Place). q .line) (i .at); column = ap (λ (q : Place). q .column) (i .at); closing = sym (i .whole) }
+
+-- and gives the place where it ends
+pub like-place : (s : List ℕ) (at to b : ℕ) (c : Scan) → at ≡ to → Like c (scanAt s at) b → record { offset = at; line = c .line; column = c .column } ≡ placeAt s to
+unfolding placeAt
+like-place s at to b c e h = rw (← e, h .line, h .column)
+
+-- line and column are at most one more than the bytes passed
+step-line : (c : Scan) (b : ℕ) → step c b .line ≤ c .line + 1
+unfolding step
+step-line c b = by-eol (isEol b)
+  where
+    by-closes : (t : Bool) → over t (c .line) b .line ≤ c .line + 1
+    by-closes true = omega arith
+    by-closes false = omega arith
+
+    by-eol : (t : Bool) → cond t (over (closes (c .half) b) (c .line) b) (record { line = c .line; column = c .column + 1; half = 0 }) .line ≤ c .line + 1
+    by-eol true = by-closes (closes (c .half) b)
+    by-eol false = omega arith
+
+step-column : (c : Scan) (b : ℕ) → step c b .column ≤ c .column + 1
+unfolding step
+step-column c b = by-eol (isEol b)
+  where
+    by-closes : (t : Bool) → over t (c .line) b .column ≤ c .column + 1
+    by-closes true = omega arith
+    by-closes false = omega arith
+
+    by-eol : (t : Bool) → cond t (over (closes (c .half) b) (c .line) b) (record { line = c .line; column = c .column + 1; half = 0 }) .column ≤ c .column + 1
+    by-eol true = by-closes (closes (c .half) b)
+    by-eol false = omega arith
+
+scan-line : (c : Scan) (s : List ℕ) → scan c s .line ≤ c .line + length s
+unfolding scan
+scan-line c [] = omega arith
+scan-line c (b ∷ s) = omega (arith, scan-line (step c b) s, step-line c b)
+
+scan-column : (c : Scan) (s : List ℕ) → scan c s .column ≤ c .column + length s
+unfolding scan
+scan-column c [] = omega arith
+scan-column c (b ∷ s) = omega (arith, scan-column (step c b) s, step-column c b)
+
+pub line-bound : (s : List ℕ) (o : ℕ) → scanAt s o .line ≤ o + 1
+unfolding scanAt
+line-bound s o = omega (arith, scan-line start (take o s), length-take o s)
+
+pub column-bound : (s : List ℕ) (o : ℕ) → scanAt s o .column ≤ o + 1
+unfolding scanAt
+column-bound s o = omega (arith, scan-column start (take o s), length-take o s)
+
+whole-before : (s : List ℕ) (o : ℕ) → isEol (getD s o 0) ≡ false → Whole s o
+unfolding Whole isEol
+whole-before s o e =
+    let b = getD s o 0 in
+    let e10 : eqb b 10 ≡ false = or-l (eqb b 10) (eqb b 13) e in
+    let e13 : eqb b 13 ≡ false = or-r (eqb b 10) (eqb b 13) e in
+    rw (e10, e13, and-false, and-false)
+
+pub gap-whole : (s : List ℕ) (o : ℕ) → Whole s (gapEnd s o)
+gap-whole s o = whole-before s (gapEnd s o) (gap-stops s o)
+
+-- the text's start
+pub place-start : (s : List ℕ) → record { offset = 0; line = 1; column = 1 } ≡ placeAt s 0
+unfolding placeAt scanAt scan
+place-start s = refl
+
+pub whole-start : (s : List ℕ) → Whole s 0
+unfolding Whole scanAt scan
+whole-start s = refl
+
+-- over bytes that end no line
+
+step-plain : (c : Scan) (b : ℕ) → isEol b ≡ false → step c b ≡ record { line = c .line; column = c .column + 1; half = 0 }
+unfolding step
+step-plain c b e = rw e
+
+-- n bytes on, the line is the same, the column n more, and no line end is begun
+pub record Along (s : List ℕ) (o n : ℕ) : Type 0 where
+  pub line : scanAt s (o + n) .line ≡ scanAt s o .line
+  pub column : scanAt s (o + n) .column ≡ scanAt s o .column + n
+  pub half : 0 < n → scanAt s (o + n) .half ≡ 0
+
+pub along : (s : List ℕ) (o n : ℕ) → o + n ≤ length s → ((k : ℕ) → o ≤ k → k < o + n → isEol (getD s k 0) ≡ false) → Along s o n
+along s o zero h f =
+    record {
+      line = ap (λ (k : ℕ). scanAt s k .line) (add-zero o);
+      column = ap (λ (k : ℕ). scanAt s k .column) (add-zero o) ∙ sym (add-zero (scanAt s o .column));
+      half = λ p. absurd (omega arith);
+    }
+along s o (suc n) h f =
+    let i : Along s o n = along s o n (omega arith) (λ k a b. f k a (omega arith)) in
+    let k : o + suc n ≡ o + n + 1 = omega arith in
+    let e : scanAt s (o + suc n) ≡ record { line = scanAt s (o + n) .line; column = scanAt s (o + n) .column + 1; half = 0 } =
+    ap (scanAt s) k ∙ scanAt-suc s (o + n) (omega arith) ∙ step-plain (scanAt s (o + n)) (getD s (o + n) 0) (f (o + n) (omega arith) (omega arith)) in
+    record {
+      line = ap (λ (c : Scan). c .line) e ∙ i .line;
+      column = ap (λ (c : Scan). c .column) e ∙ omega (arith, i .column);
+      half = λ p. ap (λ (c : Scan). c .half) e;
+    }
+
+pub place-along : (s : List ℕ) (p : Place) (e : ℕ) → p ≡ placeAt s (p .offset) → p .offset ≤ e → e ≤ length s → ((k : ℕ) → p .offset ≤ k → k < e → isEol (getD s k 0) ≡ false) →
+    record { offset = e; line = p .line; column = p .column + (e - p .offset) } ≡ placeAt s e
+unfolding placeAt
+place-along s p e q le h f =
+    let k : p .offset + (e - p .offset) ≡ e = omega arith in
+    let a : Along s (p .offset) (e - p .offset) = along s (p .offset) (e - p .offset) (omega arith) (λ j u w. f j u (omega arith)) in
+    let l : scanAt s e .line ≡ p .line = ap (λ (j : ℕ). scanAt s j .line) (sym k) ∙ a .line ∙ sym (ap (λ (x : Place). x .line) q) in
+    let c : scanAt s e .column ≡ p .column + (e - p .offset) = ap (λ (j : ℕ). scanAt s j .column) (sym k) ∙ a .column ∙ ap (λ (j : ℕ). j + (e - p .offset)) (sym (ap (λ (x : Place). x .column) q)) in
+    rw (l, c)
+
+pub place-column : (s : List ℕ) (p : Place) → p ≡ placeAt s (p .offset) → p .column ≤ p .offset + 1
+unfolding placeAt
+place-column s p e =
+    let c : p .column ≡ scanAt s (p .offset) .column = ap (λ (x : Place). x .column) e in
+    rw c (column-bound s (p .offset))
+
+-- a place by its offset
+pub place-offset : (s : List ℕ) (p : Place) (o : ℕ) → p ≡ placeAt s o → p .offset ≡ o
+unfolding placeAt
+place-offset s p o e = ap (λ (x : Place). x .offset) e
+
+pub place-own : (s : List ℕ) (p : Place) (o : ℕ) → p ≡ placeAt s o → p ≡ placeAt s (p .offset)
+place-own s p o e = e ∙ ap (placeAt s) (sym (place-offset s p o e))
+
+pub whole-along : (s : List ℕ) (o e : ℕ) → Whole s o → o ≤ e → e ≤ length s → ((k : ℕ) → o ≤ k → k < e → isEol (getD s k 0) ≡ false) → Whole s e
+unfolding Whole
+whole-along s o e w le h f = by (e - o) refl
+  where
+    by : (n : ℕ) → e - o ≡ n → closes (scanAt s e .half) (getD s e 0) ≡ false
+    by zero q =
+        let k : e ≡ o = omega arith in
+        rw k w
+    by (suc n) q =
+        let k : e ≡ o + suc n = omega arith in
+        let z : scanAt s e .half ≡ 0 = ap (λ (j : ℕ). scanAt s j .half) k ∙ along s o (suc n) (omega arith) (λ j u v. f j u (omega arith)) .half (omega arith) in
+        rw z
+
+pub place-line : (s : List ℕ) (p : Place) → p ≡ placeAt s (p .offset) → p .line ≤ p .offset + 1
+unfolding placeAt
+place-line s p e =
+    let c : p .line ≡ scanAt s (p .offset) .line = ap (λ (x : Place). x .line) e in
+    rw c (line-bound s (p .offset))
+
+-- the steps that keep a place
+
+pub is-start : (s : List ℕ) → IsPlace s (record { offset = 0; line = 1; column = 1 })
+is-start s = record { at = place-start s; whole = whole-start s; within = omega arith }
+
+pub is-gap-end : (s : List ℕ) (p q : Place) → IsPlace s p → q ≡ placeAt s (gapEnd s (p .offset)) → IsPlace s q
+is-gap-end s p q i e =
+    let o : q .offset ≡ gapEnd s (p .offset) = place-offset s q (gapEnd s (p .offset)) e in
+    record {
+      at = place-own s q (gapEnd s (p .offset)) e;
+      whole = rw o (gap-whole s (p .offset));
+      within = rw o (gap-within s (p .offset) (i .within));
+    }
+
+-- over bytes that end no line
+pub is-along : (s : List ℕ) (p q : Place) (e : ℕ) → IsPlace s p → q ≡ placeAt s e → p .offset ≤ e → e ≤ length s → ((k : ℕ) → p .offset ≤ k → k < e → isEol (getD s k 0) ≡ false) → IsPlace s q
+is-along s p q e i h l w f =
+    let o : q .offset ≡ e = place-offset s q e h in
+    record {
+      at = place-own s q e h;
+      whole = rw o (whole-along s (p .offset) e (i .whole) l w f);
+      within = rw o w;
+    }
+
+-- behind a byte that ends no line
+pub whole-after : (s : List ℕ) (o : ℕ) → o < length s → isEol (getD s o 0) ≡ false → Whole s (o + 1)
+unfolding Whole
+whole-after s o h e =
+    let z : scanAt s (o + 1) .half ≡ 0 = ap (λ (c : Scan). c .half) (scanAt-suc s o h ∙ step-plain (scanAt s o) (getD s o 0) e) in
+    rw z

@@ -1,0 +1,17 @@
+use borrow.Author.Tests.{le-leb, lt-leb}
+use Rattle.text.specs.Bytes.{isDigit}
+use Rattle.text.proofs.is_digit.Statement.{statement}
+use Rattle.text.proofs.is_digit.Tie as tie
+use Rattle.text.proofs.is_digit.Reads as reads
+use Rattle.text.proofs.is_digit.Lts as lts
+
+returns : tie.Need-returns
+unfolding isDigit
+returns c = rw (lt-leb _ _ (c .if1 .taken))
+
+returns-2 : tie.Need-returns-2
+unfolding isDigit
+returns-2 c = rw (le-leb _ _ (c .if1 .left))
+
+pub is-digit-spec : {M : Type 1} → statement M
+is-digit-spec = tie.close (tie.spec returns returns-2)

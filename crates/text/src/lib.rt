@@ -1,0 +1,234 @@
+// Bytes and places: classes of bytes, the place of an offset, and the step over space and comments.
+ghost use mathlib.Core.Path.{_≡_};
+ghost use Prim.Native.Nat.{_≤_, _<_, _^_};
+ghost use lib.ListN.{length};
+ghost use Rattle.text.specs.Bytes.{isAscii, isDigit, isEol, isSpace, endsWord};
+ghost use Rattle.text.specs.Runs.{span};
+ghost use Rattle.text.specs.Gaps.{gapByte, gapThen, gapEnd};
+ghost use Rattle.text.specs.Places.{step as stepOf, placeAt, IsPlace};
+
+// Where a byte stands in a text.
+pub struct Place {
+    pub offset: usize,
+    pub line: usize,
+    pub column: usize,
+}
+
+pub fn is_digit(b: u8) -> bool
+    ensures { λ r. ⌜ r ≡ isDigit b ⌝ }
+{
+    if b < 48 {
+        return false;
+    }
+    b <= 57
+}
+
+pub fn is_eol(b: u8) -> bool
+    ensures { λ r. ⌜ r ≡ isEol b ⌝ }
+{
+    if b == 10 {
+        return true;
+    }
+    b == 13
+}
+
+pub fn is_space(b: u8) -> bool
+    ensures { λ r. ⌜ r ≡ isSpace b ⌝ }
+{
+    if b == 32 {
+        return true;
+    }
+    if b == 9 {
+        return true;
+    }
+    if b == 10 {
+        return true;
+    }
+    b == 13
+}
+
+pub fn ends_word(b: u8) -> bool
+    ensures { λ r. ⌜ r ≡ endsWord b ⌝ }
+{
+    if b == 32 {
+        return true;
+    }
+    if b == 9 {
+        return true;
+    }
+    if b == 10 {
+        return true;
+    }
+    if b == 13 {
+        return true;
+    }
+    b == 12
+}
+
+// How many bytes stand before the first that is 128 or more.
+pub fn ascii_end(s: &[u8]) -> usize
+    ensures { λ r. ⌜ r ≡ span isAscii (now (s .entry)) ⌝ }
+{
+    let mut at = 0;
+    while at < s.len() {
+        if 128 <= s[at] {
+            return at;
+        }
+        at += 1;
+    }
+    at
+}
+
+// Line and column so far, and half: 10 or 13 where the last byte is an LF or CR that began a line end, else 0.
+pub struct Scan {
+    pub line: usize,
+    pub column: usize,
+    pub half: u8,
+}
+
+// Over one byte.
+pub fn step(c: Scan, b: u8) -> Scan
+    requires { ⌜ (c .line < 2 ^ 63) × (c .column < 2 ^ 63) ⌝ }
+    ensures { λ r. ⌜ r ≡ stepOf c b ⌝ }
+{
+    let half = c.half;
+    if b == 10 {
+        if half == 13 {
+            return Scan {
+                line: c.line,
+                column: 1,
+                half: 0,
+            };
+        }
+        return Scan {
+            line: c.line + 1,
+            column: 1,
+            half: 10,
+        };
+    }
+    if b == 13 {
+        if half == 10 {
+            return Scan {
+                line: c.line,
+                column: 1,
+                half: 0,
+            };
+        }
+        return Scan {
+            line: c.line + 1,
+            column: 1,
+            half: 13,
+        };
+    }
+    Scan {
+        line: c.line,
+        column: c.column + 1,
+        half: 0,
+    }
+}
+
+// The place of a later offset, from the place of an earlier one.
+pub fn advance(s: &[u8], p: Place, to: usize) -> Place
+    requires { ⌜ IsPlace (now s) p × (p .offset ≤ to) × (to ≤ length (now s)) ⌝ }
+    ensures { λ r. ⌜ r ≡ placeAt (now (s .entry)) to ⌝ }
+{
+    let mut c = Scan {
+        line: p.line,
+        column: p.column,
+        half: 0,
+    };
+    let mut at = p.offset;
+    while at < to {
+        c = step(c, s[at]);
+        at += 1;
+    }
+    Place {
+        offset: to,
+        line: c.line,
+        column: c.column,
+    }
+}
+
+// The place of any offset of a text.
+pub fn place_at(s: &[u8], to: usize) -> Place
+    requires { ⌜ to ≤ length (now s) ⌝ }
+    ensures { λ r. ⌜ r ≡ placeAt (now (s .entry)) to ⌝ }
+{
+    advance(
+        s,
+        Place {
+            offset: 0,
+            line: 1,
+            column: 1,
+        },
+        to,
+    )
+}
+
+// Whether a byte is skipped, in a comment or outside.
+fn is_gap(comment: bool, b: u8) -> bool
+    ensures { λ r. ⌜ r ≡ gapByte comment b ⌝ }
+{
+    if comment {
+        return true;
+    }
+    if is_space(b) {
+        return true;
+    }
+    b == 35
+}
+
+// Whether what follows a skipped byte stands in a comment.
+fn in_comment(comment: bool, b: u8) -> bool
+    ensures { λ r. ⌜ r ≡ gapThen comment b ⌝ }
+{
+    if comment {
+        return !is_eol(b);
+    }
+    b == 35
+}
+
+// The end of the space and comments that start at an offset.
+pub fn gap_end(s: &[u8], from: usize) -> usize
+    ensures { λ r. ⌜ r ≡ gapEnd (now (s .entry)) from ⌝ }
+{
+    let mut at = from;
+    let mut comment = false;
+    while at < s.len() {
+        let b = s[at];
+        if !is_gap(comment, b) {
+            return at;
+        }
+        comment = in_comment(comment, b);
+        at += 1;
+    }
+    at
+}
+
+// The place behind the space and comments at a place: end and place are found in one loop.
+pub fn trim_comments_and_whitespace(s: &[u8], p: Place) -> Place
+    requires { ⌜ IsPlace (now s) p ⌝ }
+    ensures { λ r. ⌜ r ≡ placeAt (now (s .entry)) (gapEnd (now (s .entry)) (p .offset)) ⌝ }
+{
+    let mut c = Scan {
+        line: p.line,
+        column: p.column,
+        half: 0,
+    };
+    let mut at = p.offset;
+    let mut comment = false;
+    while at < s.len() {
+        let b = s[at];
+        if !is_gap(comment, b) {
+            break;
+        }
+        c = step(c, b);
+        comment = in_comment(comment, b);
+        at += 1;
+    }
+    Place {
+        offset: at,
+        line: c.line,
+        column: c.column,
+    }
+}
