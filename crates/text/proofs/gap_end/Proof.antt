@@ -44,9 +44,9 @@ loop-less c = omega arith
 
 loop-again : tie.Need-loop-again Inv-loop μ-loop
 loop-again c =
-  c .before .before .before .before .before .loop .inv
-      ∙ gap-go _ _ _ (c .before .before .before .before .loop-test .taken) (sym (c .before .before .is-gap .ensures) ∙ not-false _ (c .before .if1 .left))
-      ∙ rw (c .in-comment .ensures)
+    c .before .before .before .before .before .loop .inv
+    ∙ gap-go _ _ _ (c .before .before .before .before .loop-test .taken) (sym (c .before .before .is-gap .ensures) ∙ not-false _ (c .before .if1 .left))
+    ∙ rw (c .in-comment .ensures)
 
 returns-2 : tie.Need-returns-2 Inv-loop μ-loop
 returns-2 c = sym (c .before .loop .inv ∙ gap-over _ _ _ (c .loop-test .left))

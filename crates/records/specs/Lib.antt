@@ -1,0 +1,4 @@
+pub mod Kinds
+pub mod Bytes
+pub mod Put
+pub mod Records
