@@ -1,0 +1,4 @@
+pub mod Put
+pub mod Copy
+pub mod Bytes
+pub mod Onward

@@ -1,0 +1,82 @@
+-- How the write pass goes on: what must hold before records are written, and what holds afterwards. `Onward` says that the buffers will be the same in the end
+-- when the records that are left are written from here. Assumes nothing.
+use Prim.Native.Nat.{ℕ, suc, _+_, _≤_, _<_}
+use mathlib.Core.Path.{_≡_}
+use mathlib.Core.Bool.{Bool, true, false, cond}
+use mathlib.Core.List.{List, [], _∷_}
+use lib.Dec.{eqb}
+use lib.ListN.{length, getD}
+use Rattle.text.specs.Bytes.{isEol}
+use Rattle.text.specs.Places.{placeAt, IsPlace}
+use Rattle.records.specs.Kinds.{kindOf, marksOf}
+use Rattle.records.specs.Put.{put}
+use Rattle.items.specs.Machine.{Rec}
+use Rattle.items.specs.Sizes.{contentSize, storeSize, outlineSize, areaSize}
+use Rattle.writing.specs.declared.Cursor.{Cursor}
+use Rattle.writing.specs.Writing.{recordBytes, storeOf, contentOf, areaOf, areaIn}
+
+-- the store's bytes that records take
+unfoldable pub storeLength : Bool → List Rec → ℕ
+storeLength true rs = storeSize rs
+storeLength false rs = outlineSize rs
+
+-- where writing stands: the cursor, the store and the area
+pub record Desk : Type 0 where
+  pub cursor : Cursor
+  pub store : List ℕ
+  pub area : List ℕ
+
+abbrev pub desk : Cursor → List ℕ → List ℕ → Desk
+desk c l a = record { cursor = c; store = l; area = a }
+
+-- a cursor from which writing may go on: contents are no longer than the text that was read
+pub record Going (s : List ℕ) (c : Cursor) : Type 0 where
+  pub place : IsPlace s (c .place)
+  pub short : length s ≤ 16777216
+  pub behind : c .area ≤ c .place .offset
+
+-- there is room for these records
+pub record Room (full : Bool) (rs : List Rec) (d : Desk) : Type 0 where
+  pub store : d .cursor .at + storeLength full rs ≤ length (d .store)
+  pub area : full ≡ true → d .cursor .area + areaSize rs ≤ length (d .area)
+
+-- a token of kind k and n bytes stands at offset o: it has its marks, only a text field has line ends in it, and none ends in one
+pub record IsToken (s : List ℕ) (k o n : ℕ) : Type 0 where
+  pub some : 0 < n
+  pub within : o + n ≤ length s
+  pub marks : marksOf (kindOf k) ≤ n
+  pub line : eqb k 13 ≡ false → (j : ℕ) → o ≤ j → j < o + n → isEol (getD s j 0) ≡ false
+  pub last : (j : ℕ) → suc j ≡ o + n → isEol (getD s j 0) ≡ false
+
+unfoldable pub recAt : ℕ → ℕ → ℕ → Rec
+recAt k o n = record { kind = k; at = o; size = n }
+
+-- one record is written, which counts n tags, and the cursor stands at offset o
+pub record WroteOne (full : Bool) (s : List ℕ) (n : ℕ) (r : Rec) (o : ℕ) (d e : Desk) : Type 0 where
+  pub going : Going s (e .cursor)
+  pub place : e .cursor .place ≡ placeAt s o
+  pub at : e .cursor .at ≡ d .cursor .at + storeLength full (r ∷ [])
+  pub behind : e .cursor .area ≡ d .cursor .area + contentSize (r .kind) (r .size)
+  pub filled : length (contentOf s r) ≡ contentSize (r .kind) (r .size)
+  pub store : e .store ≡ put (d .cursor .at) (recordBytes full s (d .cursor .area) n r) (d .store)
+  pub area : e .area ≡ put (d .cursor .area) (cond full (contentOf s r) []) (d .area)
+
+-- the records are written, and the cursor stands at offset o
+pub record Wrote (full : Bool) (s : List ℕ) (rs : List Rec) (o : ℕ) (d e : Desk) : Type 0 where
+  pub going : Going s (e .cursor)
+  pub place : e .cursor .place ≡ placeAt s o
+  pub at : e .cursor .at ≡ d .cursor .at + storeLength full rs
+  pub behind : e .cursor .area ≡ d .cursor .area + areaSize rs
+  pub filled : length (areaOf s rs) ≡ areaSize rs
+  pub store : e .store ≡ put (d .cursor .at) (storeOf full s (d .cursor .area) rs) (d .store)
+  pub area : e .area ≡ put (d .cursor .area) (areaIn full s rs) (d .area)
+
+-- from d with records rs left to write to e with records left: the buffers will be the same in the end
+pub record Onward (full : Bool) (s : List ℕ) (rs : List Rec) (d : Desk) (left : List Rec) (e : Desk) : Type 0 where
+  pub at : e .cursor .at + storeLength full left ≡ d .cursor .at + storeLength full rs
+  pub behind : e .cursor .area + areaSize left ≡ d .cursor .area + areaSize rs
+  pub filled : length (areaOf s left) ≡ areaSize left → length (areaOf s rs) ≡ areaSize rs
+  pub store-length : length (e .store) ≡ length (d .store)
+  pub area-length : length (e .area) ≡ length (d .area)
+  pub store : put (e .cursor .at) (storeOf full s (e .cursor .area) left) (e .store) ≡ put (d .cursor .at) (storeOf full s (d .cursor .area) rs) (d .store)
+  pub area : put (e .cursor .area) (areaIn full s left) (e .area) ≡ put (d .cursor .area) (areaIn full s rs) (d .area)
