@@ -2,3 +2,4 @@ pub mod Steps
 pub mod Fits
 pub mod Ended
 pub mod Advance
+pub mod Readings
