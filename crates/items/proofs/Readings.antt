@@ -100,7 +100,7 @@ readings =
     ∷ reads "data_x save_f save_g" (no 7 19 1 20 0)
     -- * values `.` and 5
     ∷ reads "data_x loop_ _a .5."
-        (yes (row 1 0 6 1 1 ∷ row 5 7 5 1 8 ∷ row 6 13 2 1 14 ∷ row 8 16 1 1 17 ∷ row 14 17 2 1 18 ∷ loop-end ∷ []) 116 2)
+    (yes (row 1 0 6 1 1 ∷ row 5 7 5 1 8 ∷ row 6 13 2 1 14 ∷ row 8 16 1 1 17 ∷ row 14 17 2 1 18 ∷ loop-end ∷ []) 116 2)
     ∷ means "5." (Number (whole 5) 2)
     -- 7 at 11,1,12
     ∷ reads "data_x _a .5." (no 7 11 1 12 0)
@@ -123,18 +123,18 @@ readings =
     ∷ means "1234567890x" (Token 10 11)
     -- the outline program's example: 183 store bytes, an area of 5
     ∷ reads "data_t\n_a 1.50(2)\nloop_ _b _c\nx ?\n"
-        (yes
-        (row 1 0 6 1 1
-        ∷ row 4 7 2 2 1
-        ∷ row 15 10 7 2 4
-        ∷ row 5 18 5 3 1
-        ∷ row 6 24 2 3 7
-        ∷ row 6 27 2 3 10
-        ∷ row 10 30 1 4 1
-        ∷ row 9 32 1 4 3
-        ∷ loop-end
-        ∷ [])
-        183 5)
+    (yes
+    (row 1 0 6 1 1
+    ∷ row 4 7 2 2 1
+    ∷ row 15 10 7 2 4
+    ∷ row 5 18 5 3 1
+    ∷ row 6 24 2 3 7
+    ∷ row 6 27 2 3 10
+    ∷ row 10 30 1 4 1
+    ∷ row 9 32 1 4 3
+    ∷ loop-end
+    ∷ [])
+    183 5)
     ∷ means "1.50(2)" (Number (decimal 1 50 2 true 2) 7)
     ∷ []
 
