@@ -14,6 +14,17 @@ pub struct Place {
     pub column: usize,
 }
 
+// An answer in document 01's numbers: the refusal number, its place (or two record numbers), its detail, and the two lengths.
+pub struct Report {
+    pub number: usize,
+    pub offset: usize,
+    pub line: usize,
+    pub column: usize,
+    pub detail: usize,
+    pub first: usize,
+    pub second: usize,
+}
+
 pub fn is_digit(b: u8) -> bool
     ensures { λ r. ⌜ r ≡ isDigit b ⌝ }
 {

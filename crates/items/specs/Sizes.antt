@@ -1,0 +1,27 @@
+-- The room that records take: in the store, in the outline's store and in the area. Assumes nothing.
+use Prim.Native.Nat.{ℕ, suc, _+_, _-_}
+use mathlib.Core.Bool.{Bool, cond}
+use mathlib.Core.List.{List, [], _∷_}
+use Rattle.records.specs.Kinds.{kindOf, marksOf, bodyLength, outlineLength, hasContent}
+use Rattle.items.specs.Machine.{Rec}
+use Rattle.items.specs.declared.Sizes.{Sizes}
+
+-- content is the token less the marks, for the kinds that have one
+unfoldable pub contentSize : ℕ → ℕ → ℕ
+contentSize k n = cond (hasContent k) (n - marksOf (kindOf k)) 0
+
+-- one byte of kind and the body
+unfoldable pub storeSize : List Rec → ℕ
+storeSize [] = 0
+storeSize (r ∷ rs) = suc (bodyLength (r .kind)) + storeSize rs
+
+unfoldable pub outlineSize : List Rec → ℕ
+outlineSize [] = 0
+outlineSize (r ∷ rs) = suc (outlineLength (r .kind)) + outlineSize rs
+
+unfoldable pub areaSize : List Rec → ℕ
+areaSize [] = 0
+areaSize (r ∷ rs) = contentSize (r .kind) (r .size) + areaSize rs
+
+unfoldable pub sizesOf : List Rec → Sizes
+sizesOf rs = record { store = storeSize rs; outline = outlineSize rs; area = areaSize rs }
