@@ -2,11 +2,6 @@ use borrow.Author.Needs.{needs}
 use Rattle.records.specs.Kinds.{bodyLength}
 use Rattle.records.proofs.body_length.Statement.{statement}
 use Rattle.records.proofs.body_length.Tie as tie
-use Rattle.records.proofs.body_length.Reads as reads
-use Rattle.records.proofs.body_length.Lts as lts
-use Rattle.records.proofs.Kind.of.Reads as of-reads
-use Rattle.records.proofs.Kind.shape.Reads as shape-reads
-use Rattle.records.proofs.Shape.length.Reads as length-reads
 
 of-requires : tie.Need-of-requires
 of-requires c κs = search needs

@@ -4,10 +4,6 @@ use Rattle.records.specs.Kinds.{outlineLength, outlineShape, shapeLength
 use Rattle.records.proofs.Numbering.{outlined}
 use Rattle.records.proofs.outline_length.Statement.{statement}
 use Rattle.records.proofs.outline_length.Tie as tie
-use Rattle.records.proofs.outline_length.Reads as reads
-use Rattle.records.proofs.outline_length.Lts as lts
-use Rattle.records.proofs.Kind.of.Reads as of-reads
-use Rattle.records.proofs.Kind.shape.Reads as shape-reads
 
 of-requires : tie.Need-of-requires
 of-requires c κs = search needs

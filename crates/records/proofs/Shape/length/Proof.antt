@@ -2,8 +2,6 @@ use borrow.Author.Needs.{needs}
 use Rattle.records.specs.Kinds.{shapeLength}
 use Rattle.records.proofs.Shape.length.Statement.{statement}
 use Rattle.records.proofs.Shape.length.Tie as tie
-use Rattle.records.proofs.Shape.length.Reads as reads
-use Rattle.records.proofs.Shape.length.Lts as lts
 
 enum-told : tie.Need-enum-told
 enum-told c = search needs
