@@ -1,2 +1,4 @@
 pub mod Parts
 pub mod Meaning
+pub mod Spelling
+pub mod Cif

@@ -1,0 +1,4 @@
+pub mod Spell
+pub mod Spelled
+pub mod Cif
+pub mod CifBack

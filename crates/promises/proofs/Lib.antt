@@ -1,0 +1,13 @@
+pub mod Places
+pub mod Shape
+pub mod ShapeNumber
+pub mod ShapeTokens
+pub mod Veil
+pub mod VeilRead
+pub mod Kept
+pub mod Demand3
+pub mod PlaceBlind
+pub mod Trip
+pub mod SoundCheck
+pub mod RoundTrip
+pub mod NumberLex
