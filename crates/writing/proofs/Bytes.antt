@@ -17,7 +17,7 @@ use Rattle.records.specs.Records.{tokenBytes, decimalBytes, placeRecord, conten
 use Rattle.items.specs.Machine.{Rec}
 use Rattle.items.specs.Sizes.{contentSize, storeSize, outlineSize, areaSize}
 use Rattle.writing.specs.Writing.{shaped, shapeIn, recordBytes, tagsOf, storeOf, contentOf, areaOf, areaIn}
-use Rattle.writing.specs.Walk.{storeLength}
+use Rattle.writing.specs.Walk.{storeLength, recordLength}
 
 -- Lengths
 
@@ -29,6 +29,32 @@ shaped-length Content s a n r = refl
 shaped-length Count s a n r = refl
 shaped-length Parts s a n r = refl
 shaped-length PartsUncertain s a n r = refl
+
+-- a body is short
+pub shape-short : (h : Shape) → shapeLength h ≤ 38
+unfolding shapeLength
+shape-short Empty = omega arith
+shape-short Place = omega arith
+shape-short Content = omega arith
+shape-short Count = omega arith
+shape-short Parts = omega arith
+shape-short PartsUncertain = omega arith
+
+pub body-short : (k : ℕ) → bodyLength k ≤ 38
+unfolding bodyLength
+body-short k = shape-short (shapeOf (kindOf k))
+
+pub outline-short : (k : ℕ) → outlineLength k ≤ 38
+unfolding outlineLength
+outline-short k = shape-short (outlineShape (shapeOf (kindOf k)))
+
+pub length-read : (full : Bool) (k : ℕ) → full ≡ true → 1 + bodyLength k ≡ recordLength full k
+unfolding recordLength shapeIn bodyLength
+length-read full k e = rw e (omega arith)
+
+pub length-outlined : (full : Bool) (k : ℕ) → full ≡ false → 1 + outlineLength k ≡ recordLength full k
+unfolding recordLength shapeIn outlineLength
+length-outlined full k e = rw e (omega arith)
 
 pub record-length : (full : Bool) (s : List ℕ) (a n : ℕ) (r : Rec) (rs : List Rec) → length (recordBytes full s a n r) + storeLength full rs ≡ storeLength full (r ∷ rs)
 unfolding recordBytes shapeIn storeLength storeSize outlineSize bodyLength outlineLength

@@ -1,4 +1,5 @@
-pub mod Put
 pub mod Copy
+pub mod Forms
 pub mod Bytes
 pub mod Onward
+pub mod Places

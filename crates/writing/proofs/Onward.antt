@@ -11,7 +11,8 @@ use Rattle.text.specs.Places.{placeAt}
 use Rattle.items.specs.Sizes.{contentSize, areaSize}
 use Rattle.writing.specs.Writing.{recordBytes, tagsOf, storeOf, contentOf, areaOf, areaIn}
 use Rattle.writing.specs.Walk.{storeLength, Desk, Going, Room, WroteOne, Wrote, Onward}
-use Rattle.writing.proofs.Put.{length-put, put-none, put-more}
+use Rattle.records.proofs.Putting.{length-put, put-more}
+use Rattle.writing.proofs.Copy.{put-none}
 use Rattle.writing.proofs.Bytes.{record-length, store-none, store-length, area-size-append, store-length-append, area-append, store-append}
 
 module _ (full : Bool) (s : List ℕ) where

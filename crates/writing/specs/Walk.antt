@@ -8,17 +8,21 @@ use lib.Dec.{eqb}
 use lib.ListN.{length, getD}
 use Rattle.text.specs.Bytes.{isEol}
 use Rattle.text.specs.Places.{placeAt, IsPlace}
-use Rattle.records.specs.Kinds.{kindOf, marksOf}
+use Rattle.records.specs.Kinds.{kindOf, shapeLength, marksOf}
 use Rattle.records.specs.Put.{put}
 use Rattle.items.specs.Machine.{Rec}
 use Rattle.items.specs.Sizes.{contentSize, storeSize, outlineSize, areaSize}
 use Rattle.writing.specs.declared.Cursor.{Cursor}
-use Rattle.writing.specs.Writing.{recordBytes, storeOf, contentOf, areaOf, areaIn}
+use Rattle.writing.specs.Writing.{shapeIn, recordBytes, storeOf, contentOf, areaOf, areaIn}
 
 -- the store's bytes that records take
 unfoldable pub storeLength : Bool → List Rec → ℕ
 storeLength true rs = storeSize rs
 storeLength false rs = outlineSize rs
+
+-- the bytes of one record
+unfoldable pub recordLength : Bool → ℕ → ℕ
+recordLength full k = suc (shapeLength (shapeIn full k))
 
 -- where writing stands: the cursor, the store and the area
 pub record Desk : Type 0 where

@@ -5,12 +5,13 @@ use mathlib.Core.Bool.{Bool, true, false, cond}
 use mathlib.Core.List.{List, [], _∷_, _++_}
 use lib.Dec.{eqb}
 use lib.ListN.{length, take, drop}
+use Rattle.text.specs.declared.Place.{Place}
 use Rattle.text.specs.Places.{placeAt}
 use Rattle.numbers.specs.declared.Decimal.{Decimal}
 use Rattle.numbers.specs.Parts.{parts}
 use Rattle.numbers.specs.Meaning.{meaning}
 use Rattle.records.specs.declared.Shape.{Shape}
-use Rattle.records.specs.declared.Shape.the-variants.{Empty, Place, Content, Count, Parts, PartsUncertain}
+use Rattle.records.specs.declared.Shape.the-variants.{Empty, Place as PlaceAlone, Content, Count, Parts, PartsUncertain}
 use Rattle.records.specs.declared.Token.{Token}
 use Rattle.records.specs.Kinds.{kindOf, shapeOf, outlineShape, opening}
 use Rattle.records.specs.Records.{placeRecord, contentRecord, loopRecord, numberRecord, uncertainRecord}
@@ -32,10 +33,25 @@ contentOf s r = take (contentSize (r .kind) (r .size)) (drop (r .at + opening (k
 unfoldable pub decimalOf : List ℕ → Rec → Decimal
 decimalOf s r = meaning (parts (tokenText s r))
 
+-- P of a token of n bytes at a place
+unfoldable pub tokenAt : Place → ℕ → Token
+tokenAt p n = record { offset = p .offset; length = n; line = p .line; column = p .column }
+
+-- the bytes of a record with content, of a loop, of a number: P alone in the outline
+unfoldable pub contentBytes : Bool → ℕ → Token → ℕ → List ℕ
+contentBytes full k t a = cond full (contentRecord k t a) (placeRecord k t)
+
+unfoldable pub loopBytes : Bool → Token → ℕ → List ℕ
+loopBytes full t n = cond full (loopRecord t n) (placeRecord 5 t)
+
+unfoldable pub numberBytes : Bool → Token → Decimal → List ℕ
+numberBytes full t d =
+    cond (d .uncertain) (cond full (uncertainRecord t d) (placeRecord 15 t)) (cond full (numberRecord t d) (placeRecord 14 t))
+
 -- a record's bytes by its shape: a is the area offset, n the number of tags
 unfoldable pub shaped : Shape → List ℕ → ℕ → ℕ → Rec → List ℕ
 shaped Empty s a n r = r .kind ∷ []
-shaped Place s a n r = placeRecord (r .kind) (tokenOf s r)
+shaped PlaceAlone s a n r = placeRecord (r .kind) (tokenOf s r)
 shaped Content s a n r = contentRecord (r .kind) (tokenOf s r) a
 shaped Count s a n r = loopRecord (tokenOf s r) n
 shaped Parts s a n r = numberRecord (tokenOf s r) (decimalOf s r)
