@@ -1,11 +1,11 @@
 -- The bytes inside quoted values and text fields do not show: the relation between two texts, followed along the tokens of the first.
 use Prim.Native.Nat.{ℕ, zero, suc}
-use mathlib.Core.Bool.{true≢false, false≢true, Bool, true, false, not, cond, _&&_, _||_}
+use mathlib.Core.Bool.{true≢false, false≢true, Bool, true, false, not, cond, _&&_, _||_, or-true}
 use mathlib.Core.Path.{_≡_, refl, sym, ap, ap₂, _∙_, subst}
 use mathlib.Core.List.{List, [], _∷_, _++_, map}
 use mathlib.Core.Option.{Option, none, some}
 use native.Mathlib.Omega.{arith}
-use borrow.Author.Tests.{eqb-true}
+use borrow.Author.Tests.{eqb-true, not-true}
 use lib.Dec.{leb, eqb}
 use lib.ListN.{length, take, length-map}
 use lib.Seq.{length-take-le, take-take}
@@ -23,15 +23,13 @@ use Rattle.numbers.specs.Cif.{allDigits, Sign, unsigned, plus, minus}
 use Rattle.numbers.proofs.Spell.{Bracket, unbracketed, bracketed, Exponent, unscaled, scaled, Point, whole, pointed, digits-split, digits-got, sign-split, sign-got, bracket-view, exponent-view, point-view, or-is}
 use Rattle.values.specs.Values.{Class, block, loop, save, tag, value, overLimit, nothing, Reason, openQuote, openField, Lexed, lexed, numberOr, wordOr, closed, lexValue}
 use Rattle.items.specs.Tokens.{Mode, before, inBlock, inFrame, saveSize, lexIn, lex, after, Tok, emit, step, tokensFrom}
+use Rattle.promises.specs.Differences.{isMark, isQuoted}
 use Rattle.promises.proofs.Places.{take-map}
 use Rattle.promises.proofs.Shape.{σ, flat, blind, word-σ, gap-σ, quoted-σ, field-σ, eol-σ, inWord-σ, gapByte-σ}
 use Rattle.promises.proofs.ShapeNumber.{ap-cond}
 use Rattle.promises.proofs.ShapeTokens.{numberOr-σ}
 
--- the marks that no change may touch, and a byte with all but them washed out
-unfoldable pub isMark : ℕ → Bool
-isMark b = is 39 b || is 34 b || is 59 b || isEol b
-
+-- a byte with all but the marks washed out
 unfoldable pub μ : ℕ → ℕ
 μ b = cond (isMark b) b 120
 
@@ -41,7 +39,7 @@ opens b = is 39 b || is 34 b || is 59 b
 
 -- a quoted value or a text field
 unfoldable pub veiled : Class → Bool
-veiled (value k) = leb 11 k && leb k 13
+veiled (value k) = isQuoted k
 veiled block = false
 veiled loop = false
 veiled save = false
@@ -145,7 +143,7 @@ isVeiled : Lexed → Bool
 isVeiled x = veiled (x .class)
 
 number-bare : (p : Parts) (n : ℕ) → isVeiled (lexed (cond (within p) (value (cond (p .unc .here) 15 14)) overLimit) n) ≡ false
-unfolding isVeiled lexed veiled
+unfolding isVeiled lexed veiled isQuoted
 number-bare p n = go (within p) (p .unc .here)
   where
     go : (a b : Bool) → veiled (cond a (value (cond b 15 14)) overLimit) ≡ false
@@ -166,17 +164,17 @@ cond-same true x = refl
 cond-same false x = refl
 
 value-bare : (b : ℕ) (s : List ℕ) → opens b ≡ false → isVeiled (lexValue b s) ≡ false
-unfolding lexValue opens veiled
+unfolding lexValue opens veiled isQuoted
 value-bare b s h =
     rw (or-l (is 39 b) (is 34 b) (or-l (is 39 b || is 34 b) (is 59 b) h), or-r (is 39 b) (is 34 b) (or-l (is 39 b || is 34 b) (is 59 b) h), or-r (is 39 b || is 34 b) (is 59 b) h)
     (simp (ap-cond isVeiled, leaf, word-bare, cond-same))
 
 lexIn-bare : (m : Mode) (b : ℕ) (s : List ℕ) → opens b ≡ false → isVeiled (lexIn m (b ∷ s)) ≡ false
-unfolding lexIn veiled
+unfolding lexIn veiled isQuoted
 lexIn-bare m b s h = simp (ap-cond isVeiled, leaf, value-bare b s h, cond-same)
 
 lex-bare : (m : Mode) (b : ℕ) (s : List ℕ) → opens b ≡ false → isVeiled (lex m (b ∷ s)) ≡ false
-unfolding lex veiled
+unfolding lex veiled isQuoted
 lex-bare before b s h = simp (ap-cond isVeiled, leaf, cond-same)
 lex-bare inBlock b s h = lexIn-bare inBlock b s h
 lex-bare inFrame b s h = lexIn-bare inFrame b s h
@@ -217,10 +215,6 @@ opens-not f p q r b e = go (eqb b 39) refl (eqb b 34) refl (eqb b 59) refl e
     go false h false i true j w = rw (eqb-true b 59 j) r
     go false h false i false j w = absurd (false≢true w)
 
-not-f : (b : Bool) → not b ≡ true → b ≡ false
-not-f true e = sym e
-not-f false e = refl
-
 -- a keyword has neither digits nor marks
 keyByte : ℕ → Bool
 keyByte c = flat (λ b. is c (lower b)) && (not (is c (lower 39)) && (not (is c (lower 34)) && not (is c (lower 59))))
@@ -242,7 +236,7 @@ starts-near (c ∷ k) e (mark {b} {b′} {s} {s′} h o) =
     let f : ℕ → Bool = λ b. is c (lower b) in
     let e₁ = and-l (keyByte c) (keyBytes k) e in
     let x = and-r (flat f) _ e₁ in
-    let z : f b ≡ false = opens-not (λ b. is c (lower b)) (not-f (f 39) (and-l (not (f 39)) _ x)) (not-f (f 34) (and-l (not (f 34)) _ (and-r (not (f 39)) _ x))) (not-f (f 59) (and-r (not (f 34)) _ (and-r (not (f 39)) _ x))) b o in
+    let z : f b ≡ false = opens-not (λ b. is c (lower b)) (not-true (f 39) (and-l (not (f 39)) _ x)) (not-true (f 34) (and-l (not (f 34)) _ (and-r (not (f 39)) _ x))) (not-true (f 59) (and-r (not (f 34)) _ (and-r (not (f 39)) _ x))) b o in
     let z′ : f b′ ≡ false = sym (blind₂ f (and-l (flat f) _ e₁) b b′ h) ∙ z in
     rw (z, z′)
 
@@ -318,10 +312,6 @@ grow : {b b′ : ℕ} {w w′ : List ℕ} → σ b ≡ σ b′ → Words w w′ 
 unfolding hasMark
 grow h (alike e) = alike (ap₂ {C = List ℕ} (λ x r. x ∷ r) h e)
 grow {b} {b′} h (marked p q) = marked (rw p (or-true (opens b))) (rw q (or-true (opens b′)))
-  where
-    or-true : (a : Bool) → a || true ≡ true
-    or-true true = refl
-    or-true false = refl
 
 opens₂ : (b b′ : ℕ) → σ b ≡ σ b′ → opens b ≡ opens b′
 unfolding flat allBelow opens is
