@@ -7,6 +7,7 @@ pub mod VeilRead
 pub mod Swaps
 pub mod Kept
 pub mod Demand3
+pub mod Outlined
 pub mod Trip
 pub mod SoundCheck
 pub mod RoundTrip
