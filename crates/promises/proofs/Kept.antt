@@ -1,4 +1,5 @@
--- Every record of a value comes from a token of that value.
+-- Proved: whatever place lies inside a recorded quoted value or text field lies inside such a token (run-kept): the machine makes records of tokens only.
+-- Assumes nothing.
 use Prim.Native.Nat.{ℕ, zero, suc, _+_, _%_}
 use mathlib.Core.Bool.{false≢true, Bool, true, false, cond, _&&_, _||_, or-true, or-false}
 use mathlib.Core.Path.{_≡_, refl, _∙_, subst}

@@ -1,4 +1,4 @@
--- A rendered number is read whole, as a number.
+-- Proved: the rendering of a number that keeps the limits, by itself, is one token, of kind 14, or 15 with uncertainty, and fills it (number-whole). Assumes nothing.
 use Prim.Native.Nat.{ℕ, zero, suc, _+_, _-_, _≤_, _<_}
 use mathlib.Core.Bool.{true≢false, Bool, true, false, cond, _&&_}
 use mathlib.Core.Path.{_≡_, refl, sym, ap, _∙_, subst}

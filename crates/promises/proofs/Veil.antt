@@ -1,4 +1,5 @@
--- The bytes inside quoted values and text fields do not show: the relation between two texts, followed along the tokens of the first.
+-- Proved: two texts that are alike but for digits and, inside the quoted values and text fields among the first one's tokens, for bytes that are no marks, have the same
+-- tokens (tokens-veil). `Rel` follows both texts along the tokens of the first. Only `.` looks past its own token, and no number holds a mark. Assumes nothing.
 use Prim.Native.Nat.{ℕ, zero, suc}
 use mathlib.Core.Bool.{true≢false, false≢true, Bool, true, false, not, cond, _&&_, _||_, or-true}
 use mathlib.Core.Path.{_≡_, refl, sym, ap, ap₂, _∙_, subst}

@@ -1,4 +1,4 @@
--- The second half of demand 3: what a text's records leave out does not show.
+-- Proved: two texts that are alike place by place, but for what stands inside quoted tokens, are related as Veil asks (rel-of). Assumes nothing.
 use Prim.Native.Nat.{ℕ, zero, suc, _+_, _<_}
 use mathlib.Core.Bool.{true≢false, false≢true, Bool, true, false, not, cond, _&&_, _||_}
 use mathlib.Core.Path.{_≡_, refl, sym, ap, ap₂, _∙_}
