@@ -1,4 +1,5 @@
 pub mod Spell
+pub mod Made
 pub mod Spelled
 pub mod Cif
 pub mod CifBack
