@@ -12,3 +12,4 @@ pub mod Trip
 pub mod SoundCheck
 pub mod RoundTrip
 pub mod NumberLex
+pub mod Readings
