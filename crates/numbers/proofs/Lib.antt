@@ -1,0 +1,4 @@
+pub mod DigitRuns
+pub mod Bounds
+pub mod Bridge
+pub mod Facts
