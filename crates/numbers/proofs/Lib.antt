@@ -3,3 +3,7 @@ pub mod Made
 pub mod Spelled
 pub mod Cif
 pub mod CifBack
+pub mod DigitRuns
+pub mod Bounds
+pub mod Bridge
+pub mod Facts
