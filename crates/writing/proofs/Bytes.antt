@@ -76,7 +76,7 @@ store-length full s a (r ∷ rs) =
     ∙ record-length full s a (tagsOf rs) r rs
 
 -- a content lies inside its token
-opening-marks : (k : Kind) → opening k ≤ marksOf k
+pub opening-marks : (k : Kind) → opening k ≤ marksOf k
 unfolding opening marksOf
 opening-marks NoKind = omega arith
 opening-marks Block = omega arith

@@ -3,3 +3,5 @@ pub mod Forms
 pub mod Bytes
 pub mod Onward
 pub mod Places
+pub mod Lines
+pub mod Ones

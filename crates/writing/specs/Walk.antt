@@ -52,7 +52,7 @@ pub record IsToken (s : List ℕ) (k o n : ℕ) : Type 0 where
   pub line : eqb k 13 ≡ false → (j : ℕ) → o ≤ j → j < o + n → isEol (getD s j 0) ≡ false
   pub last : (j : ℕ) → suc j ≡ o + n → isEol (getD s j 0) ≡ false
 
-unfoldable pub recAt : ℕ → ℕ → ℕ → Rec
+abbrev pub recAt : ℕ → ℕ → ℕ → Rec
 recAt k o n = record { kind = k; at = o; size = n }
 
 -- one record is written, which counts n tags, and the cursor stands at offset o

@@ -7,9 +7,12 @@ ghost use lib.Dec.{eqb};
 ghost use lib.ListN.{length, take, drop};
 ghost use Rattle.text.specs.Places.{IsPlace, placeAt};
 ghost use Rattle.records.specs.Kinds.{kindOf, shapeOf};
+ghost use Rattle.records.specs.declared.Shape.the-variants.{Content, Place as PlaceAlone};
 ghost use Rattle.records.specs.Put.{put};
-ghost use Rattle.writing.specs.Writing.{tokenAt, contentBytes, loopBytes, numberBytes};
-ghost use Rattle.writing.specs.Walk.{recordLength, Going, Room, IsToken, recAt, WroteOne, desk};
+ghost use Rattle.items.specs.Machine.{loopEnd};
+ghost use Rattle.items.specs.Answers.{kindOfNumber};
+ghost use Rattle.writing.specs.Writing.{tokenAt, decimalOf, contentBytes, loopBytes, numberBytes};
+ghost use Rattle.writing.specs.Walk.{storeLength, recordLength, Going, Room, IsToken, recAt, WroteOne, desk};
 use numbers::Decimal;
 use records::{Kind, Token};
 use text::Place;
@@ -124,4 +127,101 @@ fn put_number(full: bool, store: &mut [u8], at: usize, token: Token, decimal: De
         return;
     }
     records::write_place(&mut store[at..], 14, token);
+}
+
+// A token that has content.
+fn write_text(s: &[u8], full: bool, store: &mut [u8], area: &mut [u8], c: Cursor, kind: u8, size: usize) -> Cursor
+    requires { ⌜ Going (now s) c × IsToken (now s) kind (c .place .offset) size × (shapeOf (kindOf kind) ≡ Content) × Room full (recAt kind (c .place .offset) size ∷ []) (desk c (now store) (now area)) ⌝ }
+    ensures { λ r. ⌜ WroteOne full (now (s .entry)) 0 (recAt kind (c .place .offset) size) (c .place .offset + size) (desk c (now (store .entry)) (now (area .entry))) (desk r (now (store .exit)) (now (area .exit))) ⌝ }
+{
+    let place = c.place;
+    let offset = place.offset;
+    let at = c.at;
+    let from = c.area;
+    let k = Kind::of(kind);
+    let content = size - k.marks();
+    put_content(full, store, at, kind, token_at(place, size), from as u32);
+    copy_content(s, full, offset + k.opening(), content, area, from);
+    Cursor {
+        place: behind(s, place, kind, size),
+        at: at + record_length(full, kind),
+        area: from + content,
+    }
+}
+
+// A token that has none, and no more than its place.
+fn write_mark(s: &[u8], full: bool, store: &mut [u8], c: Cursor, kind: u8, size: usize) -> Cursor
+    requires { ⌜ Going (now s) c × IsToken (now s) kind (c .place .offset) size × (shapeOf (kindOf kind) ≡ PlaceAlone) × (c .at + storeLength full (recAt kind (c .place .offset) size ∷ []) ≤ length (now store)) ⌝ }
+    ensures { λ r. ⌜ ((a : List ℕ) → WroteOne full (now (s .entry)) 0 (recAt kind (c .place .offset) size) (c .place .offset + size) (desk c (now (store .entry)) a) (desk r (now (store .exit)) a)) ⌝ }
+{
+    let place = c.place;
+    let at = c.at;
+    let area = c.area;
+    let token = token_at(place, size);
+    records::write_place(&mut store[at..], kind, token);
+    Cursor {
+        place: behind(s, place, kind, size),
+        at: at + record_length(full, kind),
+        area,
+    }
+}
+
+// A number.
+fn write_number(s: &[u8], full: bool, store: &mut [u8], c: Cursor, decimal: Decimal, size: usize) -> Cursor
+    requires { ⌜ Going (now s) c × IsToken (now s) (kindOfNumber decimal) (c .place .offset) size × (decimalOf (now s) (recAt (kindOfNumber decimal) (c .place .offset) size) ≡ decimal) × (decimal .places < 256) × (c .at + storeLength full (recAt (kindOfNumber decimal) (c .place .offset) size ∷ []) ≤ length (now store)) ⌝ }
+    ensures { λ r. ⌜ ((a : List ℕ) → WroteOne full (now (s .entry)) 0 (recAt (kindOfNumber decimal) (c .place .offset) size) (c .place .offset + size) (desk c (now (store .entry)) a) (desk r (now (store .exit)) a)) ⌝ }
+{
+    let place = c.place;
+    let at = c.at;
+    let area = c.area;
+    let kind = number_kind(decimal);
+    put_number(full, store, at, token_at(place, size), decimal);
+    Cursor {
+        place: behind(s, place, kind, size),
+        at: at + record_length(full, kind),
+        area,
+    }
+}
+
+// The kind of a number.
+fn number_kind(decimal: Decimal) -> u8
+    ensures { λ r. ⌜ r ≡ kindOfNumber decimal ⌝ }
+{
+    let uncertain = decimal.uncertain;
+    if uncertain {
+        return 15;
+    }
+    14
+}
+
+// `loop_`, with the number of its tags.
+fn write_loop(s: &[u8], full: bool, store: &mut [u8], c: Cursor, tags: usize) -> Cursor
+    requires { ⌜ Going (now s) c × IsToken (now s) 5 (c .place .offset) 5 × (tags < 2 ^ 32) × (c .at + storeLength full (recAt 5 (c .place .offset) 5 ∷ []) ≤ length (now store)) ⌝ }
+    ensures { λ r. ⌜ ((a : List ℕ) → WroteOne full (now (s .entry)) tags (recAt 5 (c .place .offset) 5) (c .place .offset + 5) (desk c (now (store .entry)) a) (desk r (now (store .exit)) a)) ⌝ }
+{
+    let place = c.place;
+    let at = c.at;
+    let area = c.area;
+    put_loop(full, store, at, token_at(place, 5), tags as u32);
+    Cursor {
+        place: behind(s, place, 5, 5),
+        at: at + record_length(full, 5),
+        area,
+    }
+}
+
+// A loop's end, which has no token.
+fn write_end(full: bool, store: &mut [u8], c: Cursor) -> Cursor
+    requires { ⌜ c .at + storeLength full (loopEnd ∷ []) ≤ length (now store) ⌝ }
+    ensures { λ r. ⌜ ((s a : List ℕ) → Going s c → WroteOne full s 0 loopEnd (c .place .offset) (desk c (now (store .entry)) a) (desk r (now (store .exit)) a)) ⌝ }
+{
+    let place = c.place;
+    let at = c.at;
+    let area = c.area;
+    records::write_end(&mut store[at..]);
+    Cursor {
+        place,
+        at: at + record_length(full, 7),
+        area,
+    }
 }

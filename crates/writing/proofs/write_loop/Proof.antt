@@ -1,0 +1,69 @@
+use borrow.Author.Needs.{needs}
+use Prim.Native.Nat.{_+_}
+use mathlib.Core.Path.{_≡_, refl, sym, ap, _∙_}
+use native.Mathlib.Omega.{arith}
+use lib.ListN.{length}
+use Rattle.records.specs.Put.{put}
+use Rattle.writing.specs.Walk.{recAt}
+use Rattle.writing.specs.Writing.{loopBytes}
+use Rattle.writing.proofs.Ones.{place-small, kind-length, one-length, loop-here, loop-plain, plain-wrote}
+use Rattle.writing.proofs.write_loop.Statement.{statement}
+use Rattle.writing.proofs.write_loop.Tie as tie
+use Rattle.writing.proofs.write_loop.Reads as reads
+use Rattle.writing.proofs.write_loop.Lts as lts
+use Rattle.writing.proofs.behind.Reads as behind-reads
+use Rattle.writing.proofs.put_loop.Reads as put-loop-reads
+use Rattle.writing.proofs.record_length.Reads as record-length-reads
+use Rattle.writing.proofs.token_at.Reads as token-at-reads
+
+token-at-requires : tie.Need-token-at-requires
+token-at-requires c κs =
+    let a = c .before .before .before .before .args in
+    let p = c .before .before .before .before .pre in
+    place-small (a .s .now) (a .c .place) 5 (p .0 .place) (p .0 .short) (omega (arith, p .1 .within))
+
+cast-put-loop : tie.Need-cast-put-loop
+cast-put-loop c = search needs
+
+put-loop-requires : tie.Need-put-loop-requires
+put-loop-requires c κs =
+    let a = c .before .before .before .before .before .args in
+    let p = c .before .before .before .before .before .pre in
+    let t = ap (λ x. loopBytes (a .full) x (a .tags)) (c .token-at .ensures) ∙ loop-here (a .full) (a .s .now) (a .c .place) 5 (a .c .area) (a .tags) (p .0 .place) in
+    omega (arith, ap length t, one-length (a .full) (a .s .now) (a .c .area) (a .tags) (recAt 5 (a .c .place .offset) 5), p .3)
+
+behind-requires : tie.Need-behind-requires
+behind-requires c κs = search needs
+
+record-length-requires : tie.Need-record-length-requires
+record-length-requires c κs = search needs
+
+add-t16 : tie.Need-add-t16
+add-t16 c =
+    let a = c .before .before .before .before .before .before .before .before .before .before .args in
+    omega (arith, c .before .before .before .before .before .before .before .before .before .before .pre .3, c .record-length .ensures, kind-length (a .full) (recAt 5 (a .c .place .offset) 5))
+
+same-length : tie.Need-same-length
+same-length c = search needs
+
+returns : tie.Need-returns
+returns c =
+    let a = c .before .before .before .before .before .before .before .before .before .before .args in
+    let p = c .before .before .before .before .before .before .before .before .before .before .pre in
+    let t = ap (λ x. loopBytes (a .full) x (a .tags)) (c .before .before .before .before .before .token-at .ensures) ∙ loop-here (a .full) (a .s .now) (a .c .place) 5 (a .c .area) (a .tags) (p .0 .place) in
+    λ l. plain-wrote (a .full) (a .s .now) 5 5 (a .tags) (a .c) _ (a .store .now) _ l (loop-plain 5)
+    (p .0) (p .1) (c .before .behind .ensures) (ap (λ x. a .c .at + x) (c .record-length .ensures)) refl
+    (c .before .before .before .before .put-loop .ensures ∙ ap (λ x. put (a .c .at) x (a .store .now)) t)
+
+pub write-loop-spec : {M : Type 1} → statement M
+write-loop-spec =
+    tie.close
+    (tie.spec
+    token-at-requires
+    cast-put-loop
+    put-loop-requires
+    behind-requires
+    record-length-requires
+    add-t16
+    same-length
+    returns)

@@ -1,0 +1,82 @@
+use borrow.Author.Needs.{needs}
+use mathlib.Core.Path.{_≡_, refl, sym, ap, _∙_}
+use native.Mathlib.Omega.{arith}
+use Prim.Native.Nat.{_+_}
+use Rattle.records.specs.Kinds.{isContent}
+use Rattle.records.specs.Put.{put}
+use Rattle.records.specs.Records.{placeRecord}
+use Rattle.records.proofs.Putting.{part-put}
+use Rattle.writing.specs.Writing.{recordBytes}
+use Rattle.writing.specs.Walk.{recAt}
+use Rattle.writing.proofs.Copy.{rest-room}
+use Rattle.writing.proofs.Ones.{place-small, kind-length, mark-size, mark-bytes, no-content, plain-wrote}
+use Rattle.writing.proofs.write_mark.Statement.{statement}
+use Rattle.writing.proofs.write_mark.Tie as tie
+use Rattle.writing.proofs.write_mark.Reads as reads
+use Rattle.writing.proofs.write_mark.Lts as lts
+use Rattle.records.proofs.write_place.Reads as write-place-reads
+use Rattle.writing.proofs.behind.Reads as behind-reads
+use Rattle.writing.proofs.record_length.Reads as record-length-reads
+use Rattle.writing.proofs.token_at.Reads as token-at-reads
+
+token-at-requires : tie.Need-token-at-requires
+token-at-requires c κs =
+    let a = c .before .before .before .args in
+    let p = c .before .before .before .pre in
+    place-small (a .s .now) (a .c .place) (a .size) (p .0 .place) (p .0 .short) (omega (arith, p .1 .within))
+
+sub-write-place : tie.Need-sub-write-place
+sub-write-place c = search needs
+
+part-write-place-start : tie.Need-part-write-place-start
+part-write-place-start c = search needs
+
+part-write-place-end : tie.Need-part-write-place-end
+part-write-place-end c = search needs
+
+write-place-requires : tie.Need-write-place-requires
+write-place-requires c κs =
+    let a = c .before .before .before .before .before .args in
+    let p = c .before .before .before .before .before .pre in
+    rest-room (a .c .at) 17 (a .store .now) (omega (arith, p .3, mark-size (a .full) (a .kind) (a .c .place .offset) (a .size) (p .2)))
+
+behind-requires : tie.Need-behind-requires
+behind-requires c κs = search needs
+
+record-length-requires : tie.Need-record-length-requires
+record-length-requires c κs = search needs
+
+add-t17 : tie.Need-add-t17
+add-t17 c =
+    let a = c .before .before .before .before .before .before .before .before .before .before .args in
+    omega (arith, c .before .before .before .before .before .before .before .before .before .before .pre .3, c .record-length .ensures, kind-length (a .full) (recAt (a .kind) (a .c .place .offset) (a .size)))
+
+same-length : tie.Need-same-length
+same-length c = search needs
+
+returns : tie.Need-returns
+returns c =
+    let a = c .before .before .before .before .before .before .before .before .before .before .args in
+    let p = c .before .before .before .before .before .before .before .before .before .before .pre in
+    let k = a .kind in
+    let n = a .size in
+    let b : placeRecord k (c .before .before .before .before .before .before .token-at .result) ≡ recordBytes (a .full) (a .s .now) (a .c .area) 0 (recAt k (a .c .place .offset) n) =
+    ap (placeRecord k) (c .before .before .before .before .before .before .token-at .ensures) ∙ mark-bytes (a .full) (a .s .now) (a .c .place) k n (a .c .area) 0 (p .0 .place) (p .2) in
+    λ l. plain-wrote (a .full) (a .s .now) k n 0 (a .c) _ (a .store .now) _ l (no-content k n (unfold isContent in rw (p .2)))
+    (p .0) (p .1) (c .before .behind .ensures) (ap (λ x. a .c .at + x) (c .record-length .ensures)) refl
+    (part-put (a .c .at) _ (a .store .now) _ (c .before .before .before .before .write-place .ensures) ∙ ap (λ x. put (a .c .at) x (a .store .now)) b)
+
+pub write-mark-spec : {M : Type 1} → statement M
+write-mark-spec =
+    tie.close
+    (tie.spec
+    token-at-requires
+    sub-write-place
+    part-write-place-start
+    part-write-place-end
+    write-place-requires
+    behind-requires
+    record-length-requires
+    add-t17
+    same-length
+    returns)
