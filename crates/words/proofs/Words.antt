@@ -24,6 +24,9 @@ pub word-end : (s : List ℕ) (o : ℕ) → wordEnd s o ≡ o + word (drop o s)
 unfolding wordEnd
 word-end s o = refl
 
+pub word-size : (s : List ℕ) (o : ℕ) → wordEnd s o - o ≡ word (drop o s)
+word-size s o = omega (arith, word-end s o)
+
 -- a word lies within the text
 pub word-from : (s : List ℕ) (o : ℕ) → o ≤ wordEnd s o
 word-from s o = rw (word-run s o) (span-from inWord s o)
