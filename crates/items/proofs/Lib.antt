@@ -2,4 +2,3 @@ pub mod Steps
 pub mod Fits
 pub mod Ended
 pub mod Advance
-pub mod Readings

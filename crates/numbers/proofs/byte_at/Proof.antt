@@ -1,0 +1,19 @@
+use mathlib.Core.Path.{sym}
+use Rattle.text.proofs.Runs.{past-end}
+use borrow.Author.Needs.{needs}
+use Rattle.numbers.proofs.byte_at.Statement.{statement}
+use Rattle.numbers.proofs.byte_at.Tie as tie
+use Rattle.numbers.proofs.byte_at.Reads as reads
+use Rattle.numbers.proofs.byte_at.Lts as lts
+
+shared-slice-read-result : tie.Need-shared-slice-read-result
+shared-slice-read-result c = search needs
+
+returns : tie.Need-returns
+returns c = search needs
+
+returns-2 : tie.Need-returns-2
+returns-2 c = sym (past-end (c .before .args .w .now) _ (c .if1 .left))
+
+pub byte-at-spec : {M : Type 1} → statement M
+byte-at-spec = tie.close (tie.spec shared-slice-read-result returns returns-2)
