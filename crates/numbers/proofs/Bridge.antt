@@ -170,9 +170,10 @@ bracket-part w i = by (rest w i)
 pub parts-cuts : (w : List ℕ) → parts w ≡ partsOf w (cutsOf w)
 unfolding parts partsOf partOf cutsOf between cut
 parts-cuts w =
-    rw
-    (sign-between w 0,
-     digits-between w (after 43 45 w 0),
-     point-between w (digitsEnd w (after 43 45 w 0)) (digits-end-twice w (after 43 45 w 0)),
-     exponent-part,
-     bracket-part)
+    rw (
+      sign-between w 0,
+      digits-between w (after 43 45 w 0),
+      point-between w (digitsEnd w (after 43 45 w 0)) (digits-end-twice w (after 43 45 w 0)),
+      exponent-part,
+      bracket-part,
+    )

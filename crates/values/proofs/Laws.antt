@@ -1,24 +1,23 @@
 -- Laws of values: what an answer of valueAt says of the token there, and where that token lies. Assumes nothing.
 use Prim.Native.Nat.{ℕ, zero, suc, _+_, _-_, _≤_, _<_}
 use mathlib.Core.Path.{_≡_, refl, sym, ap, _∙_}
-use mathlib.Core.Bool.{Bool, true, false, cond, _||_}
-use mathlib.Core.List.{List, [], _∷_}
-use mathlib.Core.Option.{Option, none, some}
+use mathlib.Core.Bool.{Bool, true, false, cond}
+use mathlib.Core.List.{List, _∷_}
+use mathlib.Core.Option.{some}
 use native.Mathlib.Omega.{arith}
 use lib.ListN.{length, take, drop, getD, length-drop}
 use lib.Seq.{getD-drop}
 use Rattle.text.specs.Bytes.{isEol}
 use Rattle.words.specs.Words.{word}
-use Rattle.words.specs.Quotes.{quoted, field}
+use Rattle.words.specs.Quotes.{quoted}
 use Rattle.words.proofs.Words.{word-end, word-fits, word-plain}
 use Rattle.words.proofs.Quotes.{Ends, quote-ends, quote-plain, field-ends}
 use Rattle.numbers.specs.Parts.{parts}
 use Rattle.numbers.specs.Meaning.{meaning}
 use Rattle.numbers.specs.declared.Decimal.{Decimal}
-use Rattle.values.specs.declared.Value.{Value}
 use Rattle.values.specs.declared.Value.the-variants.{Token, Number, Over, Missing}
 use Rattle.values.specs.declared.Why.{Why}
-use Rattle.values.specs.Values.{Reason, Class, value, overLimit, nothing, Lexed, lexed, lexAsValue}
+use Rattle.values.specs.Values.{Reason, value, overLimit, nothing, Lexed, lexed, lexAsValue}
 use Rattle.values.specs.Answers.{whyOf, answer, valueAnswer, valueAt}
 use Rattle.values.proofs.Views.{Read, missing, point, unknown, bare, quote, double, multi, number, over, view}
 

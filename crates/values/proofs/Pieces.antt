@@ -2,7 +2,7 @@
 use Prim.Native.Nat.{ℕ, suc, _+_, _-_, _≤_, _<_}
 use mathlib.Core.Path.{_≡_, refl, sym, ap, _∙_}
 use mathlib.Core.Bool.{Bool, true, false, cond, _||_}
-use mathlib.Core.List.{List, [], _∷_}
+use mathlib.Core.List.{List, _∷_}
 use mathlib.Core.Option.{Option, none, some}
 use native.Mathlib.Numerals.{add-one}
 use native.Mathlib.Omega.{arith}
@@ -28,7 +28,7 @@ use Rattle.values.specs.declared.Value.{Value}
 use Rattle.values.specs.declared.Value.the-variants.{Token, Number, Over, Missing}
 use Rattle.values.specs.declared.Why.{Why}
 use Rattle.values.specs.declared.Why.the-variants.{AtEnd, Reserved, NoStart, OpenQuote, OpenField}
-use Rattle.values.specs.Values.{Reason, atEnd, reservedWord, noStart, openQuote, openField, value, overLimit, nothing, Lexed, lexed, numberOr, wordOr, closed, lexValue, lexAsValue}
+use Rattle.values.specs.Values.{Reason, openQuote, openField, value, overLimit, Lexed, lexed, numberOr, wordOr, closed, lexValue, lexAsValue}
 use Rattle.values.specs.Answers.{whyOf, answer, valueAnswer, valueAt}
 use Rattle.values.specs.Pieces.{judgedOr, numberAt, wordAt, pointAt, between, quoteAt, fieldAt}
 use Rattle.values.proofs.Points.{point-no-number}

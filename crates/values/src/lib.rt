@@ -4,7 +4,6 @@ ghost use Prim.Native.Nat.{_≤_, _<_};
 ghost use lib.ListN.{length};
 ghost use Rattle.values.specs.Answers.{valueAt};
 ghost use Rattle.values.specs.Pieces.{numberAt, wordAt, pointAt, quoteAt, fieldAt};
-ghost use Rattle.numbers.specs.Meaning.{numberOf};
 use numbers::Decimal;
 use numbers::Number;
 use words::Closing;
@@ -26,18 +25,12 @@ pub enum Value {
     Missing { why: Why },
 }
 
-fn parse_numeric(w: &[u8]) -> Number
-    ensures { λ r. ⌜ r ≡ numberOf (now (w .entry)) ⌝ }
-{
-    Number::Not
-}
-
 // The bytes between two offsets as a number, or what they are otherwise.
 fn number_or(s: &[u8], at: usize, end: usize, other: Value) -> Value
     requires { ⌜ (at ≤ end) × (end ≤ length (now s)) ⌝ }
     ensures { λ r. ⌜ r ≡ numberAt other (now (s .entry)) at end ⌝ }
 {
-    let found = parse_numeric(&s[at..end]);
+    let found = numbers::parse_numeric(&s[at..end]);
     match found {
         Number::Is(decimal) => Value::Number {
             decimal,

@@ -1,3 +1,4 @@
+-- `values::number_or`: the three answers of parse_numeric. Assumes nothing.
 use Rattle.values.proofs.Pieces.{number-is, number-over, number-not}
 use borrow.Author.Needs.{needs}
 use Rattle.values.proofs.number_or.Statement.{statement}

@@ -1,3 +1,4 @@
+-- `values::parse_field`: by what parse_multiline_string finds. Assumes nothing.
 use Rattle.values.proofs.Pieces.{field-found, field-none}
 use borrow.Author.Needs.{needs}
 use Rattle.values.proofs.parse_field.Statement.{statement}

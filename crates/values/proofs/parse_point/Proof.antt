@@ -1,4 +1,5 @@
-use mathlib.Core.Path.{refl, sym, ap, _∙_}
+-- `values::parse_point`: the next byte decides whether the word is scanned. Assumes nothing.
+use mathlib.Core.Path.{sym, _∙_}
 use borrow.Author.Tests.{not-true, not-false}
 use Rattle.text.specs.Bytes.{isDigit}
 use Rattle.text.proofs.Runs.{past-end}

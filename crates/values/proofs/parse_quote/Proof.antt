@@ -1,3 +1,4 @@
+-- `values::parse_quote`: by what parse_enclosed finds. Assumes nothing.
 use Rattle.values.proofs.Pieces.{quote-found, quote-none}
 use borrow.Author.Needs.{needs}
 use Rattle.values.proofs.parse_quote.Statement.{statement}

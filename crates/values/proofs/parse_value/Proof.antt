@@ -1,4 +1,5 @@
-use mathlib.Core.Path.{refl, sym, ap, _∙_}
+-- `values::parse_value`: each `return` is one case of the definition. Assumes nothing.
+use mathlib.Core.Path.{sym, _∙_}
 use Rattle.values.proofs.Pieces.{value-end, value-reserved, value-point, value-unknown, value-quote, value-double, value-field, value-word, value-none}
 use borrow.Author.Needs.{needs}
 use Rattle.values.proofs.parse_value.Statement.{statement}

@@ -1,4 +1,5 @@
-use mathlib.Core.Path.{refl, sym, ap, _∙_}
+-- `values::parse_word`: the word as a part of the text. Assumes nothing.
+use mathlib.Core.Path.{_∙_}
 use Rattle.words.proofs.Words.{word-from, word-within}
 use Rattle.values.specs.Pieces.{wordAt}
 use borrow.Author.Needs.{needs}
