@@ -100,47 +100,47 @@ parts-at-requires-2 c κs = omega (arith, rw (c .before .before .enum-told6 .giv
 returns : tie.Need-returns
 unfolding fieldsOf
 returns c = rw (
-      c .no-parts .ensures,
-      c .before .no-token .ensures,
-      c .before .before .enum-told .given .1,
-    )
+  c .no-parts .ensures,
+  c .before .no-token .ensures,
+  c .before .before .enum-told .given .1,
+)
 
 returns-2 : tie.Need-returns-2
 unfolding fieldsOf tokenOf
 returns-2 c = rw (
-      c .no-parts2 .ensures,
-      c .before .token-at .ensures,
-      c .before .before .enum-told2 .given .1,
-    )
+  c .no-parts2 .ensures,
+  c .before .token-at .ensures,
+  c .before .before .enum-told2 .given .1,
+)
 
 returns-3 : tie.Need-returns-3
 unfolding fieldsOf
 returns-3 c = rw (
-      c .no-parts3 .ensures,
-      c .before .u32-at .ensures,
-      c .before .before .token-at2 .ensures,
-      c .before .before .before .enum-told3 .given .1,
-      drop-drop,
-    )
+  c .no-parts3 .ensures,
+  c .before .u32-at .ensures,
+  c .before .before .token-at2 .ensures,
+  c .before .before .before .enum-told3 .given .1,
+  drop-drop,
+)
 
 returns-4 : tie.Need-returns-4
 unfolding fieldsOf
 returns-4 c = rw (
-      c .no-parts4 .ensures,
-      c .before .u32-at2 .ensures,
-      c .before .before .token-at3 .ensures,
-      c .before .before .before .enum-told4 .given .1,
-      drop-drop,
-    )
+  c .no-parts4 .ensures,
+  c .before .u32-at2 .ensures,
+  c .before .before .token-at3 .ensures,
+  c .before .before .before .enum-told4 .given .1,
+  drop-drop,
+)
 
 returns-5 : tie.Need-returns-5
 unfolding fieldsOf
 returns-5 c = rw (
-      c .parts-at .ensures,
-      c .before .token-at4 .ensures,
-      c .before .before .enum-told5 .given .1,
-      drop-drop,
-    )
+  c .parts-at .ensures,
+  c .before .token-at4 .ensures,
+  c .before .before .enum-told5 .given .1,
+  drop-drop,
+)
 
 returns-6 : tie.Need-returns-6
 unfolding fieldsOf
