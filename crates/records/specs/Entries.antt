@@ -1,10 +1,11 @@
 -- Records read back (document 01, 'Records'): what stands at an offset of any bytes. A byte that is no kind, and a body that does not fit, give nothing; sign,
 -- fraction digits and exponent come as they are stored, for soundness to judge. Assumes nothing.
-use Prim.Native.Nat.{ℕ, _+_, _*_}
+use Prim.Native.Nat.{ℕ, _+_, _-_, _*_, _%_}
 use mathlib.Core.Bool.{Bool, cond, _&&_}
 use mathlib.Core.List.{List, [], _∷_}
 use lib.Dec.{leb, ltb}
 use lib.ListN.{length, drop, getD}
+use Rattle.numbers.specs.declared.Decimal.{Decimal}
 use Rattle.records.specs.declared.Kind.{Kind}
 use Rattle.records.specs.declared.Shape.{Shape}
 use Rattle.records.specs.declared.Shape.the-variants.{Empty, Place, Content, Count, Parts as PartsShape, PartsUncertain}
@@ -13,6 +14,7 @@ use Rattle.records.specs.declared.Parts.{Parts}
 use Rattle.records.specs.declared.Fields.{Fields}
 use Rattle.records.specs.declared.Entry.{Entry}
 use Rattle.records.specs.declared.Entry.the-variants.{Record, Nothing}
+use Rattle.records.specs.Bytes.{flag}
 use Rattle.records.specs.Kinds.{kindOf, numberOf, shapeOf, bodyLength}
 
 -- the number that the first four bytes give, the lowest first
@@ -45,6 +47,18 @@ noToken = record { offset = 0; length = 0; line = 0; column = 0 }
 
 abbrev pub noParts : Parts
 noParts = record { sign = 0; integer = 0; fraction = 0; places = 0; exponent = 0; uncertainty = 0 }
+
+-- the parts that a number is stored as: an exponent by its two's complement
+unfoldable pub stored : Decimal → ℕ → Parts
+stored d u =
+    record {
+      sign = flag (d .minus);
+      integer = d .integer;
+      fraction = d .fraction;
+      places = d .places;
+      exponent = cond (d .lowers) (4294967296 - d .exponent) (d .exponent) % 4294967296;
+      uncertainty = u;
+    }
 
 -- a body by its shape; what the shape has not is 0
 unfoldable pub fieldsOf : Shape → List ℕ → Fields
