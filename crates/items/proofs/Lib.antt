@@ -1,0 +1,5 @@
+pub mod Steps
+pub mod Fits
+pub mod Ended
+pub mod Advance
+pub mod Descent
