@@ -3,3 +3,4 @@ pub mod Fits
 pub mod Ended
 pub mod Advance
 pub mod Descent
+pub mod Room
