@@ -4,3 +4,5 @@ pub mod Ended
 pub mod Advance
 pub mod Descent
 pub mod Room
+pub mod Lexes
+pub mod Wanted

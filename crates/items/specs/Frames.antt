@@ -59,20 +59,17 @@ left f s o out = run (tokensAt (modeOf f) s o) (config items f out [])
 unfoldable pub blockAt : List ℕ → ℕ → Answer
 blockAt s o = run (tokensAt before s o) (config start none [] [])
 
--- from o in f to p in g records of these sizes are kept, and nothing else is changed
-pub record Moves (s : List ℕ) (f : Option ℕ) (o : ℕ) (g : Option ℕ) (p : ℕ) (z : Sizes) : Type 0 where
+-- from o in f to p in g records of these sizes are kept, and nothing else is changed of what is still answered
+pub record Passed (s : List ℕ) (f : Option ℕ) (o : ℕ) (g : Option ℕ) (p : ℕ) (z : Sizes) : Type 0 where
   pub kept : List Rec
   pub sizes : z ≡ sizesOf kept
-  pub onward : (out : List Rec) → left f s o out ≡ left g s p (out ++ kept)
-
--- an item or a frame of the block
-pub record Passed (s : List ℕ) (o p : ℕ) (z : Sizes) : Type 0 where
-  pub moves : Moves s none o none p z
-  pub advances : o < p
+  pub reads : (out : List Rec) → left f s o out ≡ left g s p (out ++ kept)
+  pub onward : o < p
   pub within : p ≤ length s
   pub bare : gap (drop p s) ≡ 0
   pub fits : Upto (p - o) z
 
+-- an item or a frame of the block is passed, or its refusal is the whole text's
 unfoldable pub Stepped : List ℕ → ℕ → Step → Type 0
-Stepped s o (Read p z) = Passed s o p z
+Stepped s o (Read p z) = Passed s none o none p z
 Stepped s o (Refused d) = (out : List Rec) → told d ≡ tells (left none s o out)
