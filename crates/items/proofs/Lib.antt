@@ -6,3 +6,4 @@ pub mod Descent
 pub mod Room
 pub mod Lexes
 pub mod Wanted
+pub mod Offsets
