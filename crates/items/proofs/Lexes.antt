@@ -20,7 +20,7 @@ use Rattle.values.specs.Values.{Class, Reason, block, loop, save, tag, value, o
 use Rattle.items.specs.Tokens.{Mode, before, inBlock, inFrame, saveSize, lexIn, after}
 use Rattle.items.specs.Answers.{tagFirst}
 use Rattle.items.proofs.Fits.{isValue, lexIn-pos}
-use Rattle.items.proofs.Descent.{isPlain}
+use Rattle.items.proofs.Descent.{isPlain, NoName, name-or-not}
 
 -- what holds of both branches holds of the one taken
 pub pick : (P : Lexed → Type 0) (t : Bool) (x y : Lexed) → (t ≡ true → P x) → (t ≡ false → P y) → P (cond t x y)
@@ -206,3 +206,25 @@ lex-stays m b s u =
     (λ e. pick (λ y. after (y .class) m ≡ m) (starts keyLoop (b ∷ s)) _ _ (λ f. refl)
     (λ f. rw u (pick (λ y. after (y .class) m ≡ m) (is 95 b) _ _ (λ g. refl)
     (λ g. value-class (λ c. after c m ≡ m) (λ k. refl) refl refl refl refl b s))))
+
+-- where no `_` stands, no name does
+isTag : Class → Bool
+isTag tag = true
+isTag loop = false
+isTag block = false
+isTag save = false
+isTag (value k) = false
+isTag overLimit = false
+isTag (nothing w) = false
+
+pub no-name : (m : Mode) (u : List ℕ) → tagFirst u ≡ false → NoName (lexIn m u .class)
+unfolding isTag lexIn lexed tagFirst
+no-name m u h = ⊎-elim (λ e. absurd (true≢false (sym (rw e refl) ∙ not-tag u h))) (λ e. e) (name-or-not (lexIn m u .class))
+  where
+    not-tag : (u : List ℕ) → tagFirst u ≡ false → isTag (lexIn m u .class) ≡ false
+    not-tag [] h = refl
+    not-tag (b ∷ s) h =
+        pick (λ y. isTag (y .class) ≡ false) (starts keyData (b ∷ s) || starts keyGlobal (b ∷ s) || starts keyStop (b ∷ s)) _ _ (λ e. refl)
+        (λ e. pick (λ y. isTag (y .class) ≡ false) (starts keyLoop (b ∷ s)) _ _ (λ f. refl)
+        (λ f. pick (λ y. isTag (y .class) ≡ false) (starts keySave (b ∷ s)) _ _ (λ g. refl)
+        (λ g. rw h (value-class (λ c. isTag c ≡ false) (λ k. refl) refl refl refl refl b s))))

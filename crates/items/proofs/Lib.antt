@@ -7,3 +7,4 @@ pub mod Room
 pub mod Lexes
 pub mod Wanted
 pub mod Offsets
+pub mod Lists

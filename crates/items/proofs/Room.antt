@@ -103,3 +103,20 @@ upto-joined n m p z y h g e = record { store = omega arith; outline = omega arit
 
 pub upto-more : (n p : ℕ) (z : Sizes) → Upto n z → n ≤ p → Upto p z
 upto-more n p z h e = record { store = omega arith; outline = omega arith; area = omega arith }
+
+-- one record before others
+pub sizes-cons : (r : Rec) (rs : List Rec) → sizesOf (r ∷ rs) ≡ joined (added noSizes (r .kind) (r .size)) (sizesOf rs)
+unfolding sizesOf joined added noSizes storeSize outlineSize areaSize
+sizes-cons r rs = same (omega arith) (omega arith) (omega arith)
+
+pub added-joined : (z y : Sizes) (k n : ℕ) → joined (added z k n) y ≡ joined z (joined (added noSizes k n) y)
+unfolding joined added noSizes
+added-joined z y k n = same (omega arith) (omega arith) (omega arith)
+
+pub added-none : (z : Sizes) (k n : ℕ) → joined z (added noSizes k n) ≡ added z k n
+unfolding joined added noSizes
+added-none z k n = same (omega arith) (omega arith) (omega arith)
+
+pub joined-none : (z : Sizes) → joined z noSizes ≡ z
+unfolding joined noSizes
+joined-none z = same (omega arith) (omega arith) (omega arith)
