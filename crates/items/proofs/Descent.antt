@@ -113,13 +113,21 @@ pub data Ends : List Tok → Type 0 where
   last : {t : Tok} → (w : Reason) → t .class ≡ nothing w → Ends (t ∷ [])
   more : {t : Tok} {ts : List Tok} → Ends ts → Ends (t ∷ ts)
 
-nothing-name : (c : Class) (w : Reason) → c ≡ nothing w → NoName c
+pub nothing-name : (c : Class) (w : Reason) → c ≡ nothing w → NoName c
 unfolding nameThen nameRest atName
 nothing-name c w e = rw e (record { recs = λ t rs. refl; rest = λ ts here. refl; moves = λ a n f out held t. refl })
 
-nothing-value : (c : Class) (w : Reason) → c ≡ nothing w → NoValue c
+pub nothing-value : (c : Class) (w : Reason) → c ≡ nothing w → NoValue c
 unfolding valueThen valueRest atValue isOver
 nothing-value c w e = rw e (record { recs = λ t rs. refl; rest = λ ts here. refl; moves = λ a n k f out held t. refl })
+
+pub save-name : (c : Class) → c ≡ save → NoName c
+unfolding nameThen nameRest atName
+save-name c e = rw e (record { recs = λ t rs. refl; rest = λ ts here. refl; moves = λ a n f out held t. refl })
+
+pub save-value : (c : Class) → c ≡ save → NoValue c
+unfolding valueThen valueRest atValue isOver
+save-value c e = rw e (record { recs = λ t rs. refl; rest = λ ts here. refl; moves = λ a n k f out held t. refl })
 
 pub names-ends : {ts : List Tok} → Ends ts → Ends (afterNames ts)
 names-ends (last {t = t} w e) = rw (names-none t [] (nothing-name (t .class) w e) .1) (last w e)

@@ -8,3 +8,4 @@ pub mod Lexes
 pub mod Wanted
 pub mod Offsets
 pub mod Lists
+pub mod Passes

@@ -142,12 +142,12 @@ pub record Spot (s : List ℕ) (o : ℕ) (ts us : List Tok) : Type 0 where
 -- the tokens in the block and in a frame, from behind o on, as far as they are the same
 pub data Both (s : List ℕ) : ℕ → List Tok → List Tok → Type 0 where
   both-last : {o : ℕ} {t : Tok} → Spot s o (t ∷ []) (t ∷ []) → (w : Reason) → t .class ≡ nothing w → Both s o (t ∷ []) (t ∷ [])
-  both-save : {o : ℕ} {t u : Tok} {ts us : List Tok} → Spot s o (t ∷ ts) (u ∷ us) → t .class ≡ save → u .class ≡ save → Both s o (t ∷ ts) (u ∷ us)
+  both-save : {o : ℕ} {t u : Tok} {ts us : List Tok} → Spot s o (t ∷ ts) (u ∷ us) → u .at ≡ t .at → t .class ≡ save → u .class ≡ save → Both s o (t ∷ ts) (u ∷ us)
   both-more : {o : ℕ} {t : Tok} {ts us : List Tok} → Spot s o (t ∷ ts) (t ∷ us) → 0 < t .size → Both s (t .at + t .size) ts us → Both s o (t ∷ ts) (t ∷ us)
 
 pub both-spot : {s : List ℕ} {o : ℕ} {ts us : List Tok} → Both s o ts us → Spot s o ts us
 both-spot (both-last h w e) = h
-both-spot (both-save h e f) = h
+both-spot (both-save h a e f) = h
 both-spot (both-more h p b) = h
 
 spot-from : {s : List ℕ} {o : ℕ} {ts us : List Tok} (p : ℕ) → Spot s o ts us → p ≤ o → Spot s p ts us
@@ -155,7 +155,7 @@ spot-from p h l = record { onward = omega arith; within = h .within; bare = h .b
 
 pub both-from : {s : List ℕ} {o : ℕ} {ts us : List Tok} (p : ℕ) → Both s o ts us → p ≤ o → Both s p ts us
 both-from p (both-last h w e) l = both-last (spot-from p h l) w e
-both-from p (both-save h e f) l = both-save (spot-from p h l) e f
+both-from p (both-save h a e f) l = both-save (spot-from p h l) a e f
 both-from p (both-more h q b) l = both-more (spot-from p h l) q b
 
 spot-here : (s : List ℕ) (j : ℕ) (ts us : List Tok) → gap (drop j s) ≡ 0 → j ≤ length s → headAt ts ≡ j → tokensAt inBlock s j ≡ ts → tokensAt inFrame s j ≡ us → Spot s j ts us
@@ -194,7 +194,7 @@ module _ (s : List ℕ) (j : ℕ) (g : gap (drop j s) ≡ 0) (h : j ≤ length s
   here-save e =
       let p = met-open s j g e in
       let q = met-close s j g e in
-      rw (p .next, q .next) (both-save (spot-here s j _ _ g h refl (p .next) (q .next)) refl refl)
+      rw (p .next, q .next) (both-save (spot-here s j _ _ g h refl (p .next) (q .next)) refl refl refl)
 
   here : Here
   unfolding lex
