@@ -9,3 +9,4 @@ pub mod Wanted
 pub mod Offsets
 pub mod Lists
 pub mod Passes
+pub mod Items
