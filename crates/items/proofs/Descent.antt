@@ -230,14 +230,24 @@ tag-run : (t : Tok) (ts : List Tok) (f : Option ℕ) (out : List Rec) → Ends t
 unfolding run move config tagItem
 tag-run t (u ∷ us) f out h = single-run t u us f out (u .class)
 
+tail-ends : {t : Tok} {ts : List Tok} → Ends (t ∷ ts) → ((w : Reason) → t .class ≡ nothing w → ⊥) → Ends ts
+tail-ends (last w e) n = absurd (n w e)
+tail-ends (more h) n = h
+
+loop-ends : {t : Tok} {ts : List Tok} → Ends (t ∷ ts) → t .class ≡ loop → Ends ts
+loop-ends h e = tail-ends h (λ w q. let z : _≡_ {A = ℕ} 0 1 = cc in omega arith)
+
+tag-ends : {t : Tok} {ts : List Tok} → Ends (t ∷ ts) → t .class ≡ tag → Ends ts
+tag-ends h e = tail-ends h (λ w q. let z : _≡_ {A = ℕ} 0 1 = cc in omega arith)
+
 -- THE MACHINE READS AN ITEM AS THE DESCENT DOES, in a frame
-pub item-in-frame : (t : Tok) (ts : List Tok) (a : ℕ) (out : List Rec) → Ends ts → run (t ∷ ts) (config items (some a) out []) ≡ itemRun (some a) out (item (t ∷ ts))
+pub item-in-frame : (t : Tok) (ts : List Tok) (a : ℕ) (out : List Rec) → Ends (t ∷ ts) → run (t ∷ ts) (config items (some a) out []) ≡ itemRun (some a) out (item (t ∷ ts))
 unfolding run move config item atItem itemBy itemRun failedRun fails closes follow
 item-in-frame t ts a out h = by (t .class) refl
   where
     by : (c : Class) → t .class ≡ c → follow (atItem (some a) out c t) (λ c. run ts c) ≡ itemRun (some a) out (itemBy c t ts)
-    by loop e = loop-run t ts (some a) out h
-    by tag e = tag-run t ts (some a) out h
+    by loop e = loop-run t ts (some a) out (loop-ends h e)
+    by tag e = tag-run t ts (some a) out (tag-ends h e)
     by block e = rw e
     by save e = rw e
     by (value k) e = rw e
@@ -263,19 +273,19 @@ isPlain (value k) = true
 isPlain overLimit = true
 
 -- and in the block
-pub item-in-block : (t : Tok) (ts : List Tok) (out : List Rec) → Ends ts → isPlain (t .class) ≡ true → run (t ∷ ts) (config items none out []) ≡ itemRun none out (item (t ∷ ts))
+pub item-in-block : (t : Tok) (ts : List Tok) (out : List Rec) → Ends (t ∷ ts) → isPlain (t .class) ≡ true → run (t ∷ ts) (config items none out []) ≡ itemRun none out (item (t ∷ ts))
 unfolding run move config item atItem itemBy itemRun failedRun fails follow isPlain
-item-in-block t ts out h = by (t .class)
+item-in-block t ts out h = by (t .class) refl
   where
-    by : (c : Class) → isPlain c ≡ true → follow (atItem none out c t) (λ c. run ts c) ≡ itemRun none out (itemBy c t ts)
-    by loop e = loop-run t ts none out h
-    by tag e = tag-run t ts none out h
-    by block e = refl
-    by save e = absurd (true≢false (sym e))
-    by (value k) e = refl
-    by overLimit e = refl
-    by (nothing atEnd) e = absurd (true≢false (sym e))
-    by (nothing reservedWord) e = refl
-    by (nothing noStart) e = refl
-    by (nothing openQuote) e = refl
-    by (nothing openField) e = refl
+    by : (c : Class) → t .class ≡ c → isPlain c ≡ true → follow (atItem none out c t) (λ c. run ts c) ≡ itemRun none out (itemBy c t ts)
+    by loop q e = loop-run t ts none out (loop-ends h q)
+    by tag q e = tag-run t ts none out (tag-ends h q)
+    by block q e = refl
+    by save q e = absurd (true≢false (sym e))
+    by (value k) q e = refl
+    by overLimit q e = refl
+    by (nothing atEnd) q e = absurd (true≢false (sym e))
+    by (nothing reservedWord) q e = refl
+    by (nothing noStart) q e = refl
+    by (nothing openQuote) q e = refl
+    by (nothing openField) q e = refl

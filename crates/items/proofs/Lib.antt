@@ -10,3 +10,4 @@ pub mod Offsets
 pub mod Lists
 pub mod Passes
 pub mod Items
+pub mod Onward

@@ -88,8 +88,11 @@ values-alike {s = s} {o = o} (both-more {t = t} {ts = ts} {us = us} h z b) = by 
 -- an item of both lists: its records and failure are the same
 pub data AlikeItem (s : List ℕ) (o : ℕ) : Item → Item → Type 0 where
   alike-taken : {b : Bool} {rs : List Rec} {ts us : List Tok} (to : ℕ) → o < to → Both s to ts us → Upto (to - o) (sizesOf rs) → AlikeItem s o (taken b rs ts) (taken b rs us)
-  alike-failed : {n a d : ℕ} {ts us : List Tok} → Both s o ts us → AlikeItem s o (failed n a d ts) (failed n a d us)
-  alike-broken : {n a : ℕ} → AlikeItem s o (broken n a) (broken n a)
+  alike-ragged : {a d : ℕ} {ts us : List Tok} → Both s o ts us → AlikeItem s o (failed 5 a d ts) (failed 5 a d us)
+  alike-alone : {a : ℕ} {ts us : List Tok} → Both s o ts us → AlikeItem s o (failed 6 a 0 ts) (failed 6 a 0 us)
+  alike-absent : {a : ℕ} {ts us : List Tok} → headAt ts ≡ a → Both s o ts us → AlikeItem s o (failed 7 a 0 ts) (failed 7 a 0 us)
+  alike-unnamed : {a : ℕ} → AlikeItem s o (broken 8 a) (broken 8 a)
+  alike-over : {a : ℕ} → AlikeItem s o (broken 9 a) (broken 9 a)
 
 rows-alike : {s : List ℕ} {ts us : List Tok} (o to : ℕ) (t : Tok) (ns vs : List Rec) → Both s to ts us → o < to → Upto (to - o) (sizesOf (rec 5 t ∷ (ns ++ (vs ++ (loopEnd ∷ []))))) → AlikeItem s o (rows t ns vs ts) (rows t ns vs us)
 unfolding rows
@@ -97,10 +100,10 @@ rows-alike {s = s} {ts = ts} {us = us} o to t ns vs b l h = by (eqb (length vs %
   where
     by : (c : Bool) → AlikeItem s o (cond c (taken true (rec 5 t ∷ (ns ++ (vs ++ (loopEnd ∷ [])))) ts) (failed 5 (t .at) (length vs % length ns) ts)) (cond c (taken true (rec 5 t ∷ (ns ++ (vs ++ (loopEnd ∷ [])))) us) (failed 5 (t .at) (length vs % length ns) us))
     by true = alike-taken to l b h
-    by false = alike-failed (both-from o b (omega arith))
+    by false = alike-ragged (both-from o b (omega arith))
 
 over-alike : {s : List ℕ} {o : ℕ} {x y : Item} (c : Bool) (n : ℕ) → AlikeItem s o x y → AlikeItem s o (cond c (broken 9 n) x) (cond c (broken 9 n) y)
-over-alike true n h = alike-broken
+over-alike true n h = alike-over
 over-alike false n h = h
 
 save-over : (c : Class) → c ≡ save → isOver c ≡ false
@@ -130,7 +133,7 @@ loop-alike {s = s} {ts = ts} {us = us} o t l z b = rw (← a .same) (by (nameRec
     v : Alike s (a .to) (valueRecs (afterNames ts)) (valueRecs (afterNames us)) (afterValues (afterNames ts)) (afterValues (afterNames us))
     v = values-alike (a .rest)
     by : (ns : List Rec) → Upto (a .to - (t .at + t .size)) (sizesOf ns) → AlikeItem s o (loopItem t ns (afterNames ts)) (loopItem t ns (afterNames us))
-    by [] h = alike-broken
+    by [] h = alike-unnamed
     by (n ∷ ns) h =
         rw (← v .same)
         (loopBy-alike o (v .to) t (n ∷ ns) (valueRecs (afterNames ts)) (v .rest) (omega (arith, a .onward, v .onward))
@@ -142,12 +145,12 @@ unfolding single rec
 single-alike {s = s} {ts = ts} {us = us} o t u l z m y h b (value k) =
     alike-taken (u .at + u .size) (omega arith) b
     (upto-cons (u .size) (t .size) (u .at + u .size - o) (rec 4 t) (rec k u ∷ []) (upto-cons 0 (u .size) (u .size) (rec k u) [] (rw sizes-none (upto-none 0)) y (omega arith) (omega arith)) z (omega arith) (omega arith))
-single-alike o t u l z m y h b overLimit = alike-broken
-single-alike o t u l z m y h b tag = alike-failed h
-single-alike o t u l z m y h b block = alike-failed h
-single-alike o t u l z m y h b loop = alike-failed h
-single-alike o t u l z m y h b save = alike-failed h
-single-alike o t u l z m y h b (nothing w) = alike-failed h
+single-alike o t u l z m y h b overLimit = alike-over
+single-alike o t u l z m y h b tag = alike-alone h
+single-alike o t u l z m y h b block = alike-alone h
+single-alike o t u l z m y h b loop = alike-alone h
+single-alike o t u l z m y h b save = alike-alone h
+single-alike o t u l z m y h b (nothing w) = alike-alone h
 
 single-nothing : (t u : Tok) (us : List Tok) (c : Class) (w : Reason) → c ≡ nothing w → single t c u us ≡ failed 6 (t .at) 0 (u ∷ us)
 unfolding single
@@ -159,9 +162,9 @@ single-save t u us c e = rw e
 
 tag-alike : {s : List ℕ} {ts us : List Tok} (o : ℕ) (t : Tok) → o ≤ t .at → 0 < t .size → Both s (t .at + t .size) ts us → AlikeItem s o (tagItem t ts) (tagItem t us)
 unfolding tagItem headAt
-tag-alike o t l z (both-last {t = u} h w e) = rw (single-nothing t u [] (u .class) w e) (alike-failed (both-from o (both-last h w e) (omega arith)))
+tag-alike o t l z (both-last {t = u} h w e) = rw (single-nothing t u [] (u .class) w e) (alike-alone (both-from o (both-last h w e) (omega arith)))
 tag-alike o t l z (both-save {t = u} {u = v} {ts = ts} {us = us} h a e f) =
-    rw (single-save t u ts (u .class) e, single-save t v us (v .class) f) (alike-failed (both-from o (both-save h a e f) (omega arith)))
+    rw (single-save t u ts (u .class) e, single-save t v us (v .class) f) (alike-alone (both-from o (both-save h a e f) (omega arith)))
 tag-alike o t l z (both-more {t = u} h y b) = single-alike o t u l z (h .onward) y (both-from o (both-more h y b) (omega arith)) b (u .class)
 
 item-nothing : (t : Tok) (ts : List Tok) (c : Class) (w : Reason) → c ≡ nothing w → itemBy c t ts ≡ failed 7 (t .at) 0 (t ∷ ts)
@@ -173,18 +176,18 @@ unfolding itemBy
 item-save t ts c n e q = rw e (ap (λ (x : ℕ). failed 7 x 0 (t ∷ ts)) q)
 
 more-alike : {s : List ℕ} {o : ℕ} {t : Tok} {ts us : List Tok} → o ≤ t .at → 0 < t .size → Both s o (t ∷ ts) (t ∷ us) → Both s (t .at + t .size) ts us → (c : Class) → AlikeItem s o (itemBy c t ts) (itemBy c t us)
-unfolding itemBy
+unfolding itemBy headAt
 more-alike {o = o} {t = t} l z h b loop = loop-alike o t l z b
 more-alike {o = o} {t = t} l z h b tag = tag-alike o t l z b
-more-alike l z h b block = alike-failed h
-more-alike l z h b save = alike-failed h
-more-alike l z h b (value k) = alike-failed h
-more-alike l z h b overLimit = alike-failed h
-more-alike l z h b (nothing w) = alike-failed h
+more-alike l z h b block = alike-absent refl h
+more-alike l z h b save = alike-absent refl h
+more-alike l z h b (value k) = alike-absent refl h
+more-alike l z h b overLimit = alike-absent refl h
+more-alike l z h b (nothing w) = alike-absent refl h
 
 -- THE ITEM OF BOTH LISTS IS THE SAME
 pub item-alike : {s : List ℕ} {o : ℕ} {ts us : List Tok} → Both s o ts us → AlikeItem s o (item ts) (item us)
 unfolding item headAt
-item-alike (both-last {t = t} h w e) = rw (item-nothing t [] (t .class) w e) (alike-failed (both-last h w e))
-item-alike (both-save {t = t} {u = u} {ts = ts} {us = us} h a e f) = rw (item-save t ts (t .class) (t .at) e refl, item-save u us (u .class) (t .at) f a) (alike-failed (both-save h a e f))
+item-alike (both-last {t = t} h w e) = rw (item-nothing t [] (t .class) w e) (alike-absent refl (both-last h w e))
+item-alike (both-save {t = t} {u = u} {ts = ts} {us = us} h a e f) = rw (item-save t ts (t .class) (t .at) e refl, item-save u us (u .class) (t .at) f a) (alike-absent refl (both-save h a e f))
 item-alike (both-more {t = t} h z b) = more-alike (h .onward) z (both-more h z b) b (t .class)
