@@ -253,3 +253,72 @@ frame-ends s a o p z h d = by (startsAt keySave s p) refl
     by : (b : Bool) → startsAt keySave s p ≡ b → Stepped s a (cond b (Read (gapEnd s (p + 5)) (added z 3 5)) (Refused (OpenFrame a)))
     by true e = unfold Stepped in rw (← added-none z 3 5) (passed-then s none (some a) none a o (gapEnd s (p + 5)) z (added noSizes 3 5) h (frame-closes s a o p d e))
     by false e = unfold Stepped told tells in λ out. rw (h .reads out, d .reads (out ++ h .kept), open-answer s a p (out ++ h .kept) (d .bare) e)
+
+-- a frame's refusal is the text's
+pub frame-refused : (s : List ℕ) (a o : ℕ) (z : Sizes) (d : Decision) → Passed s none a (some a) o z → ((out : List Rec) → told d ≡ tells (left (some a) s o out)) → Stepped s a (Refused d)
+unfolding Stepped
+frame-refused s a o z d h r = λ out. rw (h .reads out) (r (out ++ h .kept))
+
+-- the block that starts at o has been read up to p
+pub record Begun (s : List ℕ) (o p : ℕ) (z : Sizes) : Type 0 where
+  pub kept : List Rec
+  pub sizes : z ≡ sizesOf kept
+  pub reads : blockAt s o ≡ left none s p kept
+  pub within : p ≤ length s
+  pub bare : gap (drop p s) ≡ 0
+  pub fits : Upto p z
+
+begin-reads : (s : List ℕ) (o w : ℕ) → Met before s o (lexed block w) → blockAt s o ≡ left none s (o + w) (rec 1 (tok (lexed block w) o) ∷ [])
+unfolding blockAt left modeOf run move config atStart follow lexed tok after
+begin-reads s o w m = rw (m .next)
+
+pub block-begins : (s : List ℕ) (o : ℕ) → gap (drop o s) ≡ 0 → startsAt keyData s o ≡ true → Begun s o (gapEnd s (wordEnd s o)) (added noSizes 1 (wordEnd s o - o))
+unfolding wordEnd lexed tok rec
+block-begins s o g e =
+    let w = word (drop o s) in
+    let m = met-data s o g e in
+    let d : o + w - o ≡ w = omega arith in
+    let l : o + w ≤ gapEnd s (o + w) = gap-from s (o + w) in
+    let t = tok (lexed block w) o in
+    rw d
+    (record {
+      kept = rec 1 t ∷ [];
+      sizes = sym (sizes-one (rec 1 t));
+      reads = begin-reads s o w m ∙ sym (left-gap none s (o + w) (rec 1 t ∷ []));
+      within = gap-within s (o + w) (m .within);
+      bare = gap-none s (o + w);
+      fits = one-fits 1 w (gapEnd s (o + w)) (m .some-bytes) (omega arith);
+    })
+
+pub block-goes-on : (s : List ℕ) (o p q : ℕ) (z y : Sizes) → Begun s o p z → Passed s none p none q y → Begun s o q (joined z y)
+block-goes-on s o p q z y a b =
+    record {
+      kept = a .kept ++ b .kept;
+      sizes = rw (a .sizes, b .sizes) (sym (sizes-append (a .kept) (b .kept)));
+      reads = a .reads ∙ b .reads (a .kept);
+      within = b .within;
+      bare = b .bare;
+      fits = upto-joined p (q - p) q z y (a .fits) (b .fits) (omega (arith, b .onward));
+    }
+
+-- at the text's end all records are kept
+end-answer : (s : List ℕ) (p : ℕ) (out : List Rec) → length s ≤ p → left none s p out ≡ done out
+unfolding left modeOf tokensAt tokensFrom run move config lex lexIn lexed tok atItem follow
+end-answer s p out h = rw (drop-of-length-le s h)
+
+pub block-ends : (s : List ℕ) (o p : ℕ) (z : Sizes) → Begun s o p z → length s ≤ p → told (Fits z) ≡ tells (blockAt s o)
+unfolding told tells sizesOf
+block-ends s o p z b h = rw (b .reads, end-answer s p (b .kept) h, b .sizes)
+
+pub block-refused : (s : List ℕ) (o p : ℕ) (z : Sizes) (d : Decision) → Begun s o p z → ((out : List Rec) → told d ≡ tells (left none s p out)) → told d ≡ tells (blockAt s o)
+block-refused s o p z d b r = rw (b .reads) (r (b .kept))
+
+-- no `data_`
+pub no-data : (s : List ℕ) (o : ℕ) → gap (drop o s) ≡ 0 → startsAt keyData s o ≡ false → told (NoData o) ≡ tells (blockAt s o)
+unfolding blockAt startsAt run move config atStart follow told tells lex lexed tok
+no-data s o g e = let f = first s o g before in rw (f .1, e)
+
+-- the text is read from behind its leading space and comments on
+pub decided-from : (s : List ℕ) → decided s ≡ blockAt s (gapEnd s 0)
+unfolding decided blockAt tokens
+decided-from s = rw (tokens-gap before s 0) (unfold tokensAt in refl)
