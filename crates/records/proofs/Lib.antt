@@ -1,0 +1,5 @@
+pub mod Numbering
+pub mod Putting
+pub mod Forms
+pub mod Offsets
+pub mod Entering
