@@ -13,7 +13,8 @@ ghost use Rattle.items.specs.Reading.{decided, limit};
 ghost use Rattle.items.specs.Answers.{Ready, Here, tagAt, kindOfNumber, foundOf, foundAt, isOverFound, whyFound, namesAt, valuesAt, rowsOf, itemAt};
 ghost use Rattle.items.specs.Frames.{inBlockOf, inFrameOf, frameEnd, Stepped, blockAt};
 use numbers::Decimal;
-use values::{Value, Why};
+use values::Value;
+use values::Why;
 
 // The room that records take.
 pub struct Sizes {
