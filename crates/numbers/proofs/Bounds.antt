@@ -5,7 +5,7 @@ use mathlib.Core.Bool.{Bool, true, false, cond, not, _&&_, _||_}
 use mathlib.Core.List.{List}
 use native.Mathlib.Decide.{decLt}
 use native.Mathlib.Omega.{arith}
-use lib.Dec.{leb, ltb, eqb, lit<}
+use lib.Dec.{leb, ltb, lit<}
 use lib.ListN.{length, getD}
 use borrow.Author.Tests.{leb-true, ltb-true, eqb-true, ne-eqb}
 use Rattle.text.specs.Bytes.{is}
@@ -103,11 +103,12 @@ pub within-cuts : (w : List ℕ) (k : Cuts) → Sound w k →
     ≡ (leb (k .integer - k .sign) 9 && leb (k .fraction - k .point) 18 && leb (k .exponent .end - k .exponent .digits) 9 && leb (k .bracket .end - k .bracket .digits) 9)
 unfolding within partsOf partOf
 within-cuts w k s =
-    rw
-    (piece-length w (k .sign) (k .integer) (s .integer .to),
-     piece-length w (k .point) (k .fraction) (s .fraction .to),
-     piece-length w (k .exponent .digits) (k .exponent .end) (s .exponent .to),
-     piece-length w (k .bracket .digits) (k .bracket .end) (s .uncertainty .to))
+    rw (
+      piece-length w (k .sign) (k .integer) (s .integer .to),
+      piece-length w (k .point) (k .fraction) (s .fraction .to),
+      piece-length w (k .exponent .digits) (k .exponent .end) (s .exponent .to),
+      piece-length w (k .bracket .digits) (k .bracket .end) (s .uncertainty .to),
+    )
 
 -- what the limits say of cuts
 pub record Limits (k : Cuts) : Type 0 where

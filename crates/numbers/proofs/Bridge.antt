@@ -1,19 +1,18 @@
 -- The parts of a word are the pieces of it between its cuts: each part of `Parts.antt`, taken from an offset on, is the piece that `Cuts.antt` finds
 -- there. Assumes nothing.
 use Prim.Native.Nat.{ℕ, suc, _+_, _-_, _≤_, _<_}
-use mathlib.Core.Path.{_≡_, refl, sym, ap, _∙_}
-use mathlib.Core.Bool.{Bool, true, false, cond, not, _&&_, _||_, Bool·not-not}
+use mathlib.Core.Path.{_≡_, refl, sym, _∙_}
+use mathlib.Core.Bool.{Bool, true, false, cond, _||_, Bool·not-not}
 use mathlib.Core.List.{List, [], _∷_}
 use native.Mathlib.Numerals.{add-one}
 use native.Mathlib.Decide.{decLt}
 use native.Mathlib.Omega.{arith}
-use lib.Dec.{ltb}
 use lib.ListN.{length, take, drop, getD, drop-of-length-le}
 use lib.Seq.{drop-cons, drop-drop}
 use Rattle.text.specs.Bytes.{isDigit, is}
 use Rattle.text.specs.Runs.{span, spanEnd}
 use Rattle.text.proofs.Runs.{past-end}
-use Rattle.numbers.specs.Parts.{Cut, cut, consGot, digits, sign, point, Part, absent, signedDigits, isEmpty, exponent, close, bracket, Parts, parts}
+use Rattle.numbers.specs.Parts.{Cut, cut, consGot, digits, sign, point, absent, signedDigits, exponent, close, bracket, parts}
 use Rattle.numbers.specs.Cuts.{piece, after, digitsEnd, nowhere, startsExponent, exponentAt, bracketAt, cutsOf, partOf, partsOf}
 use Rattle.numbers.proofs.DigitRuns.{piece-none, rest-empty, digits-end-twice}
 
@@ -170,9 +169,10 @@ bracket-part w i = by (rest w i)
 pub parts-cuts : (w : List ℕ) → parts w ≡ partsOf w (cutsOf w)
 unfolding parts partsOf partOf cutsOf between cut
 parts-cuts w =
-    rw
-    (sign-between w 0,
-     digits-between w (after 43 45 w 0),
-     point-between w (digitsEnd w (after 43 45 w 0)) (digits-end-twice w (after 43 45 w 0)),
-     exponent-part,
-     bracket-part)
+    rw (
+      sign-between w 0,
+      digits-between w (after 43 45 w 0),
+      point-between w (digitsEnd w (after 43 45 w 0)) (digits-end-twice w (after 43 45 w 0)),
+      exponent-part,
+      bracket-part,
+    )

@@ -1,19 +1,18 @@
 -- What a number's meaning keeps to, and words that show by their first bytes that they are no numbers. Assumes nothing.
-use Prim.Native.Nat.{ℕ, _-_, _^_, _≤_, _<_}
+use Prim.Native.Nat.{ℕ, _^_, _≤_, _<_}
 use mathlib.Core.Path.{_≡_, refl, sym, ap, _∙_}
 use mathlib.Core.Bool.{Bool, true, false, cond, not, _&&_, _||_, and-false, true≢false}
 use mathlib.Core.List.{List, [], _∷_}
 use native.Mathlib.Omega.{arith}
-use lib.Dec.{eqb, leb}
+use lib.Dec.{eqb}
 use lib.ListN.{length, getD}
 use borrow.Author.Tests.{eqb-false, not-true}
 use Rattle.text.specs.Bytes.{isDigit, is}
 use Rattle.text.proofs.Bools.{and-r, or-l, or-r}
 use Rattle.numbers.specs.declared.Decimal.{Decimal}
 use Rattle.numbers.specs.declared.Cuts.{Cuts}
-use Rattle.numbers.specs.declared.Number.{Number}
 use Rattle.numbers.specs.declared.Number.the-variants.{Not, Is, Over}
-use Rattle.numbers.specs.Parts.{cut, digits, sign, point, isEmpty, Parts, parts, isNumber, within, value, minus}
+use Rattle.numbers.specs.Parts.{cut, digits, sign, point, isEmpty, parts, isNumber, within, value, minus}
 use Rattle.numbers.specs.Meaning.{meaning, judged, numberOf}
 use Rattle.numbers.specs.Cuts.{piece, startsNumber, cutsOf, partOf, partsOf, Sound}
 use Rattle.numbers.proofs.DigitRuns.{piece-length, run-below, run-fits}
@@ -52,16 +51,17 @@ pub record IsNumber (w : List ℕ) (d : Decimal) : Type 0 where
   pub number : isNumber (parts w) ≡ true
   pub kept : within (parts w) ≡ true
   pub means : meaning (parts w) ≡ d
+  pub uncertain : d .uncertain ≡ parts w .unc .here
 
 apart : _≡_ {A = ℕ} 0 1 → ⊥
 apart e = omega arith
 
 pub is-number : (w : List ℕ) (d : Decimal) → numberOf w ≡ Is d → IsNumber w d
-unfolding numberOf judged
+unfolding numberOf judged meaning
 is-number w d e = by (isNumber (parts w)) (within (parts w)) refl refl e
   where
     by : (t u : Bool) → isNumber (parts w) ≡ t → within (parts w) ≡ u → cond t (cond u (Is (meaning (parts w))) Over) Not ≡ Is d → IsNumber w d
-    by true true p q e = record { number = p; kept = q; means = cc }
+    by true true p q e = let m : meaning (parts w) ≡ d = cc in record { number = p; kept = q; means = m; uncertain = ap (λ (x : Decimal). x .uncertain) (sym m) }
     by true false p q e = absurd (apart (cc))
     by false u p q e = absurd (apart (cc))
 

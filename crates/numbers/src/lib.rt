@@ -28,22 +28,22 @@ pub enum Number {
 }
 
 // Where an optional part lies: its sign starts at `sign`, its digits at `digits` and end at `end`, and what follows it starts at `next`.
-pub struct Extent {
-    pub here: bool,
-    pub sign: usize,
-    pub digits: usize,
-    pub end: usize,
-    pub next: usize,
+struct Extent {
+    here: bool,
+    sign: usize,
+    digits: usize,
+    end: usize,
+    next: usize,
 }
 
 // Where a word's parts lie: the ends of sign, integer, point and fraction, then the exponent and the bracket.
-pub struct Cuts {
-    pub sign: usize,
-    pub integer: usize,
-    pub point: usize,
-    pub fraction: usize,
-    pub exponent: Extent,
-    pub bracket: Extent,
+struct Cuts {
+    sign: usize,
+    integer: usize,
+    point: usize,
+    fraction: usize,
+    exponent: Extent,
+    bracket: Extent,
 }
 
 // Whether a number may start with a byte.

@@ -1,7 +1,7 @@
 -- Laws of keywords. Assumes nothing.
-use Prim.Native.Nat.{ℕ, zero, suc, _+_, _≤_, _<_}
+use Prim.Native.Nat.{ℕ, suc, _+_, _≤_, _<_}
 use mathlib.Core.Path.{_≡_, refl, sym, ap, ap₂, _∙_}
-use mathlib.Core.Bool.{Bool, true, false, cond, not, _&&_, _||_, and-false, or-false, true≢false}
+use mathlib.Core.Bool.{Bool, true, false, cond, not, _&&_, _||_, or-false, true≢false}
 use mathlib.Core.List.{List, [], _∷_}
 use native.Mathlib.Numerals.{add-one}
 use native.Mathlib.Omega.{arith}
@@ -27,7 +27,7 @@ rest-all k s o = refl
 module _ (k s : List ℕ) (i o : ℕ) where
   pub rest-go : i < length k → o < length s → lower (getD s o 0) ≡ getD k i 0 → rest k s i o ≡ rest k s (i + 1) (o + 1)
   unfolding rest starts is
-  rest-go hk hs e = rw (drop-cons k i 0, drop-cons s o 0, eq-eqb _ _ e, add-one, add-one)
+  rest-go hk hs e = rw (drop-cons k i 0, drop-cons s o 0, eq-eqb _ _ e, add-one i, add-one o)
 
   pub rest-no : i < length k → o < length s → (lower (getD s o 0) ≡ getD k i 0 → ⊥) → rest k s i o ≡ false
   unfolding rest starts is

@@ -1,7 +1,7 @@
 -- Laws of quotes and text fields. Assumes nothing.
 use Prim.Native.Nat.{ℕ, zero, suc, _+_, _-_, _≤_, _<_}
-use mathlib.Core.Path.{_≡_, refl, sym, ap, _∙_}
-use mathlib.Core.Bool.{Bool, true, false, cond, _&&_, true≢false}
+use mathlib.Core.Path.{_≡_, refl, ap}
+use mathlib.Core.Bool.{Bool, true, false, cond, _&&_}
 use mathlib.Core.List.{List, [], _∷_}
 use mathlib.Core.Option.{Option, none, some}
 use native.Mathlib.Numerals.{add-one}
@@ -62,7 +62,7 @@ module _ (eol : Bool) (s : List ℕ) (o : ℕ) where
   field-over h = rw (drop-of-length-le s h)
 
 -- a closing found lies behind the start, at its length
-pub closing-behind : (o e : ℕ) (r : Option ℕ) → closing o r ≡ Behind e → (o ≤ e) × (r ≡ some (e - o))
+closing-behind : (o e : ℕ) (r : Option ℕ) → closing o r ≡ Behind e → (o ≤ e) × (r ≡ some (e - o))
 unfolding closing
 closing-behind o e none q =
     let z : _≡_ {A = ℕ} 0 1 = cc in
@@ -71,12 +71,28 @@ closing-behind o e (some n) q =
     let p : o + n ≡ e = cc in
     (omega arith, ap some (omega arith))
 
-pub closing-nothing : (o : ℕ) (r : Option ℕ) → closing o r ≡ Nothing → r ≡ none
+closing-nothing : (o : ℕ) (r : Option ℕ) → closing o r ≡ Nothing → r ≡ none
 unfolding closing
 closing-nothing o none q = refl
 closing-nothing o (some n) q =
     let z : _≡_ {A = ℕ} 0 1 = cc in
     absurd (omega arith)
+
+pub quote-behind : (m : ℕ) (s : List ℕ) (o e : ℕ) → quoteEnd m s o ≡ Behind e → (o ≤ e) × (quoted m (drop o s) ≡ some (e - o))
+unfolding quoteEnd
+quote-behind m s o e q = closing-behind o e (quoted m (drop o s)) q
+
+pub quote-nothing : (m : ℕ) (s : List ℕ) (o : ℕ) → quoteEnd m s o ≡ Nothing → quoted m (drop o s) ≡ none
+unfolding quoteEnd
+quote-nothing m s o q = closing-nothing o (quoted m (drop o s)) q
+
+pub field-behind : (s : List ℕ) (o e : ℕ) → fieldEnd s o ≡ Behind e → (o ≤ e) × (field (drop o s) ≡ some (e - o))
+unfolding fieldEnd
+field-behind s o e q = closing-behind o e (field (drop o s)) q
+
+pub field-nothing : (s : List ℕ) (o : ℕ) → fieldEnd s o ≡ Nothing → field (drop o s) ≡ none
+unfolding fieldEnd
+field-nothing s o q = closing-nothing o (field (drop o s)) q
 
 -- the first n bytes of s end with the mark m
 pub record Ends (m : ℕ) (s : List ℕ) (n : ℕ) : Type 0 where

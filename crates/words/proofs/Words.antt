@@ -1,8 +1,8 @@
 -- Laws of words and ordinary bytes. Assumes nothing.
-use Prim.Native.Nat.{ℕ, suc, _+_, _-_, _≤_, _<_}
+use Prim.Native.Nat.{ℕ, _+_, _-_, _≤_, _<_}
 use mathlib.Core.Path.{_≡_, refl, sym, ap, _∙_}
 use mathlib.Core.Bool.{Bool, true, false, _&&_, true≢false}
-use mathlib.Core.List.{List, [], _∷_}
+use mathlib.Core.List.{List, _∷_}
 use native.Mathlib.Omega.{arith}
 use borrow.Author.Tests.{eqb-true, leb-true}
 use lib.Dec.{leb, eqb}
@@ -23,6 +23,9 @@ word-run s o = refl
 pub word-end : (s : List ℕ) (o : ℕ) → wordEnd s o ≡ o + word (drop o s)
 unfolding wordEnd
 word-end s o = refl
+
+pub word-size : (s : List ℕ) (o : ℕ) → wordEnd s o - o ≡ word (drop o s)
+word-size s o = omega (arith, word-end s o)
 
 -- a word lies within the text
 pub word-from : (s : List ℕ) (o : ℕ) → o ≤ wordEnd s o

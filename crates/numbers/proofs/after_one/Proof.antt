@@ -1,3 +1,4 @@
+-- `numbers::after_one`: each `return` goes by the tests that led there; past the end a byte reads as 0, which is neither x nor y. Assumes nothing.
 use native.Mathlib.Omega.{arith}
 use borrow.Author.Tests.{eq-eqb, ne-eqb}
 use Rattle.text.specs.Bytes.{is}
@@ -6,8 +7,6 @@ use Rattle.numbers.specs.Cuts.{after}
 use borrow.Author.Needs.{needs}
 use Rattle.numbers.proofs.after_one.Statement.{statement}
 use Rattle.numbers.proofs.after_one.Tie as tie
-use Rattle.numbers.proofs.after_one.Reads as reads
-use Rattle.numbers.proofs.after_one.Lts as lts
 
 shared-slice-read-if2 : tie.Need-shared-slice-read-if2
 shared-slice-read-if2 c = search needs

@@ -1,3 +1,4 @@
+-- `numbers::bracket_at`: a bracket that isn't closed is absent. Assumes nothing.
 use mathlib.Core.Path.{sym, _∙_}
 use native.Mathlib.Omega.{arith}
 use borrow.Author.Tests.{eq-eqb, ne-eqb}
@@ -8,11 +9,6 @@ use Rattle.numbers.proofs.Bounds.{byte-within}
 use borrow.Author.Needs.{needs}
 use Rattle.numbers.proofs.bracket_at.Statement.{statement}
 use Rattle.numbers.proofs.bracket_at.Tie as tie
-use Rattle.numbers.proofs.bracket_at.Reads as reads
-use Rattle.numbers.proofs.bracket_at.Lts as lts
-use Rattle.numbers.proofs.byte_at.Reads as byte-at-reads
-use Rattle.numbers.proofs.digits_end.Reads as digits-end-reads
-use Rattle.numbers.proofs.nowhere.Reads as nowhere-reads
 
 byte-at-requires : tie.Need-byte-at-requires
 byte-at-requires c κs = search needs

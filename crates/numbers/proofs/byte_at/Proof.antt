@@ -1,10 +1,9 @@
+-- `numbers::byte_at`: past the end a byte reads as 0. Assumes nothing.
 use mathlib.Core.Path.{sym}
 use Rattle.text.proofs.Runs.{past-end}
 use borrow.Author.Needs.{needs}
 use Rattle.numbers.proofs.byte_at.Statement.{statement}
 use Rattle.numbers.proofs.byte_at.Tie as tie
-use Rattle.numbers.proofs.byte_at.Reads as reads
-use Rattle.numbers.proofs.byte_at.Lts as lts
 
 shared-slice-read-result : tie.Need-shared-slice-read-result
 shared-slice-read-result c = search needs

@@ -1,13 +1,8 @@
+-- `numbers::cut`: each cut is what its callee says. Assumes nothing.
 use Rattle.numbers.specs.Cuts.{cutsOf}
 use borrow.Author.Needs.{needs}
 use Rattle.numbers.proofs.cut.Statement.{statement}
 use Rattle.numbers.proofs.cut.Tie as tie
-use Rattle.numbers.proofs.cut.Reads as reads
-use Rattle.numbers.proofs.cut.Lts as lts
-use Rattle.numbers.proofs.after_one.Reads as after-one-reads
-use Rattle.numbers.proofs.bracket_at.Reads as bracket-at-reads
-use Rattle.numbers.proofs.digits_end.Reads as digits-end-reads
-use Rattle.numbers.proofs.exponent_at.Reads as exponent-at-reads
 
 after-one-requires : tie.Need-after-one-requires
 after-one-requires c κs = search needs

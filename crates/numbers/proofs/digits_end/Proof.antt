@@ -1,4 +1,5 @@
-use Prim.Native.Nat.{_-_, _≤_}
+-- `numbers::digits_end`: the loop goes on over digits. Assumes nothing.
+use Prim.Native.Nat.{_-_}
 use mathlib.Core.Path.{_≡_, refl, sym, _∙_}
 use native.Mathlib.Omega.{arith}
 use borrow.Author.Tests.{not-true, not-false}
@@ -9,9 +10,6 @@ use Rattle.text.proofs.Runs.{span-go, span-stop, span-over}
 use Rattle.numbers.specs.Cuts.{digitsEnd}
 use Rattle.numbers.proofs.digits_end.Statement.{statement}
 use Rattle.numbers.proofs.digits_end.Tie as tie
-use Rattle.numbers.proofs.digits_end.Reads as reads
-use Rattle.numbers.proofs.digits_end.Lts as lts
-use Rattle.text.proofs.is_digit.Reads as is-digit-reads
 
 -- the digits from the start on end where those from here on end
 abbrev Inv-loop : tie.InvT-loop

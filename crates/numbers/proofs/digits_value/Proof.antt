@@ -1,15 +1,12 @@
-use Prim.Native.Nat.{suc, _+_, _-_, _≤_}
+-- `numbers::digits_value`: the number so far is the one that the digits so far write, so it stays below 10 to the power of their count. Assumes nothing.
+use Prim.Native.Nat.{_-_, _≤_}
 use mathlib.Core.Path.{_≡_, sym}
 use native.Mathlib.Omega.{arith}
-use lib.ListN.{length}
 use Rattle.numbers.specs.Parts.{value}
 use Rattle.numbers.specs.Cuts.{piece, Run}
 use Rattle.numbers.proofs.DigitRuns.{run-digit, run-first, run-fits, value-none, value-more}
 use Rattle.numbers.proofs.digits_value.Statement.{statement}
 use Rattle.numbers.proofs.digits_value.Tie as tie
-use Rattle.numbers.proofs.digits_value.Reads as reads
-use Rattle.numbers.proofs.digits_value.Lts as lts
-use Rattle.numbers.proofs.wide.Reads as wide-reads
 
 abbrev Inv-loop : tie.InvT-loop
 Inv-loop w from to v₀ at₀ v at = (from ≤ at) × (at ≤ to) × (v ≡ value (piece w from at))

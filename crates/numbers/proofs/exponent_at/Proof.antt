@@ -1,3 +1,4 @@
+-- `numbers::exponent_at`: its letter isn't the word's last byte, so a byte follows it. Assumes nothing.
 use mathlib.Core.Path.{sym, _∙_}
 use native.Mathlib.Omega.{arith}
 use borrow.Author.Tests.{not-true, not-false}
@@ -6,12 +7,6 @@ use Rattle.numbers.proofs.Bounds.{letter-within}
 use borrow.Author.Needs.{needs}
 use Rattle.numbers.proofs.exponent_at.Statement.{statement}
 use Rattle.numbers.proofs.exponent_at.Tie as tie
-use Rattle.numbers.proofs.exponent_at.Reads as reads
-use Rattle.numbers.proofs.exponent_at.Lts as lts
-use Rattle.numbers.proofs.after_one.Reads as after-one-reads
-use Rattle.numbers.proofs.digits_end.Reads as digits-end-reads
-use Rattle.numbers.proofs.nowhere.Reads as nowhere-reads
-use Rattle.numbers.proofs.starts_exponent.Reads as starts-exponent-reads
 
 starts-exponent-requires : tie.Need-starts-exponent-requires
 starts-exponent-requires c κs = search needs

@@ -1,11 +1,9 @@
+-- `numbers::is_lowering`: an exponent of 0 has no sign. Assumes nothing.
 use mathlib.Core.Bool.{and-true, and-false}
 use borrow.Author.Tests.{eq-eqb, ne-eqb}
 use borrow.Author.Needs.{needs}
 use Rattle.numbers.proofs.is_lowering.Statement.{statement}
 use Rattle.numbers.proofs.is_lowering.Tie as tie
-use Rattle.numbers.proofs.is_lowering.Reads as reads
-use Rattle.numbers.proofs.is_lowering.Lts as lts
-use Rattle.numbers.proofs.is_minus.Reads as is-minus-reads
 
 returns : tie.Need-returns
 returns c = rw (eq-eqb _ _ (c .if1 .taken), and-false)

@@ -1,12 +1,9 @@
-use borrow.Author.Tests.{eq-eqb, ne-eqb}
+-- `numbers::is_minus`: a sign's first byte says whether it is a minus. Assumes nothing.
 use Rattle.numbers.proofs.DigitRuns.{piece-minus, piece-over}
 use Rattle.numbers.specs.Parts.{minus}
 use borrow.Author.Needs.{needs}
 use Rattle.numbers.proofs.is_minus.Statement.{statement}
 use Rattle.numbers.proofs.is_minus.Tie as tie
-use Rattle.numbers.proofs.is_minus.Reads as reads
-use Rattle.numbers.proofs.is_minus.Lts as lts
-use Rattle.numbers.proofs.byte_at.Reads as byte-at-reads
 
 returns : tie.Need-returns
 unfolding minus

@@ -1,10 +1,9 @@
+-- `numbers::is_number`: what lies between two cuts is empty where they are equal. Assumes nothing.
 use mathlib.Core.Bool.{Bool·not-not}
 use borrow.Author.Tests.{lt-ltb, le-ltb}
 use Rattle.numbers.proofs.Bounds.{number-cuts}
 use Rattle.numbers.proofs.is_number.Statement.{statement}
 use Rattle.numbers.proofs.is_number.Tie as tie
-use Rattle.numbers.proofs.is_number.Reads as reads
-use Rattle.numbers.proofs.is_number.Lts as lts
 
 returns : tie.Need-returns
 returns c = rw (number-cuts _ _ (c .before .before .pre), lt-ltb _ _ (c .if1 .taken))

@@ -1,9 +1,8 @@
+-- `numbers::nowhere`: every offset is the one that it is given. Assumes nothing.
 use mathlib.Core.Path.{refl}
 use Rattle.numbers.specs.Cuts.{nowhere}
 use Rattle.numbers.proofs.nowhere.Statement.{statement}
 use Rattle.numbers.proofs.nowhere.Tie as tie
-use Rattle.numbers.proofs.nowhere.Reads as reads
-use Rattle.numbers.proofs.nowhere.Lts as lts
 
 returns : tie.Need-returns
 unfolding nowhere

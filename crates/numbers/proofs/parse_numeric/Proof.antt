@@ -1,5 +1,5 @@
-use mathlib.Core.Path.{_≡_, sym, _∙_, ap}
-use mathlib.Core.Bool.{false}
+-- `numbers::parse_numeric`: the word's parts are the pieces between its cuts. Assumes nothing.
+use mathlib.Core.Path.{sym, _∙_, ap}
 use borrow.Author.Tests.{not-true, not-false}
 use Rattle.numbers.specs.Meaning.{judged, numberOf}
 use Rattle.numbers.specs.Cuts.{startsNumber}
@@ -9,14 +9,6 @@ use Rattle.numbers.proofs.Facts.{not-number, no-number-by-first-byte}
 use borrow.Author.Needs.{needs}
 use Rattle.numbers.proofs.parse_numeric.Statement.{statement}
 use Rattle.numbers.proofs.parse_numeric.Tie as tie
-use Rattle.numbers.proofs.parse_numeric.Reads as reads
-use Rattle.numbers.proofs.parse_numeric.Lts as lts
-use Rattle.numbers.proofs.byte_at.Reads as byte-at-reads
-use Rattle.numbers.proofs.cut.Reads as cut-reads
-use Rattle.numbers.proofs.in_limits.Reads as in-limits-reads
-use Rattle.numbers.proofs.is_number.Reads as is-number-reads
-use Rattle.numbers.proofs.read.Reads as read-reads
-use Rattle.numbers.proofs.starts_number.Reads as starts-number-reads
 
 byte-at-requires : tie.Need-byte-at-requires
 byte-at-requires c κs = search needs

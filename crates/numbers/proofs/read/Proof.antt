@@ -1,4 +1,4 @@
-use Rattle.numbers.specs.Parts.{within}
+-- `numbers::read`: each value is that of a run of digits within its limit. Assumes nothing.
 use Rattle.numbers.specs.Meaning.{meaning}
 use Rattle.numbers.specs.Cuts.{partOf, partsOf}
 use Rattle.numbers.proofs.DigitRuns.{piece-length}
@@ -6,12 +6,6 @@ use Rattle.numbers.proofs.Bounds.{limits}
 use borrow.Author.Needs.{needs}
 use Rattle.numbers.proofs.read.Statement.{statement}
 use Rattle.numbers.proofs.read.Tie as tie
-use Rattle.numbers.proofs.read.Reads as reads
-use Rattle.numbers.proofs.read.Lts as lts
-use Rattle.numbers.proofs.digits_value.Reads as digits-value-reads
-use Rattle.numbers.proofs.is_lowering.Reads as is-lowering-reads
-use Rattle.numbers.proofs.is_minus.Reads as is-minus-reads
-use Rattle.numbers.proofs.small_value.Reads as small-value-reads
 
 is-minus-requires : tie.Need-is-minus-requires
 is-minus-requires c κs = search needs

@@ -1,11 +1,9 @@
+-- `numbers::small_value`: nine digits fit 32 bits. Assumes nothing.
 use native.Mathlib.Omega.{arith}
 use Rattle.numbers.proofs.DigitRuns.{run-fits}
 use borrow.Author.Needs.{needs}
 use Rattle.numbers.proofs.small_value.Statement.{statement}
 use Rattle.numbers.proofs.small_value.Tie as tie
-use Rattle.numbers.proofs.small_value.Reads as reads
-use Rattle.numbers.proofs.small_value.Lts as lts
-use Rattle.numbers.proofs.digits_value.Reads as digits-value-reads
 
 digits-value-requires : tie.Need-digits-value-requires
 digits-value-requires c κs = search needs

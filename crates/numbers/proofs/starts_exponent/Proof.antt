@@ -1,3 +1,4 @@
+-- `numbers::starts_exponent`: each `return` goes by the tests that led there. Assumes nothing.
 use Prim.Native.Nat.{_+_, _≤_}
 use mathlib.Core.Bool.{and-true, and-false}
 use native.Mathlib.Omega.{arith}
@@ -8,8 +9,6 @@ use Rattle.numbers.specs.Cuts.{startsExponent}
 use borrow.Author.Needs.{needs}
 use Rattle.numbers.proofs.starts_exponent.Statement.{statement}
 use Rattle.numbers.proofs.starts_exponent.Tie as tie
-use Rattle.numbers.proofs.starts_exponent.Reads as reads
-use Rattle.numbers.proofs.starts_exponent.Lts as lts
 
 returns : tie.Need-returns
 unfolding startsExponent

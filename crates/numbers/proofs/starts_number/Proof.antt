@@ -1,12 +1,10 @@
+-- `numbers::starts_number`: each `return` goes by the tests that led there. Assumes nothing.
 use borrow.Author.Tests.{eq-eqb, ne-eqb}
 use Rattle.text.specs.Bytes.{is}
 use Rattle.numbers.specs.Cuts.{startsNumber}
 use borrow.Author.Needs.{needs}
 use Rattle.numbers.proofs.starts_number.Statement.{statement}
 use Rattle.numbers.proofs.starts_number.Tie as tie
-use Rattle.numbers.proofs.starts_number.Reads as reads
-use Rattle.numbers.proofs.starts_number.Lts as lts
-use Rattle.text.proofs.is_digit.Reads as is-digit-reads
 
 is-digit-requires : tie.Need-is-digit-requires
 is-digit-requires c κs = search needs

@@ -1,6 +1,5 @@
 -- `words::closes`: only after a line end. Assumes nothing.
 use Rattle.text.specs.Bytes.{is}
-use borrow.Author.Needs.{needs}
 use Rattle.words.proofs.closes.Statement.{statement}
 use Rattle.words.proofs.closes.Tie as tie
 

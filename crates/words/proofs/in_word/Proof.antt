@@ -1,6 +1,5 @@
 -- `words::in_word`: a byte of a word is one that ends none. Assumes nothing.
 use Rattle.words.specs.Words.{inWord}
-use borrow.Author.Needs.{needs}
 use Rattle.words.proofs.in_word.Statement.{statement}
 use Rattle.words.proofs.in_word.Tie as tie
 

@@ -1,7 +1,6 @@
 -- `words::is_reserved`: the first letter leaves one keyword, or two, or none. Assumes nothing.
-use mathlib.Core.Path.{refl, sym, ap, ap₂, _∙_}
-use mathlib.Core.Bool.{_||_}
-use Rattle.words.specs.Keywords.{keyGlobal, keyStop, startsAt}
+use mathlib.Core.Path.{sym, _∙_}
+use Rattle.words.specs.Keywords.{keyGlobal, keyStop}
 use Rattle.words.proofs.Keywords.{reserved-over, reserved-low, reserved-d, reserved-g, reserved-l, reserved-s, reserved-none}
 use borrow.Author.Needs.{needs}
 use Rattle.words.proofs.is_reserved.Statement.{statement}

@@ -1,6 +1,6 @@
 -- `words::parse_multiline_string`: byte by byte, with whether a line ended just before. Assumes nothing.
 use Prim.Native.Nat.{_-_}
-use mathlib.Core.Path.{_≡_, refl, sym, _∙_}
+use mathlib.Core.Path.{_≡_, sym, _∙_}
 use native.Mathlib.Omega.{arith}
 use lib.ListN.{length}
 use Rattle.words.specs.Answers.{fieldEnd}
