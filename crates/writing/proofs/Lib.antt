@@ -5,3 +5,7 @@ pub mod Onward
 pub mod Places
 pub mod Lines
 pub mod Ones
+pub mod Turns
+pub mod Values
+pub mod SoFar
+pub mod Lists

@@ -7,12 +7,17 @@ use mathlib.Core.List.{List, [], _∷_}
 use lib.Dec.{eqb}
 use lib.ListN.{length, getD}
 use Rattle.text.specs.Bytes.{isEol}
+use Rattle.text.specs.Gaps.{gapEnd}
 use Rattle.text.specs.Places.{placeAt, IsPlace}
 use Rattle.records.specs.Kinds.{kindOf, shapeLength, marksOf}
 use Rattle.records.specs.Put.{put}
+use Rattle.items.specs.declared.Found.the-variants.{Value}
+use Rattle.items.specs.Answers.{foundAt}
 use Rattle.items.specs.Machine.{Rec}
 use Rattle.items.specs.Sizes.{contentSize, storeSize, outlineSize, areaSize}
 use Rattle.writing.specs.declared.Cursor.{Cursor}
+use Rattle.writing.specs.declared.Written.{Written}
+use Rattle.writing.specs.declared.Written.the-variants.{Value as Value′, Ended}
 use Rattle.writing.specs.Writing.{shapeIn, recordBytes, storeOf, contentOf, areaOf, areaIn}
 
 -- the store's bytes that records take
@@ -74,6 +79,31 @@ pub record Wrote (full : Bool) (s : List ℕ) (rs : List Rec) (o : ℕ) (d e : D
   pub filled : length (areaOf s rs) ≡ areaSize rs
   pub store : e .store ≡ put (d .cursor .at) (storeOf full s (d .cursor .area) rs) (d .store)
   pub area : e .area ≡ put (d .cursor .area) (areaIn full s rs) (d .area)
+
+-- the same cursor, behind space and comments
+unfoldable pub behindGap : List ℕ → Cursor → Cursor
+behindGap s c = record { place = placeAt s (gapEnd s (c .place .offset)); at = c .at; area = c .area }
+
+-- the value that stands behind space and comments is written
+pub record WroteValue (full : Bool) (s : List ℕ) (d e : Desk) : Type 0 where
+  pub kind : ℕ
+  pub size : ℕ
+  pub found : foundAt s (gapEnd s (d .cursor .place .offset)) ≡ Value kind size
+  pub wrote : WroteOne full s 0 (recAt kind (gapEnd s (d .cursor .place .offset)) size) (gapEnd s (d .cursor .place .offset) + size) d e
+
+-- or none stands there, and nothing is written
+pub record NoValue (s : List ℕ) (d : Desk) (l a : List ℕ) : Type 0 where
+  pub none : (k n : ℕ) → foundAt s (gapEnd s (d .cursor .place .offset)) ≡ Value k n → ⊥
+  pub store : l ≡ d .store
+  pub area : a ≡ d .area
+
+unfoldable pub ValueDone : Bool → List ℕ → Desk → Written → List ℕ → List ℕ → Type 0
+ValueDone full s d (Value′ c) l a = WroteValue full s d (desk c l a)
+ValueDone full s d Ended l a = NoValue s d l a
+
+-- there is room for the value that stands there
+unfoldable pub ValueRoom : Bool → List ℕ → Desk → Type 0
+ValueRoom full s d = (k n : ℕ) → foundAt s (gapEnd s (d .cursor .place .offset)) ≡ Value k n → Room full (recAt k (gapEnd s (d .cursor .place .offset)) n ∷ []) d
 
 -- from d with records rs left to write to e with records left: the buffers will be the same in the end
 pub record Onward (full : Bool) (s : List ℕ) (rs : List Rec) (d : Desk) (left : List Rec) (e : Desk) : Type 0 where

@@ -10,18 +10,28 @@ ghost use Rattle.records.specs.Kinds.{kindOf, shapeOf};
 ghost use Rattle.records.specs.declared.Shape.the-variants.{Content, Place as PlaceAlone};
 ghost use Rattle.records.specs.Put.{put};
 ghost use Rattle.items.specs.Machine.{loopEnd};
-ghost use Rattle.items.specs.Answers.{kindOfNumber};
+ghost use Rattle.items.specs.Answers.{kindOfNumber, tagAt};
+ghost use Rattle.items.specs.Tokens.{inBlock};
+ghost use Rattle.items.specs.Decisions.{tokensAt, headAt};
+ghost use Rattle.items.specs.Descent.{nameRecs, afterNames, valueRecs, afterValues};
 ghost use Rattle.writing.specs.Writing.{tokenAt, decimalOf, contentBytes, loopBytes, numberBytes};
-ghost use Rattle.writing.specs.Walk.{storeLength, recordLength, Going, Room, IsToken, recAt, WroteOne, desk};
+ghost use Rattle.writing.specs.Walk.{storeLength, recordLength, Going, Room, IsToken, recAt, WroteOne, Wrote, behindGap, ValueRoom, ValueDone, desk};
 use numbers::Decimal;
 use records::{Kind, Token};
 use text::Place;
+use values::Value;
 
 // Where writing stands: the place in the text, and the offsets in the store and in the area.
 pub struct Cursor {
     pub place: Place,
     pub at: usize,
     pub area: usize,
+}
+
+// What comes of writing a value: the cursor behind it, or none stands there.
+pub enum Written {
+    Value { next: Cursor },
+    Ended,
 }
 
 // Read copies a part of the text into the area, Outline does not.
@@ -224,4 +234,94 @@ fn write_end(full: bool, store: &mut [u8], c: Cursor) -> Cursor
         at: at + record_length(full, 7),
         area,
     }
+}
+
+// The cursor behind space and comments.
+fn trimmed(s: &[u8], c: Cursor) -> Cursor
+    requires { ⌜ IsPlace (now s) (c .place) ⌝ }
+    ensures { λ r. ⌜ r ≡ behindGap (now (s .entry)) c ⌝ }
+{
+    let place = c.place;
+    let at = c.at;
+    let area = c.area;
+    Cursor {
+        place: text::trim_comments_and_whitespace(s, place),
+        at,
+        area,
+    }
+}
+
+// A value that is no number.
+fn write_token(s: &[u8], full: bool, store: &mut [u8], area: &mut [u8], c: Cursor, kind: u8, size: usize) -> Cursor
+    requires { ⌜ Going (now s) c × IsToken (now s) kind (c .place .offset) size × (8 ≤ kind) × (kind ≤ 13) × Room full (recAt kind (c .place .offset) size ∷ []) (desk c (now store) (now area)) ⌝ }
+    ensures { λ r. ⌜ WroteOne full (now (s .entry)) 0 (recAt kind (c .place .offset) size) (c .place .offset + size) (desk c (now (store .entry)) (now (area .entry))) (desk r (now (store .exit)) (now (area .exit))) ⌝ }
+{
+    if kind < 10 {
+        return write_mark(s, full, store, c, kind, size);
+    }
+    write_text(s, full, store, area, c, kind, size)
+}
+
+// The value behind space and comments.
+fn write_value(s: &[u8], full: bool, store: &mut [u8], area: &mut [u8], c: Cursor) -> Written
+    requires { ⌜ Going (now s) c × ValueRoom full (now s) (desk c (now store) (now area)) ⌝ }
+    ensures { λ r. ⌜ ValueDone full (now (s .entry)) (desk c (now (store .entry)) (now (area .entry))) r (now (store .exit)) (now (area .exit)) ⌝ }
+{
+    let here = trimmed(s, c);
+    let place = here.place;
+    let offset = place.offset;
+    let v = values::parse_value(s, offset);
+    if let Value::Token { kind, size } = v {
+        return Written::Value {
+            next: write_token(s, full, store, area, here, kind, size),
+        };
+    }
+    if let Value::Number { decimal, size } = v {
+        return Written::Value {
+            next: write_number(s, full, store, here, decimal, size),
+        };
+    }
+    Written::Ended
+}
+
+// The values of a loop, until one fails.
+fn write_values(s: &[u8], full: bool, store: &mut [u8], area: &mut [u8], c: Cursor) -> Cursor
+    requires { ⌜ Going (now s) c × Room full (valueRecs (tokensAt inBlock (now s) (c .place .offset))) (desk c (now store) (now area)) ⌝ }
+    ensures { λ r. ⌜ Wrote full (now (s .entry)) (valueRecs (tokensAt inBlock (now (s .entry)) (c .place .offset))) (headAt (afterValues (tokensAt inBlock (now (s .entry)) (c .place .offset)))) (desk c (now (store .entry)) (now (area .entry))) (desk r (now (store .exit)) (now (area .exit))) ⌝ }
+{
+    let mut here = c;
+    loop {
+        let Written::Value { next } = write_value(s, full, store, area, here) else {
+            return trimmed(s, here);
+        };
+        here = next;
+    }
+}
+
+// The names of a loop, while tags stand.
+fn write_names(s: &[u8], full: bool, store: &mut [u8], area: &mut [u8], c: Cursor) -> Cursor
+    requires { ⌜ Going (now s) c × Room full (nameRecs (tokensAt inBlock (now s) (c .place .offset))) (desk c (now store) (now area)) ⌝ }
+    ensures { λ r. ⌜ Wrote full (now (s .entry)) (nameRecs (tokensAt inBlock (now (s .entry)) (c .place .offset))) (headAt (afterNames (tokensAt inBlock (now (s .entry)) (c .place .offset)))) (desk c (now (store .entry)) (now (area .entry))) (desk r (now (store .exit)) (now (area .exit))) ⌝ }
+{
+    let mut last = c;
+    loop {
+        let here = trimmed(s, last);
+        let place = here.place;
+        let offset = place.offset;
+        if !at_tag(s, offset) {
+            return here;
+        }
+        let end = words::parse_identifier(s, offset);
+        last = write_text(s, full, store, area, here, 6, end - offset);
+    }
+}
+
+// stand-in
+fn at_tag(s: &[u8], at: usize) -> bool
+    ensures { λ r. ⌜ r ≡ tagAt (now (s .entry)) at ⌝ }
+{
+    if s.len() <= at {
+        return false;
+    }
+    s[at] == 95
 }

@@ -1,0 +1,45 @@
+use borrow.Author.Needs.{needs}
+use Rattle.writing.proofs.Turns.{mark-kind, text-kind}
+use Rattle.writing.proofs.write_token.Statement.{statement}
+use Rattle.writing.proofs.write_token.Tie as tie
+use Rattle.writing.proofs.write_token.Reads as reads
+use Rattle.writing.proofs.write_token.Lts as lts
+use Rattle.writing.proofs.write_mark.Reads as write-mark-reads
+use Rattle.writing.proofs.write_text.Reads as write-text-reads
+
+write-mark-requires : tie.Need-write-mark-requires
+write-mark-requires c κs =
+    let p = c .before .before .before .before .before .pre in
+    (p .0, p .1, mark-kind (c .before .before .before .before .before .args .kind) (p .2) (c .before .if1 .taken), p .4 .store)
+
+same-length : tie.Need-same-length
+same-length c = search needs
+
+returns : tie.Need-returns
+returns c = c .before .before .write-mark .ensures (c .before .before .before .before .before .before .before .before .args .area .now)
+
+write-text-requires : tie.Need-write-text-requires
+write-text-requires c κs =
+    let p = c .before .before .before .before .before .before .pre in
+    (p .0, p .1, text-kind (c .before .before .before .before .before .before .args .kind) (c .before .before .if1 .left) (p .3), p .4)
+
+same-length-2 : tie.Need-same-length-2
+same-length-2 c = search needs
+
+same-length-3 : tie.Need-same-length-3
+same-length-3 c = search needs
+
+returns-2 : tie.Need-returns-2
+returns-2 c = search needs
+
+pub write-token-spec : {M : Type 1} → statement M
+write-token-spec =
+    tie.close
+    (tie.spec
+    write-mark-requires
+    same-length
+    returns
+    write-text-requires
+    same-length-2
+    same-length-3
+    returns-2)
