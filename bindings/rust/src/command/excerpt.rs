@@ -8,6 +8,9 @@ use super::message::printable;
 const WIDTH: usize = 96;
 const BEFORE: usize = 64;
 
+/// The most characters of a start.
+const START: usize = 40;
+
 const INDENT: &str = "    ";
 const CUT: &str = "...";
 
@@ -25,6 +28,12 @@ pub fn excerpt(text: &[u8], place: Place) -> String {
     )
 }
 
+/// The first characters of a text's first line.
+pub fn start(text: &[u8]) -> String {
+    let (start, cut) = first(until_line_end(text), START);
+    shown(start) + cut
+}
+
 /// The bytes of the place's line before it, and those from it on. The column tells where the line
 /// begins, so line ends are not looked for a second time.
 fn line(text: &[u8], place: Place) -> (&[u8], &[u8]) {
@@ -34,12 +43,15 @@ fn line(text: &[u8], place: Place) -> (&[u8], &[u8]) {
     };
     let column = usize::try_from(place.column).unwrap_or(1);
     let start = (at + 1).saturating_sub(column);
-    let is_line_end = |byte: &u8| matches!(byte, b'\n' | b'\r');
-    let end = after.iter().position(is_line_end).unwrap_or(after.len());
     (
         before.get(start..).unwrap_or_default(),
-        after.get(..end).unwrap_or_default(),
+        until_line_end(after),
     )
+}
+
+fn until_line_end(text: &[u8]) -> &[u8] {
+    let mut lines = text.split(|byte| matches!(byte, b'\n' | b'\r'));
+    lines.next().unwrap_or_default()
 }
 
 /// The last bytes, behind a mark where others were cut.
@@ -122,6 +134,12 @@ mod tests {
             excerpt(b"'M\xfcller'", at(2, 1, 3)),
             "    'M\u{fffd}ller'\n      ^"
         );
+    }
+
+    #[test]
+    fn a_start_is_short_and_on_one_line() {
+        assert_eq!(start(b"<html>\r\n<body>"), "<html>");
+        assert_eq!(start(&[b'x'; 41]), format!("{}...", "x".repeat(40)));
     }
 
     #[test]

@@ -4,8 +4,9 @@ use std::io::{self, Write};
 
 use chuntarek::{number, Document, Place, Record, Refusal};
 
+use super::cell;
 use super::excerpt::excerpt;
-use super::hint::hint;
+use super::hint::{hint, is_binary};
 use super::input::Input;
 
 /// Writes a message to standard error. If nobody can see it, nothing can be done about that.
@@ -24,57 +25,48 @@ pub fn printable(character: char) -> char {
 
 /// What is wrong with a text that is refused.
 pub fn refused(input: &Input, refusal: &Refusal) -> String {
-    let sentence = match hint(&input.text, refusal) {
-        Some(hint) => format!("{}: {hint}", refusal.sentence()),
-        None => refusal.sentence(),
-    };
-    let Some(place) = refusal.place else {
-        return format!("{}: refused {}: {sentence}", input.name, refusal.number);
-    };
-    let line = located(
-        input,
-        place,
-        &format!("refused {}: {sentence}", refusal.number),
-    );
-    match is_cif(input, refusal) {
-        true => format!("{line}\n{}", excerpt(&input.text, place)),
-        false => line,
+    let sentence = hint(&input.text, refusal).unwrap_or_else(|| refusal.sentence());
+    let message = format!("refused {}: {sentence}", refusal.number);
+    match refusal.place {
+        Some(place) if is_cif(input, refusal) => at_place(input, place, &message),
+        Some(place) => located(input, place, &message),
+        None => format!("{}: {message}", input.name),
     }
 }
 
 /// A tag that stands twice, with both places.
 pub fn named_twice(input: &Input, document: &Document, refusal: &Refusal) -> String {
     let (first, second) = refusal.records.unwrap_or_default();
-    let message = match tag(document, second) {
-        Some(tag) => format!("refused 13: the tag _{} stands here again", shown(&tag)),
-        None => format!("refused 13: {}", refusal.sentence()),
-    };
-    let again = at_record(input, document, second, &message);
-    let before = at_record(input, document, first, "it stands here before");
+    let (first, second) = (record(document, first), record(document, second));
+    let mut tag = String::new();
+    if let Some(record) = &second {
+        cell::write(record, &mut tag);
+    }
+    let again = at_record(
+        input,
+        second,
+        &format!("refused 13: the tag {tag} stands here again"),
+    );
+    let before = at_record(input, first, "it stands here before");
     format!("{again}\n{before}")
 }
 
-fn tag(document: &Document, number: u64) -> Option<String> {
-    let content = document.content(number).ok()?;
-    Some(String::from_utf8_lossy(content).into_owned())
+/// The record of this number.
+fn record(document: &Document, number: u64) -> Option<Record<'_>> {
+    document.records().nth(usize::try_from(number).ok()?)
 }
 
-fn shown(text: &str) -> String {
-    text.chars().map(printable).collect()
-}
-
-/// A message at the place of the record of this number.
-fn at_record(input: &Input, document: &Document, number: u64, message: &str) -> String {
-    let record: Option<Record> = usize::try_from(number)
-        .ok()
-        .and_then(|number| document.records().nth(number));
+fn at_record(input: &Input, record: Option<Record>, message: &str) -> String {
     match record.and_then(|record| record.place) {
-        Some(place) => {
-            let line = located(input, place, message);
-            format!("{line}\n{}", excerpt(&input.text, place))
-        }
+        Some(place) => at_place(input, place, message),
         None => format!("{}: {message}", input.name),
     }
+}
+
+/// A message at a place, and what stands there.
+fn at_place(input: &Input, place: Place, message: &str) -> String {
+    let line = located(input, place, message);
+    format!("{line}\n{}", excerpt(&input.text, place))
 }
 
 fn located(input: &Input, place: Place, message: &str) -> String {
@@ -83,5 +75,5 @@ fn located(input: &Input, place: Place, message: &str) -> String {
 
 /// Whether showing a line helps: a file that is no CIF at all gets its one line of message alone.
 fn is_cif(input: &Input, refusal: &Refusal) -> bool {
-    refusal.number != number::NO_DATA && !input.text.contains(&0)
+    refusal.number != number::NO_DATA && !is_binary(&input.text)
 }
