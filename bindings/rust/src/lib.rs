@@ -49,3 +49,8 @@ pub use services::{content, names, outline, read, record_at, render};
 
 /// The most bytes of a text that is read, and of a text that is rendered.
 pub const TEXT_LIMIT: usize = 16_777_216;
+
+/// The example of the README, tried as the examples above are.
+#[cfg(doctest)]
+#[doc = include_str!("../../../README.md")]
+struct Readme;

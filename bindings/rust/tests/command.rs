@@ -72,6 +72,22 @@ fn outline_prints_document_01s_outline() {
     assert_eq!(run_with(&["outline", "/dev/stdin"], text), expected);
 }
 
+/// The README shows commands with what they print, messages included.
+#[test]
+fn the_readme_shows_what_the_command_prints() {
+    let path = Path::new(env!("CARGO_MANIFEST_DIR")).join("../../README.md");
+    let readme = fs::read_to_string(path).expect("the README is there");
+    let mut shown = 0;
+    for start in readme.split("$ ./chuntarek ").skip(1) {
+        let (line, printed) = start.split_once('\n').expect("a command has a line");
+        let words: Vec<&str> = line.split(' ').collect();
+        let (_, output, message) = run(&words);
+        assert!(printed.starts_with(&(output + &message)), "{line}");
+        shown += 1;
+    }
+    assert_eq!(shown, 3);
+}
+
 #[test]
 fn outline_names_its_files_if_there_are_several() {
     let (status, output, message) = run(&[

@@ -7,11 +7,11 @@ use super::excerpt;
 /// Closer words for this refusal of a text, if there are any.
 pub fn hint(text: &[u8], refusal: &Refusal) -> Option<String> {
     let offset = usize::try_from(refusal.place?.offset).ok()?;
-    let rest = text.get(offset..)?;
+    let (before, rest) = text.split_at_checked(offset)?;
     match refusal.number {
         number::NOT_ASCII => other_encoding(text).map(String::from),
         number::NO_DATA => Some(instead_of_block(text, rest)),
-        number::NO_ITEM => instead_of_item(rest).map(String::from),
+        number::NO_ITEM => instead_of_item(before, rest).map(String::from),
         _ => None,
     }
 }
@@ -51,8 +51,13 @@ fn instead_of_block(text: &[u8], rest: &[u8]) -> String {
 }
 
 /// What stands where a tag, a loop or a frame is expected.
-fn instead_of_item(rest: &[u8]) -> Option<&'static str> {
+fn instead_of_item(before: &[u8], rest: &[u8]) -> Option<&'static str> {
     const LONE_VALUE: &str = "a value stands here that belongs to no tag";
+    if before.ends_with(b"'") || before.ends_with(b"\"") {
+        return Some(
+            "the mark before this closes its quote: a text that holds this mark stands between marks of the other kind",
+        );
+    }
     if starts_with(rest, b"data_") {
         return Some(
             "a second block begins here, and one file holds one: put each block into a file of its own",
@@ -118,6 +123,12 @@ mod tests {
         assert!(hinted(b"data_x _a b c").starts_with(lone));
         assert_eq!(hinted(b"data_x _a 'b' 'c'"), lone);
         assert_eq!(hinted(b"data_x _a b\n;c\n;"), lone);
+    }
+
+    #[test]
+    fn a_mark_inside_a_quote_is_named() {
+        assert!(hinted(b"data_x _a 'a dog's life'").starts_with("the mark before this closes"));
+        assert!(hinted(b"data_x _a \"b\"c").starts_with("the mark before this closes"));
     }
 
     #[test]
