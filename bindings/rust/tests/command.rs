@@ -237,6 +237,22 @@ fn render_writes_one_token_to_a_line() {
     );
 }
 
+/// The line end behind the field makes the rendering one byte longer than the text.
+#[test]
+fn a_rendering_over_the_limit_is_refused() {
+    let mut text = b"data_x _a ;".to_vec();
+    text.resize(16_777_214, b'x');
+    text.extend(b"\n;");
+    assert_eq!(run_with(&["check", "-"], &text), done(""));
+    assert_eq!(
+        run_with(&["render", "-"], &text),
+        refused(
+            "",
+            "<stdin>: refused 1: its rendering would be longer than 16,777,216 bytes\n"
+        )
+    );
+}
+
 #[test]
 fn values_and_render_refuse_what_check_refuses() {
     let file = "examples/refused/08-no-names.cif";

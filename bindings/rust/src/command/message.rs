@@ -34,6 +34,17 @@ pub fn refused(input: &Input, refusal: &Refusal) -> String {
     }
 }
 
+/// What is wrong with the rendering of a text that was read.
+pub fn not_rendered(input: &Input, refusal: &Refusal) -> String {
+    let (name, number) = (&input.name, refusal.number);
+    match number {
+        number::TOO_LONG => {
+            format!("{name}: refused 1: its rendering would be longer than 16,777,216 bytes")
+        }
+        _ => format!("{name}: refused {number}: {}", refusal.sentence()),
+    }
+}
+
 /// A tag that stands twice, with both places.
 pub fn named_twice(input: &Input, document: &Document, refusal: &Refusal) -> String {
     let (first, second) = refusal.records.unwrap_or_default();

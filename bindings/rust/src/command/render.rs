@@ -14,12 +14,11 @@ pub fn file(file: &OsStr, out: &mut impl Write) -> io::Result<Status> {
     let Some(input) = input::open(file) else {
         return Ok(Status::Failed);
     };
-    let rendered = Document::read(&input.text).and_then(|document| document.render());
-    match rendered {
-        Ok(text) => out.write_all(&text).map(|()| Status::Done),
-        Err(refusal) => {
-            message::say(&message::refused(&input, &refusal));
-            Ok(Status::Refused)
-        }
-    }
+    let message = match Document::read(&input.text).map(|document| document.render()) {
+        Ok(Ok(text)) => return out.write_all(&text).map(|()| Status::Done),
+        Ok(Err(refusal)) => message::not_rendered(&input, &refusal),
+        Err(refusal) => message::refused(&input, &refusal),
+    };
+    message::say(&message);
+    Ok(Status::Refused)
 }
