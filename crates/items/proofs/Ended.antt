@@ -6,6 +6,7 @@ use mathlib.Core.Path.{_≡_, refl, sym, ap, _∙_}
 use mathlib.Core.List.{List, [], _∷_, _++_}
 use mathlib.Core.Option.{Option, none, some}
 use native.Mathlib.Omega.{arith}
+use borrow.Author.Tests.{not-true}
 use lib.ListN.{length, take}
 use lib.Seq.{take-append-le}
 use Rattle.text.specs.Bytes.{is, isEol, endsWord}
@@ -36,14 +37,10 @@ unfoldable pub noLf : List ℕ → Bool
 noLf [] = true
 noLf (c ∷ k) = not (is c (lower 10)) && noLf k
 
-not-false : (t : Bool) → not t ≡ true → t ≡ false
-not-false true e = sym e
-not-false false e = refl
-
 pub starts-ended : (k w t : List ℕ) → noLf k ≡ true → starts k (w ++ 10 ∷ t) ≡ starts k w
 unfolding starts noLf
 starts-ended [] w t e = refl
-starts-ended (c ∷ k) [] t e = rw (not-false (is c (lower 10)) (and-l _ (noLf k) e))
+starts-ended (c ∷ k) [] t e = rw (not-true (is c (lower 10)) (and-l _ (noLf k) e))
 starts-ended (c ∷ k) (b ∷ w) t e = ap (λ r. is c (lower b) && r) (starts-ended k w t (and-r (not (is c (lower 10))) (noLf k) e))
 
 quoted-ended : (m : ℕ) → is m 10 ≡ false → (w t : List ℕ) → quoted m (w ++ 10 ∷ t) ≡ quoted m w

@@ -2,7 +2,7 @@
 -- that it means (cif-means), and beyond them refused as over a limit (cif-over). Assumes nothing.
 use Prim.Native.Nat.{ℕ}
 use mathlib.Core.Path.{_≡_, refl}
-use mathlib.Core.Bool.{Bool, true, false, _&&_}
+use mathlib.Core.Bool.{Bool, true, false, _&&_, and-false}
 use mathlib.Core.List.{List, [], _++_, append-assoc, append-nil}
 use Rattle.numbers.specs.declared.Number.the-variants.{Is, Over}
 use Rattle.numbers.specs.Meaning.{meaning, judged, numberOf}
@@ -58,10 +58,6 @@ some-i i f h = rw h
 
 some-f : (i f : List ℕ) → isEmpty f ≡ false → isEmpty i && isEmpty f ≡ false
 some-f i f h = rw h (and-false (isEmpty i))
-  where
-    and-false : (a : Bool) → a && false ≡ false
-    and-false true = refl
-    and-false false = refl
 
 cif-number : {sg i f esg e w b : List ℕ} {u : Part} → CifNumber sg i f esg e w → Bracket b u → Means (w ++ b) sg i f esg e (u .run) (u .here)
 unfolding absent

@@ -4,7 +4,7 @@ use Prim.Native.Nat.{ℕ}
 use mathlib.Core.Path.{_≡_, refl, sym, ap, _∙_, subst}
 use mathlib.Core.Bool.{Bool, true, false, not, cond, _&&_, _||_, true≢false, false≢true}
 use mathlib.Core.List.{List, [], _∷_, _++_}
-use borrow.Author.Tests.{eqb-true}
+use borrow.Author.Tests.{eqb-true, not-true}
 use lib.Dec.{eqb}
 use Rattle.text.specs.Bytes.{isDigit, is}
 use Rattle.text.proofs.Bools.{and-l, and-r, or-cases}
@@ -202,10 +202,6 @@ bracket-view (b ∷ s) e = go (is 40 b) refl e
     go : (t : Bool) → is 40 b ≡ t → isEmpty ((cond t (close (b ∷ s) ((digits s) .got) ((digits s) .left)) (absent (b ∷ s))) .left) ≡ true → Bracket (b ∷ s) (cond t (close (b ∷ s) ((digits s) .got) ((digits s) .left)) (absent (b ∷ s)))
     go true q x = close-view b s ((digits s) .got) ((digits s) .left) (digits-split s) (digits-got s) q x
     go false q x = absurd (false≢true x)
-
-not-true : (b : Bool) → not b ≡ true → b ≡ false
-not-true true e = sym e
-not-true false e = refl
 
 pub exponent-view : (s : List ℕ) {u : Part} → Bracket ((exponent s) .left) u → Exponent s (exponent s) u
 unfolding exponent absent signedDigits

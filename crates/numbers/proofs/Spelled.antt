@@ -2,7 +2,7 @@
 -- (number-within), its bracket is there when the decimal is uncertain (number-here), and it means that decimal (number-means, number-reads). Assumes nothing.
 use Prim.Native.Nat.{ℕ, zero, suc, _+_, _-_, _*_, _/_, _%_, _^_, _≤_, _<_}
 use mathlib.Core.Path.{_≡_, refl, sym, _∙_}
-use mathlib.Core.Bool.{Bool, true, false, not, cond, _&&_}
+use mathlib.Core.Bool.{Bool, true, false, not, cond, _&&_, and-true}
 use mathlib.Core.List.{List, [], _∷_, _++_}
 use native.Mathlib.Omega.{arith}
 use borrow.Author.Tests.{eqb-true, le-leb, ne-eqb}
@@ -199,10 +199,6 @@ minus-bytes : (b : Bool) → isMinus (signBytes b) ≡ b
 unfolding isMinus signBytes is
 minus-bytes true = refl
 minus-bytes false = refl
-
-and-true : (b : Bool) → b && true ≡ b
-and-true true = refl
-and-true false = refl
 
 neg-exp : (neg : Bool) (e : ℕ) (r : List ℕ) → (e ≡ 0 → neg ≡ false) → (isMinus ((expPart neg e r) .signed) && not (eqb e 0)) ≡ neg
 unfolding expPart absent isMinus

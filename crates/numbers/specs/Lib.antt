@@ -2,3 +2,4 @@ pub mod Parts
 pub mod Meaning
 pub mod Spelling
 pub mod Cif
+pub mod Cuts

@@ -1,6 +1,7 @@
--- Every record of a value comes from a token of that value.
+-- Proved: whatever place lies inside a recorded quoted value or text field lies inside such a token (run-kept): the machine makes records of tokens only.
+-- Assumes nothing.
 use Prim.Native.Nat.{ℕ, zero, suc, _+_, _%_}
-use mathlib.Core.Bool.{false≢true, Bool, true, false, cond, _&&_, _||_}
+use mathlib.Core.Bool.{false≢true, Bool, true, false, cond, _&&_, _||_, or-true, or-false}
 use mathlib.Core.Path.{_≡_, refl, _∙_, subst}
 use mathlib.Core.List.{List, [], _∷_, _++_}
 use mathlib.Core.Option.{Option, none, some}
@@ -9,19 +10,9 @@ use lib.Dec.{leb, ltb, eqb}
 use Rattle.values.specs.Values.{Class, block, loop, save, tag, value, overLimit, nothing, atEnd, reservedWord, noStart, openQuote, openField}
 use Rattle.items.specs.Tokens.{Tok}
 use Rattle.items.specs.Machine.{Rec, refused, done, State, start, items, names, values, wants, Config, config, Outcome, go, stop, rec, loopEnd, closes, fails, atItem, loopEnds, atValue, noMoreNames, atName, atWant, atStart, move, follow, run}
+use Rattle.promises.specs.Differences.{isQuoted, insideRec, insideRecs}
 use Rattle.promises.proofs.Veil.{veiled}
 use Rattle.promises.proofs.VeilRead.{insideTok, insideAny, Either, left, right, either, or-split}
-
-unfoldable pub veiledKind : ℕ → Bool
-veiledKind k = leb 11 k && leb k 13
-
--- place i is inside a recorded quoted value or text field
-unfoldable pub insideRec : Rec → ℕ → Bool
-insideRec r i = veiledKind (r .kind) && (ltb (r .at) i && ltb (suc i) (r .at + r .size))
-
-unfoldable pub insideRecs : List Rec → ℕ → Bool
-insideRecs [] i = false
-insideRecs (r ∷ rs) i = insideRec r i || insideRecs rs i
 
 module _ (i : ℕ) (t : Tok) where
   -- from `a`, what was there before, or from the token
@@ -45,36 +36,25 @@ module _ (i : ℕ) (t : Tok) where
       assoc true b c = refl
       assoc false b c = refl
 
-  or-false : (a : Bool) → a || false ≡ a
-  or-false true = refl
-  or-false false = refl
-
-  plain : (x : List Rec) (k : ℕ) → veiledKind k ≡ false → insideRecs (x ++ (rec k t ∷ [])) i ≡ insideRecs x i
+  plain : (x : List Rec) (k : ℕ) → isQuoted k ≡ false → insideRecs (x ++ (rec k t ∷ [])) i ≡ insideRecs x i
   unfolding insideRecs insideRec rec
   plain x k e = append x (rec k t ∷ []) ∙ rw e (or-false (insideRecs x i))
 
   ended : (x : List Rec) → insideRecs (x ++ (loopEnd ∷ [])) i ≡ insideRecs x i
-  unfolding insideRecs insideRec loopEnd veiledKind
+  unfolding insideRecs insideRec loopEnd isQuoted
   ended x = append x (loopEnd ∷ []) ∙ or-false (insideRecs x i)
 
   -- the record of a value is inside just where its token is
   same-place : (k : ℕ) → t .class ≡ value k → insideRec (rec k t) i ≡ insideTok t i
-  unfolding insideRec insideTok rec veiledKind veiled
+  unfolding insideRec insideTok rec isQuoted veiled
   same-place k e = rw e
 
   valued : (x : List Rec) (k : ℕ) → t .class ≡ value k → insideRecs (x ++ (rec k t ∷ [])) i ≡ insideRecs x i || insideTok t i
   unfolding insideRecs
   valued x k e = append x (rec k t ∷ []) ∙ rw (same-place k e, or-false (insideTok t i))
 
-  keep : (a : Bool) → From a a
-  unfolding From
-  keep a e = left e
-
-  from-or : (a b : Bool) → From a (b || insideTok t i) → From a (b || insideTok t i)
-  from-or a b f = f
-
   closes-kept : (f : ℕ) (out : List Rec) (c : Class) → Kept (insideRecs out i) (closes f out c t)
-  unfolding Kept closes From inConfig config veiledKind insideRecs
+  unfolding Kept closes From inConfig config isQuoted insideRecs
   closes-kept f out save = rw (plain out 3 refl, or-false (insideRecs out i)) (λ e. left e)
   closes-kept f out block = tt
   closes-kept f out loop = tt
@@ -88,12 +68,12 @@ module _ (i : ℕ) (t : Tok) where
   fails-kept n o d none out = tt
   fails-kept n o d (some f) out = closes-kept f out (t .class)
 
-  first : (k : ℕ) → veiledKind k ≡ false → (a : Bool) → a || insideRecs (rec k t ∷ []) i ≡ a
+  first : (k : ℕ) → isQuoted k ≡ false → (a : Bool) → a || insideRecs (rec k t ∷ []) i ≡ a
   unfolding insideRecs insideRec rec
   first k e a = rw e (or-false a)
 
   item-kept : (f : Option ℕ) (out : List Rec) (c : Class) → Kept (insideRecs out i) (atItem f out c t)
-  unfolding Kept atItem From inConfig config veiledKind insideRecs
+  unfolding Kept atItem From inConfig config isQuoted insideRecs
   item-kept f out loop = rw (first 5 refl (insideRecs out i)) (λ e. left e)
   item-kept f out tag = rw (first 4 refl (insideRecs out i)) (λ e. left e)
   item-kept none out save = rw (plain out 2 refl, or-false (insideRecs out i)) (λ e. left e)
@@ -152,7 +132,7 @@ module _ (i : ℕ) (t : Tok) where
   more-kept at (suc n) f out held = value-kept at (suc n) 0 f out held (t .class) refl
 
   name-kept : (at n : ℕ) (f : Option ℕ) (out held : List Rec) (c : Class) → Kept (both out held) (atName at n f out held c t)
-  unfolding Kept atName From inConfig config veiledKind both
+  unfolding Kept atName From inConfig config isQuoted both
   name-kept at n f out held tag = rw (plain held 6 refl) (λ e. left e)
   name-kept at n f out held block = more-kept at n f out held
   name-kept at n f out held loop = more-kept at n f out held
@@ -175,7 +155,7 @@ module _ (i : ℕ) (t : Tok) where
   want-kept at f out held (nothing w) q = failed 6 at 0 f out held
 
   start-kept : (a : Bool) (c : Class) → Kept a (atStart c t)
-  unfolding Kept atStart From inConfig config veiledKind insideRecs insideRec rec
+  unfolding Kept atStart From inConfig config isQuoted insideRecs insideRec rec
   start-kept a block = λ e. absurd (false≢true e)
   start-kept a loop = tt
   start-kept a save = tt
@@ -191,10 +171,6 @@ module _ (i : ℕ) (t : Tok) where
   move-kept (names at n) f out held = name-kept at n f out held (t .class)
   move-kept (values at n k) f out held = value-kept at n k f out held (t .class) refl
   move-kept (wants at) f out held = want-kept at f out held (t .class) refl
-
-or-true : (a : Bool) → a || true ≡ true
-or-true true = refl
-or-true false = refl
 
 -- what is inside a record of a reading was there before or is inside a token
 pub run-kept : (i : ℕ) (ts : List Tok) (c : Config) (r : List Rec) → run ts c ≡ done r → insideRecs r i ≡ true → Either (insideRecs (c .out) i || insideRecs (c .held) i ≡ true) (insideAny ts i ≡ true)

@@ -1,4 +1,5 @@
--- Digits do not show: reading a text and reading its shape, every digit replaced by `0`, take the same course.
+-- The shape of a text has every digit replaced by `0`. Proved: no class of bytes that reading asks for tells a byte from its shape, so runs, space and comments, keywords,
+-- quotes and text fields are the same in both. A class is one computed test over the ten digits (blind). Assumes nothing.
 use Prim.Native.Nat.{ℕ, zero, suc, _+_, _-_, _≤_}
 use mathlib.Core.Bool.{Bool, true, false, cond, _&&_, Bool·beq}
 use mathlib.Core.Path.{_≡_, refl, sym, ap, ap₂}

@@ -1,4 +1,5 @@
--- Digits do not show in whether a word is a number, keeps the limits and has an uncertainty: each part of the shape is the shape of the part.
+-- Proved: the parts of a word's shape are the shapes of its parts (parts-σ), so digits do not show in whether a word is a number, keeps the limits and has an
+-- uncertainty (isNumber-σ, within-σ, here-σ). Assumes nothing.
 use Prim.Native.Nat.{ℕ}
 use mathlib.Core.Bool.{Bool, true, false, not, cond, _&&_, _||_}
 use mathlib.Core.Path.{_≡_, refl, sym}

@@ -1,4 +1,5 @@
--- The tokens of a text are those of its shape, so is its outline, and so are the places. Two texts alike but for digits have one shape.
+-- Proved: a text and its shape, every digit replaced by `0`, have the same tokens (tokens-σ), the same outline, refusals included (outline-σ), and the same places
+-- (placeAt-σ). Assumes nothing.
 use Prim.Native.Nat.{ℕ, zero, suc}
 use mathlib.Core.Bool.{true}
 use mathlib.Core.Path.{_≡_, refl, sym, ap, _∙_, fun-ext}
@@ -97,22 +98,3 @@ outline-σ s = rw (length-map s σ, span-σ isAscii ascii-σ s, tokens-σ s)
 pub placeAt-σ : (s : List ℕ) (n : ℕ) → placeAt (map σ s) n ≡ placeAt s n
 unfolding flat allBelow is
 placeAt-σ s n = placeAt-w σ (is-σ 10 refl) (is-σ 13 refl) s n
-
--- alike but for digits: at each place the same byte, or two digits
-pub data Alike : List ℕ → List ℕ → Type 0 where
-  end : Alike [] []
-  same : {s t : List ℕ} (b : ℕ) → Alike s t → Alike (b ∷ s) (b ∷ t)
-  digits : {s t : List ℕ} (a b : ℕ) → isDigit a ≡ true → isDigit b ≡ true → Alike s t → Alike (a ∷ s) (b ∷ t)
-
-alike-shape : {s t : List ℕ} → Alike s t → map σ s ≡ map σ t
-unfolding σ
-alike-shape end = refl
-alike-shape (same b r) = ap {B = List ℕ} (λ l. σ b ∷ l) (alike-shape r)
-alike-shape (digits a b p q r) = rw (p, q) (ap {B = List ℕ} (λ l. 48 ∷ l) (alike-shape r))
-
--- DEMAND 3, its first half, at this level
-pub digits-hidden : {s t : List ℕ} → Alike s t → outline s ≡ outline t
-digits-hidden {s} {t} r = sym (outline-σ s) ∙ ap outline (alike-shape r) ∙ outline-σ t
-
-pub places-hidden : {s t : List ℕ} → Alike s t → (n : ℕ) → placeAt s n ≡ placeAt t n
-places-hidden {s} {t} r n = sym (placeAt-σ s n) ∙ ap (λ x. placeAt x n) (alike-shape r) ∙ placeAt-σ t n

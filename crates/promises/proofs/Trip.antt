@@ -1,4 +1,5 @@
--- The round trip: what is rendered is read with the same kinds and the same tokens.
+-- Entries that are nested are rendered and read back. Proved: from each state in which the machine may stand before them, it reads the rendering of nested entries to
+-- their records (trip). Assumes nothing.
 use Prim.Native.Nat.{ℕ, suc, _+_, _%_}
 use mathlib.Core.Bool.{Bool, true, false}
 use mathlib.Core.Path.{_≡_, refl, ap, _∙_}
@@ -8,42 +9,16 @@ use borrow.Author.Tests.{eq-eqb}
 use native.Mathlib.Nat.{zero-mod}
 use lib.ListN.{length}
 use Rattle.values.specs.Values.{Class, loop, save, tag, value, nothing, atEnd, lexed}
-use Rattle.items.specs.Tokens.{Mode, inBlock, inFrame, lexIn, lex, after, Tok, tok, tokensFrom}
+use Rattle.items.specs.Tokens.{inBlock, inFrame, lexIn, lex, after, Tok, tok, tokensFrom}
 use Rattle.items.specs.Machine.{Rec, done, State, items, names, values, wants, config, rec, loopEnd, atItem, loopEnds, atValue, noMoreNames, atName, atWant, move, follow, run}
 use Rattle.items.proofs.Advance.{Whole, advance}
-
--- an entry of a store: its kind and its token's bytes. A loop's end has none
-pub data Entry : Type 0 where
-  entry : (kind : ℕ) → (bytes : List ℕ) → Entry
-  ending : Entry
-
-unfoldable pub render : List Entry → List ℕ
-render [] = []
-render (entry k w ∷ es) = w ++ 10 ∷ render es
-render (ending ∷ es) = render es
-
--- the records of a rendering that starts at offset o
-unfoldable pub recsAt : ℕ → List Entry → List Rec
-recsAt o [] = []
-recsAt o (entry k w ∷ es) = record { kind = k; at = o; size = length w } ∷ recsAt (suc (o + length w)) es
-recsAt o (ending ∷ es) = loopEnd ∷ recsAt o es
-
-unfoldable pub modeOf : Bool → Mode
-modeOf true = inFrame
-modeOf false = inBlock
+use Rattle.promises.specs.Entries.{Entry, entry, ending, render, recsAt, modeOf, reads, Where, at-items, at-names, at-values, at-value}
 
 -- w alone is read whole, as a token of this class
 unfoldable pub Reads : Bool → List ℕ → Class → Type 0
 Reads f w c = Whole (modeOf f) w (lexed c (length w))
 
--- where in the nesting: the flag says that a loop without rows stands just before
-pub data Where : Type 0 where
-  at-items : Bool → Where
-  at-names : ℕ → Where
-  at-values : (n k : ℕ) → Where
-  at-value : Where
-
--- records nested as document 01 says, in a frame or not
+-- entries nested, as `nest` tests it, in a form to go through
 pub data Nested : Bool → Where → List Entry → Type 0 where
   over : (e : Bool) → Nested false (at-items e) []
   tagged : {f : Bool} {es : List Entry} (w : List ℕ) → Reads f w tag → Nested f at-value es → Nested f (at-items false) (entry 4 w ∷ es)

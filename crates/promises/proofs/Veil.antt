@@ -1,37 +1,35 @@
--- The bytes inside quoted values and text fields do not show: the relation between two texts, followed along the tokens of the first.
+-- Proved: two texts that are alike but for digits and, inside the quoted values and text fields among the first one's tokens, for bytes that are no marks, have the same
+-- tokens (tokens-veil). `Rel` follows both texts along the tokens of the first. Only `.` looks past its own token, and no number holds a mark. Assumes nothing.
 use Prim.Native.Nat.{ℕ, zero, suc}
-use mathlib.Core.Bool.{true≢false, false≢true, Bool, true, false, not, cond, _&&_, _||_}
+use mathlib.Core.Bool.{true≢false, false≢true, Bool, true, false, not, cond, _&&_, _||_, or-true}
 use mathlib.Core.Path.{_≡_, refl, sym, ap, ap₂, _∙_, subst}
-use mathlib.Core.List.{List, [], _∷_, _++_, map}
+use mathlib.Core.List.{List, [], _∷_, map}
 use mathlib.Core.Option.{Option, none, some}
 use native.Mathlib.Omega.{arith}
-use borrow.Author.Tests.{eqb-true}
-use lib.Dec.{leb, eqb}
+use borrow.Author.Tests.{eqb-true, not-true}
+use lib.Dec.{eqb}
 use lib.ListN.{length, take, length-map}
 use lib.Seq.{length-take-le, take-take}
 use Rattle.text.specs.Bytes.{isDigit, is, isEol, endsWord}
 use Rattle.text.specs.Runs.{span}
 use Rattle.text.specs.Gaps.{gapByte, gapThen, gapIn, gap}
-use Rattle.text.proofs.Ranges.{allBelow, digit-not}
+use Rattle.text.proofs.Ranges.{allBelow}
 use Rattle.text.proofs.Runs.{span-le}
 use Rattle.text.proofs.Bools.{and-l, and-r, or-l, or-r}
 use Rattle.words.specs.Words.{isOrdinary, inWord, word}
 use Rattle.words.specs.Keywords.{lower, starts, keyData, keyGlobal, keyLoop, keySave, keyStop}
 use Rattle.words.specs.Quotes.{more, quoted, fieldIn, field}
-use Rattle.numbers.specs.Parts.{digits, sign, point, exponent, bracket, Part, isEmpty, Parts, parts, isNumber, within}
-use Rattle.numbers.specs.Cif.{allDigits, Sign, unsigned, plus, minus}
-use Rattle.numbers.proofs.Spell.{Bracket, unbracketed, bracketed, Exponent, unscaled, scaled, Point, whole, pointed, digits-split, digits-got, sign-split, sign-got, bracket-view, exponent-view, point-view, or-is}
+use Rattle.numbers.specs.Parts.{Parts, parts, isNumber, within}
+use Rattle.numbers.proofs.Made.{all, others, number-made}
 use Rattle.values.specs.Values.{Class, block, loop, save, tag, value, overLimit, nothing, Reason, openQuote, openField, Lexed, lexed, numberOr, wordOr, closed, lexValue}
 use Rattle.items.specs.Tokens.{Mode, before, inBlock, inFrame, saveSize, lexIn, lex, after, Tok, emit, step, tokensFrom}
+use Rattle.promises.specs.Differences.{isMark, isQuoted}
 use Rattle.promises.proofs.Places.{take-map}
 use Rattle.promises.proofs.Shape.{σ, flat, blind, word-σ, gap-σ, quoted-σ, field-σ, eol-σ, inWord-σ, gapByte-σ}
 use Rattle.promises.proofs.ShapeNumber.{ap-cond}
 use Rattle.promises.proofs.ShapeTokens.{numberOr-σ}
 
--- the marks that no change may touch, and a byte with all but them washed out
-unfoldable pub isMark : ℕ → Bool
-isMark b = is 39 b || is 34 b || is 59 b || isEol b
-
+-- a byte with all but the marks washed out
 unfoldable pub μ : ℕ → ℕ
 μ b = cond (isMark b) b 120
 
@@ -41,7 +39,7 @@ opens b = is 39 b || is 34 b || is 59 b
 
 -- a quoted value or a text field
 unfoldable pub veiled : Class → Bool
-veiled (value k) = leb 11 k && leb k 13
+veiled (value k) = isQuoted k
 veiled block = false
 veiled loop = false
 veiled save = false
@@ -145,7 +143,7 @@ isVeiled : Lexed → Bool
 isVeiled x = veiled (x .class)
 
 number-bare : (p : Parts) (n : ℕ) → isVeiled (lexed (cond (within p) (value (cond (p .unc .here) 15 14)) overLimit) n) ≡ false
-unfolding isVeiled lexed veiled
+unfolding isVeiled lexed veiled isQuoted
 number-bare p n = go (within p) (p .unc .here)
   where
     go : (a b : Bool) → veiled (cond a (value (cond b 15 14)) overLimit) ≡ false
@@ -166,17 +164,17 @@ cond-same true x = refl
 cond-same false x = refl
 
 value-bare : (b : ℕ) (s : List ℕ) → opens b ≡ false → isVeiled (lexValue b s) ≡ false
-unfolding lexValue opens veiled
+unfolding lexValue opens veiled isQuoted
 value-bare b s h =
     rw (or-l (is 39 b) (is 34 b) (or-l (is 39 b || is 34 b) (is 59 b) h), or-r (is 39 b) (is 34 b) (or-l (is 39 b || is 34 b) (is 59 b) h), or-r (is 39 b || is 34 b) (is 59 b) h)
     (simp (ap-cond isVeiled, leaf, word-bare, cond-same))
 
 lexIn-bare : (m : Mode) (b : ℕ) (s : List ℕ) → opens b ≡ false → isVeiled (lexIn m (b ∷ s)) ≡ false
-unfolding lexIn veiled
+unfolding lexIn veiled isQuoted
 lexIn-bare m b s h = simp (ap-cond isVeiled, leaf, value-bare b s h, cond-same)
 
 lex-bare : (m : Mode) (b : ℕ) (s : List ℕ) → opens b ≡ false → isVeiled (lex m (b ∷ s)) ≡ false
-unfolding lex veiled
+unfolding lex veiled isQuoted
 lex-bare before b s h = simp (ap-cond isVeiled, leaf, cond-same)
 lex-bare inBlock b s h = lexIn-bare inBlock b s h
 lex-bare inFrame b s h = lexIn-bare inFrame b s h
@@ -217,10 +215,6 @@ opens-not f p q r b e = go (eqb b 39) refl (eqb b 34) refl (eqb b 59) refl e
     go false h false i true j w = rw (eqb-true b 59 j) r
     go false h false i false j w = absurd (false≢true w)
 
-not-f : (b : Bool) → not b ≡ true → b ≡ false
-not-f true e = sym e
-not-f false e = refl
-
 -- a keyword has neither digits nor marks
 keyByte : ℕ → Bool
 keyByte c = flat (λ b. is c (lower b)) && (not (is c (lower 39)) && (not (is c (lower 34)) && not (is c (lower 59))))
@@ -242,7 +236,7 @@ starts-near (c ∷ k) e (mark {b} {b′} {s} {s′} h o) =
     let f : ℕ → Bool = λ b. is c (lower b) in
     let e₁ = and-l (keyByte c) (keyBytes k) e in
     let x = and-r (flat f) _ e₁ in
-    let z : f b ≡ false = opens-not (λ b. is c (lower b)) (not-f (f 39) (and-l (not (f 39)) _ x)) (not-f (f 34) (and-l (not (f 34)) _ (and-r (not (f 39)) _ x))) (not-f (f 59) (and-r (not (f 34)) _ (and-r (not (f 39)) _ x))) b o in
+    let z : f b ≡ false = opens-not (λ b. is c (lower b)) (not-true (f 39) (and-l (not (f 39)) _ x)) (not-true (f 34) (and-l (not (f 34)) _ (and-r (not (f 39)) _ x))) (not-true (f 59) (and-r (not (f 34)) _ (and-r (not (f 39)) _ x))) b o in
     let z′ : f b′ ≡ false = sym (blind₂ f (and-l (flat f) _ e₁) b b′ h) ∙ z in
     rw (z, z′)
 
@@ -251,56 +245,14 @@ unfoldable pub hasMark : List ℕ → Bool
 hasMark [] = false
 hasMark (b ∷ s) = opens b || hasMark s
 
-mark-append : (x y : List ℕ) → hasMark x ≡ false → hasMark y ≡ false → hasMark (x ++ y) ≡ false
-unfolding hasMark
-mark-append [] y p q = q
-mark-append (b ∷ x) y p q = rw (or-l (opens b) (hasMark x) p, mark-append x y (or-r (opens b) (hasMark x) p) q)
-
-digit-no-mark : (c : ℕ) → isDigit c ≡ true → opens c ≡ false
-unfolding flat allBelow opens is
-digit-no-mark c d = digit-not opens refl c d
-
-digits-no-mark : (ds : List ℕ) → allDigits ds ≡ true → hasMark ds ≡ false
-unfolding hasMark allDigits
-digits-no-mark [] a = refl
-digits-no-mark (d ∷ ds) a = rw (digit-no-mark d (and-l (isDigit d) (allDigits ds) a), digits-no-mark ds (and-r (isDigit d) (allDigits ds) a))
-
-sign-no-mark : {sg : List ℕ} → Sign sg → hasMark sg ≡ false
-unfolding hasMark opens is
-sign-no-mark unsigned = refl
-sign-no-mark plus = refl
-sign-no-mark minus = refl
-
-bracket-no-mark : {w : List ℕ} {u : Part} → Bracket w u → hasMark w ≡ false
-unfolding hasMark opens is
-bracket-no-mark unbracketed = refl
-bracket-no-mark (bracketed ds a) = mark-append ds (41 ∷ []) (digits-no-mark ds a) refl
-
-letter-no-mark : (c : ℕ) → (is 101 c || is 69 c) ≡ true → opens c ≡ false
-unfolding opens is
-letter-no-mark c e = or-is (λ x. opens x ≡ false) 101 69 refl refl c e
-
-exponent-no-mark : {w : List ℕ} {e u : Part} → Exponent w e u → hasMark w ≡ false
-unfolding hasMark
-exponent-no-mark (unscaled k) = bracket-no-mark k
-exponent-no-mark (scaled c {sg} {w} ds l s a n k) = rw (letter-no-mark c l, mark-append sg (ds ++ w) (sign-no-mark s) (mark-append ds w (digits-no-mark ds a) (bracket-no-mark k)))
-
-point-no-mark : {w f : List ℕ} {e u : Part} → Point w f e u → hasMark w ≡ false
-unfolding hasMark opens is
-point-no-mark (whole x) = exponent-no-mark x
-point-no-mark (pointed {w} ds a x) = mark-append ds w (digits-no-mark ds a) (exponent-no-mark x)
+all-no-mark : (w : List ℕ) → all (λ b. not (opens b)) w ≡ true → hasMark w ≡ false
+unfolding hasMark all
+all-no-mark [] e = refl
+all-no-mark (b ∷ w) e = rw (not-true (opens b) (and-l (not (opens b)) _ e), all-no-mark w (and-r (not (opens b)) _ e))
 
 number-no-mark : (w : List ℕ) → isNumber (parts w) ≡ true → hasMark w ≡ false
-unfolding isNumber parts
-number-no-mark w h =
-    let s = sign w in
-    let i = digits (s .left) in
-    let f = point (i .left) in
-    let e = exponent (f .left) in
-    let q = bracket-view (e .left) (and-l (isEmpty ((bracket (e .left)) .left)) (not (isEmpty (i .got) && isEmpty (f .got))) h) in
-    let j : w ≡ s .got ++ (i .got ++ i .left) = sign-split w ∙ ap (λ r. s .got ++ r) (digits-split (s .left)) in
-    subst (λ r. hasMark r ≡ false) (sym j)
-    (mark-append (s .got) _ (sign-no-mark (sign-got w)) (mark-append (i .got) _ (digits-no-mark (i .got) (digits-got (s .left))) (point-no-mark (point-view (i .left) (exponent-view (f .left) q)))))
+unfolding allBelow all others opens is
+number-no-mark w h = all-no-mark w (number-made (λ b. not (opens b)) refl refl w h)
 
 mark-no-number : (w : List ℕ) → hasMark w ≡ true → isNumber (parts w) ≡ false
 mark-no-number w h = go (isNumber (parts w)) refl
@@ -318,10 +270,6 @@ grow : {b b′ : ℕ} {w w′ : List ℕ} → σ b ≡ σ b′ → Words w w′ 
 unfolding hasMark
 grow h (alike e) = alike (ap₂ {C = List ℕ} (λ x r. x ∷ r) h e)
 grow {b} {b′} h (marked p q) = marked (rw p (or-true (opens b))) (rw q (or-true (opens b′)))
-  where
-    or-true : (a : Bool) → a || true ≡ true
-    or-true true = refl
-    or-true false = refl
 
 opens₂ : (b b′ : ℕ) → σ b ≡ σ b′ → opens b ≡ opens b′
 unfolding flat allBelow opens is

@@ -1,4 +1,4 @@
--- The second half of demand 3: what a text's records leave out does not show.
+-- Proved: two texts that are alike place by place, but for what stands inside quoted tokens, are related as Veil asks (rel-of). Assumes nothing.
 use Prim.Native.Nat.{ℕ, zero, suc, _+_, _<_}
 use mathlib.Core.Bool.{true≢false, false≢true, Bool, true, false, not, cond, _&&_, _||_}
 use mathlib.Core.Path.{_≡_, refl, sym, ap, ap₂, _∙_}
@@ -13,8 +13,9 @@ use Rattle.text.proofs.Ranges.{allBelow, digit-not}
 use Rattle.text.proofs.Bools.{and-l, and-r}
 use Rattle.values.specs.Values.{Class, Lexed}
 use Rattle.items.specs.Tokens.{Mode, lex, after, Tok, tok, emit, step, tokensFrom}
+use Rattle.promises.specs.Differences.{isMark}
 use Rattle.promises.proofs.Shape.{σ, flat, blind}
-use Rattle.promises.proofs.Veil.{isMark, μ, veiled, Byte, isZero, relEmit, relStep, Rel}
+use Rattle.promises.proofs.Veil.{μ, veiled, Byte, isZero, relEmit, relStep, Rel}
 
 -- place i is inside the token, if that is a quoted value or a text field
 unfoldable pub insideTok : Tok → ℕ → Bool
@@ -109,7 +110,7 @@ Allowed s k m q o j = Either (insideAny (tokensFrom s k m o) (o + j) ≡ true) (
 unfoldable pub Rest : List ℕ → List ℕ → (ℕ → Type 0) → Type 0
 Rest s s′ A = (j : ℕ) → j < length s → Close (A j) (getD s j 0) (getD s′ j 0)
 
-all-same : (s s′ : List ℕ) → length s ≡ length s′ → Rest s s′ (λ j. ⊥) → map σ s ≡ map σ s′
+pub all-same : (s s′ : List ℕ) → length s ≡ length s′ → Rest s s′ (λ j. ⊥) → map σ s ≡ map σ s′
 unfolding Rest
 all-same [] [] e h = refl
 all-same [] (b ∷ s′) e h = absurd (omega arith)

@@ -8,7 +8,7 @@ use Rattle.records.specs.declared.Kind.the-variants.{NoKind, Block, Fram
 use Rattle.records.specs.declared.Shape.{Shape}
 use Rattle.records.specs.declared.Shape.the-variants.{Empty, Place, Content, Count, Parts, PartsUncertain}
 
-unfoldable pub numberOf : Kind → ℕ
+abbrev pub numberOf : Kind → ℕ
 numberOf NoKind = 0
 numberOf Block = 1
 numberOf FrameOpen = 2
