@@ -107,9 +107,9 @@ chuntarek_answer chuntarek_content(const uint8_t *store, size_t store_len, const
 /* The part of the area that holds that content, always within the area; 0, 0 where chuntarek_content refuses. */
 chuntarek_part chuntarek_content_part(const uint8_t *store, size_t store_len, const uint8_t *area, size_t area_len, uint64_t record);
 
-/* The record at this byte offset of the store, for a walk from 0 along next, in time linear in the store: number 0, or 14 and all else
- * 0 where no whole record starts there, as at the store's end. It looks at that record alone: whether the store is sound is for
- * chuntarek_content or chuntarek_names to say, and need not be asked of what chuntarek_read has just written. */
+/* The record at this byte offset of a store of chuntarek_read, for a walk from 0 along next that takes time linear in the store: number
+ * 0, or 14 and all else 0 where no whole record starts there, as at the store's end. It looks at that record alone: whether the store
+ * is sound is for chuntarek_content or chuntarek_names to say, and need not be asked of what chuntarek_read has just written. */
 chuntarek_record chuntarek_record_at(const uint8_t *store, size_t store_len, const uint8_t *area, size_t area_len, uint64_t at);
 
 #ifdef __cplusplus

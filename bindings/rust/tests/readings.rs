@@ -176,6 +176,20 @@ fn line_ends_are_taken_greedily_from_the_left() {
 }
 
 #[test]
+fn records_have_places_over_every_line_end() {
+    let document = document(b"data_x\n\n_a\r\n1 _b\n\r\n?");
+    let places: Vec<(u64, u64, u64)> = document
+        .records()
+        .filter_map(|record| record.place)
+        .map(|place| (place.offset, place.line, place.column))
+        .collect();
+    assert_eq!(
+        places,
+        [(0, 1, 1), (8, 3, 1), (12, 4, 1), (14, 4, 3), (19, 6, 1)]
+    );
+}
+
+#[test]
 fn bytes_of_128_and_more_are_refused_first() {
     refused(b"x \x80", 2, 2, 1, 3, 0);
     refused(b"data_x\n_a '\xc3\xa9'", 2, 11, 2, 5, 0);
