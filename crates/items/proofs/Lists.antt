@@ -6,7 +6,9 @@ use mathlib.Core.List.{List, [], _∷_}
 use mathlib.Core.Logic.{_⊎_, inl, inr, ⊎-elim}
 use native.Mathlib.Numerals.{add-one}
 use native.Mathlib.Omega.{arith}
-use lib.ListN.{length, drop}
+use lib.Dec.{eqb}
+use lib.ListN.{length, drop, getD, drop-of-length-le}
+use lib.Seq.{drop-cons}
 use Rattle.text.specs.Bytes.{is}
 use Rattle.text.specs.Gaps.{gap, gapEnd}
 use Rattle.text.proofs.Gaps.{gap-from, gap-within, gap-none}
@@ -166,3 +168,12 @@ value-stop s o g h =
     let q : foundAt s o ≡ wanted (x .class) (x .size) = found-wanted inBlock s o in
     rw (f .1, q, ← wanted-over (x .class) (x .size), ← wanted-why (x .class) (x .size))
     (values-nil (tok x o) (f .0) (no-value (x .class) (x .size) (λ k w e. h k w (q ∙ e))))
+
+-- the test for a tag
+pub tag-past : (s : List ℕ) (o : ℕ) → length s ≤ o → false ≡ tagAt s o
+unfolding tagAt tagFirst
+tag-past s o h = rw (drop-of-length-le s h)
+
+pub tag-here : (s : List ℕ) (o : ℕ) → o < length s → eqb (getD s o 0) 95 ≡ tagAt s o
+unfolding tagAt tagFirst is
+tag-here s o h = rw (drop-cons s o 0)
