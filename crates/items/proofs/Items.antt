@@ -4,6 +4,7 @@ use mathlib.Core.Path.{_≡_, refl, sym, ap, _∙_}
 use mathlib.Core.Bool.{Bool, true, false, cond, true≢false, false≢true}
 use mathlib.Core.List.{List, [], _∷_, _++_}
 use native.Mathlib.Omega.{arith}
+use borrow.Author.Tests.{ne-eqb}
 use lib.Dec.{eqb, eqb·suc-zero}
 use lib.ListN.{length, drop}
 use Rattle.text.specs.Bytes.{is}
@@ -27,7 +28,7 @@ use Rattle.items.specs.Decisions.{tokensAt, headAt, headWhy, whyNot}
 use Rattle.items.specs.Answers.{tagFirst, tagAt, foundAt, isOverFound, whyFound, namesOf, namesAt, headOver, valuesOf, valuesAt, rowsOf, itemAnswer, itemAt}
 use Rattle.items.proofs.Descent.{Ends, NoValue, value-or-not, names-ends, values-ends}
 use Rattle.items.proofs.Lexes.{lex-other, startsItem}
-use Rattle.items.proofs.Lists.{met-value, no-value, wanted-over, wanted-why}
+use Rattle.items.proofs.Lists.{met-value, no-value, wanted-over, wanted-why, NameStep, name-step, ValueStep, value-step}
 use Rattle.items.proofs.Offsets.{tokens-gap, tokens-ends, Met, met-loop, met-tag, first, Spot, both, both-spot}
 use Rattle.items.proofs.Passes.{Alike, names-alike, values-alike}
 use Rattle.items.proofs.Room.{sizes-cons, sizes-one, sizes-snoc, sizes-append, sizes-none, joined-assoc, added-none, upto-more}
@@ -208,3 +209,39 @@ item-none s o g e f =
     let x = lexIn inBlock (drop o s) in
     let n = first s o g inBlock in
     rw (n .1) (none-answer (x .class) (tok x o) (n .0) (no-item (drop o s) e f))
+
+-- rows as the code counts them
+pub rows-ragged : (o : ℕ) (names : Names) (values : Values) → (values .count % names .count ≡ 0 → ⊥) → Ragged o (values .count % names .count) (values .next) ≡ rowsOf o names values
+unfolding rowsOf
+rows-ragged o names values h = rw (ne-eqb (values .count % names .count) 0 h)
+
+pub rows-whole : (o : ℕ) (names : Names) (values : Values) → values .count % names .count ≡ 0
+    → Loop (values .next) (added (joined (joined (added noSizes 5 5) (names .sizes)) (values .sizes)) 7 0) (values .why) ≡ rowsOf o names values
+unfolding rowsOf
+rows-whole o names values h = rw h
+
+-- a tag as the code reads it: its end, where what follows stands, and what is found there
+pub record TagRead (s : List ℕ) (o end stop : ℕ) (f : Found) : Type 0 where
+  pub bare : gap (drop o s) ≡ 0
+  pub tagged : tagAt s o ≡ true
+  pub ends : end ≡ wordEnd s o
+  pub stops : stop ≡ gapEnd s end
+  pub finds : f ≡ foundAt s stop
+
+module _ (s : List ℕ) (o end stop : ℕ) (f : Found) (r : TagRead s o end stop f) where
+  pub tag-onward : (o < end) × (end ≤ length s)
+  tag-onward = let n = name-step s o (r .bare) (r .tagged) in (rw (r .ends) (n .onward), rw (r .ends) (n .within))
+
+  stop-bare : gap (drop stop s) ≡ 0
+  stop-bare = rw (r .stops) (gap-none s end)
+
+  pub tag-value-within : (k w : ℕ) → f ≡ Value k w → (0 < w) × (stop + w ≤ length s)
+  tag-value-within k w e = let v = value-step s stop k w stop-bare (sym (r .finds) ∙ e) in (v .some-bytes, v .within)
+
+  pub tag-value : (k w next : ℕ) (z : Sizes) → f ≡ Value k w → next ≡ gapEnd s (stop + w) → z ≡ added (added noSizes 4 (end - o)) k w → Single next z ≡ itemAt s o
+  tag-value k w next z e p q =
+      rw (p, q, r .stops, r .ends) (sym (item-value s o k w (r .bare) (r .tagged) (rw (← r .ends, ← r .stops) (sym (r .finds) ∙ e))))
+
+  pub tag-alone : ((k w : ℕ) → f ≡ Value k w → ⊥) → cond (isOverFound f) (Over stop) (TagAlone o stop (whyFound f)) ≡ itemAt s o
+  tag-alone n =
+      rw (r .finds, r .stops, r .ends) (sym (item-alone s o (r .bare) (r .tagged) (λ k w e. n k w (rw (r .finds, r .stops, r .ends) e))))

@@ -1,3 +1,11 @@
+-- `items::close_frame`: `save_` stands where the items stopped, or the frame is open. Assumes nothing.
+use Prim.Native.Nat.{_*_}
+use mathlib.Core.Path.{_≡_, refl, sym, _∙_}
+use native.Mathlib.Omega.{arith}
+use borrow.Author.Tests.{not-true, not-false}
+use Rattle.items.specs.Reading.{limit}
+use Rattle.items.specs.Frames.{frameEnd}
+use Rattle.items.proofs.Room.{upto-more}
 use borrow.Author.Needs.{needs}
 use Rattle.items.proofs.close_frame.Statement.{statement}
 use Rattle.items.proofs.close_frame.Tie as tie
@@ -7,29 +15,26 @@ use Rattle.items.proofs.Sizes.add.Reads as add-reads
 use Rattle.text.proofs.gap_end.Reads as gap-end-reads
 use Rattle.words.proofs.at_save.Reads as at-save-reads
 
--- src/lib.rt:387:9
 at-save-requires : tie.Need-at-save-requires
 at-save-requires c κs = search needs
 
--- src/lib.rt:388:9
 returns : tie.Need-returns
-returns c = ?
+unfolding frameEnd
+returns c = rw (← c .before .at-save .ensures, not-true _ (c .if1 .taken))
 
--- src/lib.rt:393:32
 add-gap-end : tie.Need-add-gap-end
 add-gap-end c = search needs
 
--- src/lib.rt:393:15
 gap-end-requires : tie.Need-gap-end-requires
 gap-end-requires c κs = search needs
 
--- src/lib.rt:394:16
 add-requires : tie.Need-add-requires
-add-requires c κs = ?
+unfolding limit
+add-requires c κs = (upto-more limit (limit * limit) _ (c .before .before .before .before .pre .1) (omega arith), omega arith)
 
--- src/lib.rt:383:1
 returns-2 : tie.Need-returns-2
-returns-2 c = ?
+unfolding frameEnd
+returns-2 c = rw (c .add .ensures, c .before .gap-end .ensures, ← c .before .before .before .at-save .ensures, not-false _ (c .before .before .if1 .left))
 
 pub close-frame-spec : {M : Type 1} → statement M
 close-frame-spec =

@@ -13,7 +13,7 @@ returns : tie.Need-returns
 returns c = search needs
 
 returns-2 : tie.Need-returns-2
-returns-2 c = sym (not-over _ (c .match .keys2))
+returns-2 c = sym (not-over (c .before .args .found) (c .match .keys2))
 
 pub is-over-spec : {M : Type 1} → statement M
 is-over-spec = tie.close (tie.spec enum-told returns returns-2)

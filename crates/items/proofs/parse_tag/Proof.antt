@@ -1,3 +1,16 @@
+-- `items::parse_tag`: by what is found behind the tag. Assumes nothing.
+use Prim.Native.Nat.{ℕ, _*_, _≤_, _<_, _+_, _-_}
+use mathlib.Core.Path.{_≡_, refl, sym, _∙_, ap}
+use native.Mathlib.Omega.{arith}
+use lib.ListN.{length}
+use Rattle.text.specs.Gaps.{gapEnd}
+use Rattle.text.proofs.Gaps.{gap-none, gap-within}
+use Rattle.words.specs.Words.{wordEnd}
+use Rattle.items.specs.Reading.{limit}
+use Rattle.items.specs.Sizes.{Upto, noSizes, added}
+use Rattle.items.proofs.Choices.{not-value}
+use Rattle.items.proofs.Items.{TagRead, tag-onward, tag-value-within, tag-value, tag-alone}
+use Rattle.items.proofs.Room.{upto-none, upto-added, upto-more}
 use borrow.Author.Needs.{needs}
 use Rattle.items.proofs.parse_tag.Statement.{statement}
 use Rattle.items.proofs.parse_tag.Tie as tie
@@ -11,65 +24,84 @@ use Rattle.items.proofs.why_not.Reads as why-not-reads
 use Rattle.text.proofs.gap_end.Reads as gap-end-reads
 use Rattle.words.proofs.parse_identifier.Reads as parse-identifier-reads
 
--- src/lib.rt:304:9
 parse-identifier-requires : tie.Need-parse-identifier-requires
 parse-identifier-requires c κs = search needs
 
--- src/lib.rt:305:9
 gap-end-requires : tie.Need-gap-end-requires
 gap-end-requires c κs = search needs
 
--- src/lib.rt:306:9
 find-value-requires : tie.Need-find-value-requires
 find-value-requires c κs = search needs
 
--- src/lib.rt:307:27
 enum-known-found : tie.Need-enum-known-found
 enum-known-found c = search needs
 
--- src/lib.rt:308:21
 none-requires : tie.Need-none-requires
 none-requires c κs = search needs
 
--- src/lib.rt:308:42
 sub-add : tie.Need-sub-add
-sub-add c = ?
+sub-add c =
+    let b = c .before .before .before .before in
+    let a = b .before .before .before .before .args in
+    let r : TagRead (a .s .now) (a .at) (b .before .before .parse-identifier .result) (b .before .gap-end .result) (b .find-value .result) = record { bare = b .before .before .before .before .pre .0 .none; tagged = b .before .before .before .before .pre .1; ends = b .before .before .parse-identifier .ensures; stops = b .before .gap-end .ensures; finds = b .find-value .ensures } in
+    omega (arith, tag-onward (a .s .now) (a .at) (b .before .before .parse-identifier .result) (b .before .gap-end .result) (b .find-value .result) r .0)
 
--- src/lib.rt:308:21
 add-requires : tie.Need-add-requires
-add-requires c κs = ?
+unfolding limit
+add-requires c κs =
+    let b = c .before .before .before .before in
+    let a = b .before .before .before .before .args in
+    let r : TagRead (a .s .now) (a .at) (b .before .before .parse-identifier .result) (b .before .gap-end .result) (b .find-value .result) = record { bare = b .before .before .before .before .pre .0 .none; tagged = b .before .before .before .before .pre .1; ends = b .before .before .parse-identifier .ensures; stops = b .before .gap-end .ensures; finds = b .find-value .ensures } in
+    (rw (c .none .ensures) (upto-none (limit * limit)), omega (arith, tag-onward (a .s .now) (a .at) (b .before .before .parse-identifier .result) (b .before .gap-end .result) (b .find-value .result) r .1, b .before .before .before .before .pre .0 .small))
 
--- src/lib.rt:308:13
 add-requires-2 : tie.Need-add-requires-2
-add-requires-2 c κs = ?
+unfolding limit
+add-requires-2 c κs =
+    let b = c .before .before .before .before .before in
+    let a = b .before .before .before .before .args in
+    let r : TagRead (a .s .now) (a .at) (b .before .before .parse-identifier .result) (b .before .gap-end .result) (b .find-value .result) = record { bare = b .before .before .before .before .pre .0 .none; tagged = b .before .before .before .before .pre .1; ends = b .before .before .parse-identifier .ensures; stops = b .before .gap-end .ensures; finds = b .find-value .ensures } in
+    let small = b .before .before .before .before .pre .0 .small in
+    let w = tag-onward (a .s .now) (a .at) (b .before .before .parse-identifier .result) (b .before .gap-end .result) (b .find-value .result) r in
+    let v = tag-value-within (a .s .now) (a .at) (b .before .before .parse-identifier .result) (b .before .gap-end .result) (b .find-value .result) r _ _ (c .before .before .before .found .given .1) in
+    (rw (c .add .ensures, c .before .none .ensures) (upto-added 0 4 _ (limit * limit) noSizes (upto-none 0) (omega arith) (omega (arith, w .1, small))), omega (arith, v .1, small))
 
--- src/lib.rt:310:36
 add-gap-end : tie.Need-add-gap-end
-add-gap-end c = ?
+unfolding limit
+add-gap-end c =
+    let b = c .before .before .before .before .before .before in
+    let a = b .before .before .before .before .args in
+    let r : TagRead (a .s .now) (a .at) (b .before .before .parse-identifier .result) (b .before .gap-end .result) (b .find-value .result) = record { bare = b .before .before .before .before .pre .0 .none; tagged = b .before .before .before .before .pre .1; ends = b .before .before .parse-identifier .ensures; stops = b .before .gap-end .ensures; finds = b .find-value .ensures } in
+    omega (arith, tag-value-within (a .s .now) (a .at) (b .before .before .parse-identifier .result) (b .before .gap-end .result) (b .find-value .result) r _ _ (c .before .before .before .before .found .given .1) .1, b .before .before .before .before .pre .0 .small)
 
--- src/lib.rt:310:19
 gap-end-requires-2 : tie.Need-gap-end-requires-2
 gap-end-requires-2 c κs = search needs
 
--- src/lib.rt:309:9
 returns : tie.Need-returns
-returns c = ?
+returns c =
+    let b = c .before .before .before .before .before .before .before in
+    let a = b .before .before .before .before .args in
+    let r : TagRead (a .s .now) (a .at) (b .before .before .parse-identifier .result) (b .before .gap-end .result) (b .find-value .result) = record { bare = b .before .before .before .before .pre .0 .none; tagged = b .before .before .before .before .pre .1; ends = b .before .before .parse-identifier .ensures; stops = b .before .gap-end .ensures; finds = b .find-value .ensures } in
+    tag-value (a .s .now) (a .at) (b .before .before .parse-identifier .result) (b .before .gap-end .result) (b .find-value .result) r _ _ _ _ (c .before .before .before .before .before .found .given .1) (c .gap-end2 .ensures) (c .before .add2 .ensures ∙ rw (c .before .before .add .ensures, c .before .before .before .none .ensures))
 
--- src/lib.rt:314:8
 is-over-requires : tie.Need-is-over-requires
 is-over-requires c κs = search needs
 
--- src/lib.rt:315:9
 returns-2 : tie.Need-returns-2
-returns-2 c = ?
+returns-2 c =
+    let b = c .before .before .before in
+    let a = b .before .before .before .before .args in
+    let r : TagRead (a .s .now) (a .at) (b .before .before .parse-identifier .result) (b .before .gap-end .result) (b .find-value .result) = record { bare = b .before .before .before .before .pre .0 .none; tagged = b .before .before .before .before .pre .1; ends = b .before .before .parse-identifier .ensures; stops = b .before .gap-end .ensures; finds = b .find-value .ensures } in
+    rw (sym (c .before .is-over .ensures) ∙ c .if1 .taken) at (tag-alone (a .s .now) (a .at) (b .before .before .parse-identifier .result) (b .before .gap-end .result) (b .find-value .result) r (not-value (b .find-value .result) (c .before .before .match .keys2)))
 
--- src/lib.rt:320:14
 why-not-requires : tie.Need-why-not-requires
 why-not-requires c κs = search needs
 
--- src/lib.rt:300:1
 returns-3 : tie.Need-returns-3
-returns-3 c = ?
+returns-3 c =
+    let b = c .before .before .before .before in
+    let a = b .before .before .before .before .args in
+    let r : TagRead (a .s .now) (a .at) (b .before .before .parse-identifier .result) (b .before .gap-end .result) (b .find-value .result) = record { bare = b .before .before .before .before .pre .0 .none; tagged = b .before .before .before .before .pre .1; ends = b .before .before .parse-identifier .ensures; stops = b .before .gap-end .ensures; finds = b .find-value .ensures } in
+    rw (c .why-not .ensures) (rw (sym (c .before .before .is-over .ensures) ∙ c .before .if1 .left) at (tag-alone (a .s .now) (a .at) (b .before .before .parse-identifier .result) (b .before .gap-end .result) (b .find-value .result) r (not-value (b .find-value .result) (c .before .before .before .match .keys2))))
 
 pub parse-tag-spec : {M : Type 1} → statement M
 parse-tag-spec =

@@ -13,7 +13,7 @@ returns : tie.Need-returns
 returns c = search needs
 
 returns-2 : tie.Need-returns-2
-returns-2 c = sym (not-missing _ (c .match .keys2))
+returns-2 c = sym (not-missing (c .before .args .found) (c .match .keys2))
 
 pub why-not-spec : {M : Type 1} → statement M
 why-not-spec = tie.close (tie.spec enum-known-found returns returns-2)
