@@ -245,3 +245,30 @@ module _ (s : List ℕ) (o end stop : ℕ) (f : Found) (r : TagRead s o end stop
   pub tag-alone : ((k w : ℕ) → f ≡ Value k w → ⊥) → cond (isOverFound f) (Over stop) (TagAlone o stop (whyFound f)) ≡ itemAt s o
   tag-alone n =
       rw (r .finds, r .stops, r .ends) (sym (item-alone s o (r .bare) (r .tagged) (λ k w e. n k w (rw (r .finds, r .stops, r .ends) e))))
+
+-- a loop as the code reads it
+module _ (s : List ℕ) (o : ℕ) (g : gap (drop o s) ≡ 0) (e : startsAt keyLoop s o ≡ true) (names : Names) (n : names ≡ namesAt s (o + 5)) where
+  pub loop-from : o + 5 ≤ length s
+  unfolding lexed
+  loop-from = met-loop s o g e .within
+
+  pub loop-named : (o + 5 ≤ names .next) × (names .next ≤ length s) × (gap (drop (names .next) s) ≡ 0) × Upto (names .next - (o + 5)) (names .sizes)
+  loop-named = let h = names-end s (o + 5) loop-from in rw n (h .onward, h .within, h .bare, h .fits)
+
+  pub loop-none : names .count ≡ 0 → NoNames o ≡ itemAt s o
+  unfolding loopAnswer
+  loop-none z = sym (item-loop s o g e ∙ rw (← n, z))
+
+  loop-some : (values : Values) → values ≡ valuesAt s (names .next) → (names .count ≡ 0 → ⊥) → itemAt s o ≡ cond (values .over) (Over (values .next)) (rowsOf o names values)
+  unfolding loopAnswer
+  loop-some values v h = item-loop s o g e ∙ rw (← n, ← v, ne-eqb (names .count) 0 h)
+
+  module _ (values : Values) (v : values ≡ valuesAt s (names .next)) (h : names .count ≡ 0 → ⊥) where
+    pub loop-valued : Upto (values .next - names .next) (values .sizes) × (values .next ≤ length s)
+    loop-valued = let x = values-end s (names .next) (loop-named .1) in rw v (x .fits, x .within)
+
+    pub loop-over : values .over ≡ true → Over (values .next) ≡ itemAt s o
+    loop-over c = sym (loop-some values v h ∙ rw c)
+
+    pub loop-rows : values .over ≡ false → rowsOf o names values ≡ itemAt s o
+    loop-rows c = sym (loop-some values v h ∙ rw c)

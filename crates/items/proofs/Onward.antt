@@ -16,6 +16,7 @@ use Rattle.items.specs.declared.Decision.{Decision}
 use Rattle.items.specs.declared.Decision.the-variants.{Fits, NoData, OpenFrame}
 use Rattle.items.specs.declared.Step.{Step}
 use Rattle.items.specs.declared.Step.the-variants.{Read, Refused}
+use Rattle.items.specs.declared.Item.{Item as Answered}
 use Rattle.items.specs.declared.Inside.{Inside}
 use Rattle.items.specs.declared.Inside.the-variants.{Read as ReadInside, Dropped, Refused as RefusedInside}
 use Rattle.items.specs.Tokens.{Mode, before, inBlock, inFrame, lexIn, lex, after, Tok, tok, tokens, tokensFrom}
@@ -322,3 +323,38 @@ no-data s o g e = let f = first s o g before in rw (f .1, e)
 pub decided-from : (s : List ℕ) → decided s ≡ blockAt s (gapEnd s 0)
 unfolding decided blockAt tokens
 decided-from s = rw (tokens-gap before s 0) (unfold tokensAt in refl)
+
+-- a heading's word lies in the text
+pub save-within : (s : List ℕ) (o : ℕ) → gap (drop o s) ≡ 0 → startsAt keySave s o ≡ true → (o < wordEnd s o) × (wordEnd s o ≤ length s)
+unfolding wordEnd lexed
+save-within s o g e = let m = met-open s o g e in (omega (arith, m .some-bytes), m .within)
+
+pub data-within : (s : List ℕ) (o : ℕ) → gap (drop o s) ≡ 0 → startsAt keyData s o ≡ true → (o < wordEnd s o) × (wordEnd s o ≤ length s)
+unfolding wordEnd lexed
+data-within s o g e = let m = met-data s o g e in (omega (arith, m .some-bytes), m .within)
+
+-- what a frame's item is, once it is known
+module _ (s : List ℕ) (a o : ℕ) (h : o ≤ length s) (g : gap (drop o s) ≡ 0) (i : Answered) (e : i ≡ itemAt s o) (x : Inside) (f : x ≡ inFrameOf i) where
+  inside-known : PassedInside s a o x
+  inside-known = rw (f, e) (item-inside s a o h g)
+
+  pub inside-read : (p : ℕ) (z : Sizes) → x ≡ ReadInside p z → Passed s (some a) o (some a) p z
+  unfolding PassedInside
+  inside-read p z q = rw q at inside-known
+
+  pub inside-dropped : (p : ℕ) → x ≡ Dropped p → DroppedAt s a o p
+  unfolding PassedInside
+  inside-dropped p q = rw q at inside-known
+
+  pub inside-refused : (d : Decision) → x ≡ RefusedInside d → (out : List Rec) → told d ≡ tells (left (some a) s o out)
+  unfolding PassedInside
+  inside-refused d q = rw q at inside-known
+
+-- what a part of the block is, once it is known
+pub stepped-read : (s : List ℕ) (o p : ℕ) (z : Sizes) (x : Step) → Stepped s o x → x ≡ Read p z → Passed s none o none p z
+unfolding Stepped
+stepped-read s o p z x h q = rw q at h
+
+pub stepped-refused : (s : List ℕ) (o : ℕ) (d : Decision) (x : Step) → Stepped s o x → x ≡ Refused d → (out : List Rec) → told d ≡ tells (left none s o out)
+unfolding Stepped
+stepped-refused s o d x h q = rw q at h

@@ -20,7 +20,7 @@ at-save-requires c κs = search needs
 
 returns : tie.Need-returns
 unfolding frameEnd
-returns c = rw (← c .before .at-save .ensures, not-true _ (c .if1 .taken))
+returns c = rw (← c .before .at-save .ensures, not-true (c .before .at-save .result) (c .if1 .taken))
 
 add-gap-end : tie.Need-add-gap-end
 add-gap-end c = search needs
@@ -34,7 +34,7 @@ add-requires c κs = (upto-more limit (limit * limit) _ (c .before .before .befo
 
 returns-2 : tie.Need-returns-2
 unfolding frameEnd
-returns-2 c = rw (c .add .ensures, c .before .gap-end .ensures, ← c .before .before .before .at-save .ensures, not-false _ (c .before .before .if1 .left))
+returns-2 c = rw (c .add .ensures, c .before .gap-end .ensures, ← c .before .before .before .at-save .ensures, not-false (c .before .before .before .at-save .result) (c .before .before .if1 .left))
 
 pub close-frame-spec : {M : Type 1} → statement M
 close-frame-spec =

@@ -1,3 +1,6 @@
+-- `items::parse_data_item`: a loop, a tag, or no item. Assumes nothing.
+use mathlib.Core.Path.{_≡_, refl, sym, _∙_}
+use Rattle.items.proofs.Items.{item-none}
 use borrow.Author.Needs.{needs}
 use Rattle.items.proofs.parse_data_item.Statement.{statement}
 use Rattle.items.proofs.parse_data_item.Tie as tie
@@ -8,33 +11,26 @@ use Rattle.items.proofs.parse_loop.Reads as parse-loop-reads
 use Rattle.items.proofs.parse_tag.Reads as parse-tag-reads
 use Rattle.words.proofs.at_loop.Reads as at-loop-reads
 
--- src/lib.rt:329:8
 at-loop-requires : tie.Need-at-loop-requires
 at-loop-requires c κs = search needs
 
--- src/lib.rt:330:9
 parse-loop-requires : tie.Need-parse-loop-requires
-parse-loop-requires c κs = ?
+parse-loop-requires c κs = (c .before .before .before .pre, sym (c .before .at-loop .ensures) ∙ c .if1 .taken)
 
--- src/lib.rt:330:9
 returns : tie.Need-returns
 returns c = search needs
 
--- src/lib.rt:332:8
 at-tag-requires : tie.Need-at-tag-requires
 at-tag-requires c κs = search needs
 
--- src/lib.rt:333:9
 parse-tag-requires : tie.Need-parse-tag-requires
-parse-tag-requires c κs = ?
+parse-tag-requires c κs = (c .before .before .before .before .before .pre, sym (c .before .at-tag .ensures) ∙ c .if2 .taken)
 
--- src/lib.rt:333:9
 returns-2 : tie.Need-returns-2
 returns-2 c = search needs
 
--- src/lib.rt:325:1
 returns-3 : tie.Need-returns-3
-returns-3 c = ?
+returns-3 c = sym (item-none _ _ (c .before .before .before .before .before .pre .none) (sym (c .before .before .before .at-loop .ensures) ∙ c .before .before .if1 .left) (sym (c .before .at-tag .ensures) ∙ c .if2 .left))
 
 pub parse-data-item-spec : {M : Type 1} → statement M
 parse-data-item-spec =

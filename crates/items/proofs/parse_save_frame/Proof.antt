@@ -1,3 +1,14 @@
+-- `items::parse_save_frame`: up to here records of these sizes are kept, and nothing else is changed of what is still answered. Assumes nothing.
+use Prim.Native.Nat.{ℕ, _*_, _≤_, _<_, _+_, _-_}
+use mathlib.Core.Path.{_≡_, refl, sym, _∙_, ap}
+use native.Mathlib.Omega.{arith}
+use lib.ListN.{length}
+use mathlib.Core.Option.{none, some}
+use Rattle.items.specs.Reading.{limit}
+use Rattle.items.specs.Sizes.{Upto, noSizes}
+use Rattle.items.specs.Frames.{Passed, Stepped}
+use Rattle.items.proofs.Onward.{save-within, frame-opens, inside-read, inside-dropped, inside-refused, passed-then, frame-ends, frame-refused}
+use Rattle.items.proofs.Room.{upto-none, upto-more}
 use Rattle.items.proofs.parse_save_frame.Statement.{statement}
 use Rattle.items.proofs.parse_save_frame.Tie as tie
 use Rattle.items.proofs.parse_save_frame.Reads as reads
@@ -12,78 +23,100 @@ use Rattle.text.proofs.gap_end.Reads as gap-end-reads
 use Rattle.words.proofs.parse_identifier.Reads as parse-identifier-reads
 
 abbrev Inv-loop : tie.InvT-loop
-Inv-loop s start end sizes₀ at₀ sizes at = ?
+Inv-loop s start end sizes₀ at₀ sizes at = Passed s none start (some start) at sizes
 
 abbrev μ-loop : tie.MeasureT-loop
-μ-loop s start end sizes₀ at₀ sizes at = ?
+μ-loop s start end sizes₀ at₀ sizes at = length s - at
 
--- src/lib.rt:403:9
 parse-identifier-requires : tie.Need-parse-identifier-requires Inv-loop μ-loop
-parse-identifier-requires c κs = ?
+parse-identifier-requires c κs = tt
 
--- src/lib.rt:404:21
 none-requires : tie.Need-none-requires Inv-loop μ-loop
-none-requires c κs = ?
+none-requires c κs = tt
 
--- src/lib.rt:404:42
 sub-add : tie.Need-sub-add Inv-loop μ-loop
-sub-add c = ?
+sub-add c =
+    let p = c .before .before .before .pre in
+    omega (arith, save-within _ _ (p .0 .none) (p .1) .0, c .before .parse-identifier .ensures)
 
--- src/lib.rt:404:9
 add-requires : tie.Need-add-requires Inv-loop μ-loop
-add-requires c κs = ?
+unfolding limit
+add-requires c κs =
+    let p = c .before .before .before .pre in
+    (rw (c .none .ensures) (upto-none (limit * limit)), omega (arith, save-within _ _ (p .0 .none) (p .1) .1, p .0 .small, c .before .parse-identifier .ensures))
 
--- src/lib.rt:405:9
 gap-end-requires : tie.Need-gap-end-requires Inv-loop μ-loop
-gap-end-requires c κs = ?
+gap-end-requires c κs = tt
 
--- src/lib.rt:406:5
 loop-holds : tie.Need-loop-holds Inv-loop μ-loop
-loop-holds c = ?
+loop-holds c =
+    let p = c .before .before .before .before .before .pre in
+    rw (c .gap-end .ensures, c .before .add .ensures, c .before .before .none .ensures, c .before .before .before .parse-identifier .ensures) (frame-opens _ _ (p .0 .none) (p .1))
 
--- src/lib.rt:407:31
 parse-data-item-requires : tie.Need-parse-data-item-requires Inv-loop μ-loop
-parse-data-item-requires c κs = ?
+parse-data-item-requires c κs = record { within = c .loop .inv .within; small = c .before .before .before .before .before .before .pre .0 .small; none = c .loop .inv .bare }
 
--- src/lib.rt:407:13
 in-frame-requires : tie.Need-in-frame-requires Inv-loop μ-loop
-in-frame-requires c κs = ?
+in-frame-requires c κs = tt
 
--- src/lib.rt:409:28
 enum-known-inside : tie.Need-enum-known-inside Inv-loop μ-loop
-enum-known-inside c = ?
+enum-known-inside c = c .match .keys1
 
--- src/lib.rt:410:17
 join-requires : tie.Need-join-requires Inv-loop μ-loop
-join-requires c κs = ?
+unfolding limit
+join-requires c κs =
+    let b = c .before .before .before in
+    let l = b .before .before .loop in
+    let a = b .before .before .before .before .before .before .before .before .args in
+    let small = c .before .before .before .before .before .before .before .before .before .before .before .pre .0 .small in
+    let r = inside-read (a .s .now) (a .start) (l .at) (l .inv .within) (l .inv .bare) _ (b .before .parse-data-item .ensures) _ (b .in-frame .ensures) _ _ (c .before .inside .given .1) in
+    (upto-more _ (limit * limit) _ (l .inv .fits) (omega (arith, l .inv .within, small)), upto-more _ (limit * limit) _ (r .fits) (omega (arith, r .within, small)))
 
--- src/lib.rt:406:5
 loop-less : tie.Need-loop-less Inv-loop μ-loop
-loop-less c = ?
+loop-less c =
+    let b = c .before .before .before .before in
+    let l = b .before .before .loop in
+    let a = b .before .before .before .before .before .before .before .before .args in
+    let r = inside-read (a .s .now) (a .start) (l .at) (l .inv .within) (l .inv .bare) _ (b .before .parse-data-item .ensures) _ (b .in-frame .ensures) _ _ (c .before .before .inside .given .1) in
+    omega (arith, r .onward, r .within)
 
--- src/lib.rt:406:5
 loop-again : tie.Need-loop-again Inv-loop μ-loop
-loop-again c = ?
+loop-again c =
+    let b = c .before .before .before .before in
+    let l = b .before .before .loop in
+    let a = b .before .before .before .before .before .before .before .before .args in
+    let r = inside-read (a .s .now) (a .start) (l .at) (l .inv .within) (l .inv .bare) _ (b .before .parse-data-item .ensures) _ (b .in-frame .ensures) _ _ (c .before .before .inside .given .1) in
+    rw (c .join .ensures) (passed-then _ none (some _) (some _) _ (l .at) _ _ _ (l .inv) r)
 
--- src/lib.rt:413:31
 enum-known-inside-2 : tie.Need-enum-known-inside-2 Inv-loop μ-loop
-enum-known-inside-2 c = ?
+enum-known-inside-2 c = c .match .keys2
 
--- src/lib.rt:413:41
 close-frame-requires : tie.Need-close-frame-requires Inv-loop μ-loop
-close-frame-requires c κs = ?
+unfolding limit
+close-frame-requires c κs =
+    let b = c .before .before .before in
+    let l = b .before .before .loop in
+    let a = b .before .before .before .before .before .before .before .before .args in
+    let small = c .before .before .before .before .before .before .before .before .before .before .before .pre .0 .small in
+    let d = inside-dropped (a .s .now) (a .start) (l .at) (l .inv .within) (l .inv .bare) _ (b .before .parse-data-item .ensures) _ (b .in-frame .ensures) _ (c .before .inside2 .given .1) in
+    (record { within = d .within; small = small }, upto-more _ limit _ (l .inv .fits) (omega (arith, l .inv .within, small)))
 
--- src/lib.rt:413:41
 returns : tie.Need-returns Inv-loop μ-loop
-returns c = ?
+returns c =
+    let b = c .before .before .before .before in
+    let l = b .before .before .loop in
+    let a = b .before .before .before .before .before .before .before .before .args in
+    rw (c .close-frame .ensures) (frame-ends _ _ (l .at) _ (l .sizes) (l .inv) (inside-dropped (a .s .now) (a .start) (l .at) (l .inv .within) (l .inv .bare) _ (b .before .parse-data-item .ensures) _ (b .in-frame .ensures) _ (c .before .before .inside2 .given .1)))
 
--- src/lib.rt:414:31
 enum-known-inside-3 : tie.Need-enum-known-inside-3 Inv-loop μ-loop
-enum-known-inside-3 c = ?
+enum-known-inside-3 c = c .match .keys3
 
--- src/lib.rt:414:45
 returns-2 : tie.Need-returns-2 Inv-loop μ-loop
-returns-2 c = ?
+returns-2 c =
+    let b = c .before .before .before in
+    let l = b .before .before .loop in
+    let a = b .before .before .before .before .before .before .before .before .args in
+    frame-refused _ _ (l .at) (l .sizes) _ (l .inv) (inside-refused (a .s .now) (a .start) (l .at) (l .inv .within) (l .inv .bare) _ (b .before .parse-data-item .ensures) _ (b .in-frame .ensures) _ (c .before .inside3 .given .1))
 
 pub parse-save-frame-spec : {M : Type 1} → statement M
 parse-save-frame-spec =
