@@ -358,3 +358,14 @@ stepped-read s o p z x h q = rw q at h
 pub stepped-refused : (s : List ℕ) (o : ℕ) (d : Decision) (x : Step) → Stepped s o x → x ≡ Refused d → (out : List Rec) → told d ≡ tells (left none s o out)
 unfolding Stepped
 stepped-refused s o d x h q = rw q at h
+
+-- the text's start as the code finds it
+module _ (s : List ℕ) (o : ℕ) (e : o ≡ gapEnd s 0) where
+  pub start-bare : (o ≤ length s) × (gap (drop o s) ≡ 0)
+  start-bare = rw e (gap-within s 0 (omega arith), gap-none s 0)
+
+  pub decided-at : decided s ≡ blockAt s o
+  decided-at = decided-from s ∙ ap (blockAt s) (sym e)
+
+  pub decided-none : startsAt keyData s o ≡ false → told (NoData o) ≡ tells (decided s)
+  decided-none f = rw decided-at (no-data s o (start-bare .1) f)

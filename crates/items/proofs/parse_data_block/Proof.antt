@@ -1,3 +1,13 @@
+-- `items::parse_data_block`: up to here records of these sizes are kept, and the block's answer is what is still answered from here. Assumes nothing.
+use Prim.Native.Nat.{ℕ, _*_, _≤_, _<_, _+_, _-_}
+use mathlib.Core.Path.{_≡_, refl, sym, _∙_, ap}
+use native.Mathlib.Omega.{arith}
+use lib.ListN.{length}
+use Rattle.items.specs.Reading.{limit}
+use Rattle.items.specs.Sizes.{Upto, noSizes}
+use Rattle.items.specs.Frames.{Passed, Stepped}
+use Rattle.items.proofs.Onward.{data-within, Begun, block-begins, block-goes-on, block-ends, block-refused, stepped-read, stepped-refused}
+use Rattle.items.proofs.Room.{upto-none, upto-more}
 use Rattle.items.proofs.parse_data_block.Statement.{statement}
 use Rattle.items.proofs.parse_data_block.Tie as tie
 use Rattle.items.proofs.parse_data_block.Reads as reads
@@ -10,67 +20,81 @@ use Rattle.text.proofs.gap_end.Reads as gap-end-reads
 use Rattle.words.proofs.parse_identifier.Reads as parse-identifier-reads
 
 abbrev Inv-loop : tie.InvT-loop
-Inv-loop s start end sizes₀ at₀ sizes at = ?
+Inv-loop s start end sizes₀ at₀ sizes at = Begun s start at sizes
 
 abbrev μ-loop : tie.MeasureT-loop
-μ-loop s start end sizes₀ at₀ sizes at = ?
+μ-loop s start end sizes₀ at₀ sizes at = length s - at
 
--- src/lib.rt:435:9
 parse-identifier-requires : tie.Need-parse-identifier-requires Inv-loop μ-loop
-parse-identifier-requires c κs = ?
+parse-identifier-requires c κs = tt
 
--- src/lib.rt:436:21
 none-requires : tie.Need-none-requires Inv-loop μ-loop
-none-requires c κs = ?
+none-requires c κs = tt
 
--- src/lib.rt:436:42
 sub-add : tie.Need-sub-add Inv-loop μ-loop
-sub-add c = ?
+sub-add c =
+    let p = c .before .before .before .pre in
+    omega (arith, data-within _ _ (p .0 .none) (p .1) .0, c .before .parse-identifier .ensures)
 
--- src/lib.rt:436:9
 add-requires : tie.Need-add-requires Inv-loop μ-loop
-add-requires c κs = ?
+unfolding limit
+add-requires c κs =
+    let p = c .before .before .before .pre in
+    (rw (c .none .ensures) (upto-none (limit * limit)), omega (arith, data-within _ _ (p .0 .none) (p .1) .1, p .0 .small, c .before .parse-identifier .ensures))
 
--- src/lib.rt:437:9
 gap-end-requires : tie.Need-gap-end-requires Inv-loop μ-loop
-gap-end-requires c κs = ?
+gap-end-requires c κs = tt
 
--- src/lib.rt:438:5
 loop-holds : tie.Need-loop-holds Inv-loop μ-loop
-loop-holds c = ?
+loop-holds c =
+    let p = c .before .before .before .before .before .pre in
+    rw (c .gap-end .ensures, c .before .add .ensures, c .before .before .none .ensures, c .before .before .before .parse-identifier .ensures) (block-begins _ _ (p .0 .none) (p .1))
 
--- src/lib.rt:439:13
 parse-data-item-or-save-frame-requires :
     tie.Need-parse-data-item-or-save-frame-requires Inv-loop μ-loop
-parse-data-item-or-save-frame-requires c κs = ?
+parse-data-item-or-save-frame-requires c κs = (record { within = c .before .loop .inv .within; small = c .before .before .before .before .before .before .before .pre .0 .small; none = c .before .loop .inv .bare }, c .loop-test .taken)
 
--- src/lib.rt:441:26
 enum-known-step : tie.Need-enum-known-step Inv-loop μ-loop
-enum-known-step c = ?
+enum-known-step c = c .match .keys1
 
--- src/lib.rt:442:17
 join-requires : tie.Need-join-requires Inv-loop μ-loop
-join-requires c κs = ?
+unfolding limit
+join-requires c κs =
+    let b = c .before .before .before in
+    let l = b .before .before .loop in
+    let a = b .before .before .before .before .before .before .before .before .args in
+    let small = c .before .before .before .before .before .before .before .before .before .before .before .pre .0 .small in
+    let r = stepped-read (a .s .now) (l .at) _ _ _ (b .parse-data-item-or-save-frame .ensures) (c .before .step .given .1) in
+    (upto-more _ (limit * limit) _ (l .inv .fits) (omega (arith, l .inv .within, small)), upto-more _ (limit * limit) _ (r .fits) (omega (arith, r .within, small)))
 
--- src/lib.rt:438:5
 loop-less : tie.Need-loop-less Inv-loop μ-loop
-loop-less c = ?
+loop-less c =
+    let b = c .before .before .before .before in
+    let l = b .before .before .loop in
+    let a = b .before .before .before .before .before .before .before .before .args in
+    let r = stepped-read (a .s .now) (l .at) _ _ _ (b .parse-data-item-or-save-frame .ensures) (c .before .before .step .given .1) in
+    omega (arith, r .onward, r .within)
 
--- src/lib.rt:438:5
 loop-again : tie.Need-loop-again Inv-loop μ-loop
-loop-again c = ?
+loop-again c =
+    let b = c .before .before .before .before in
+    let l = b .before .before .loop in
+    let a = b .before .before .before .before .before .before .before .before .args in
+    let r = stepped-read (a .s .now) (l .at) _ _ _ (b .parse-data-item-or-save-frame .ensures) (c .before .before .step .given .1) in
+    rw (c .join .ensures) (block-goes-on (a .s .now) (a .start) (l .at) _ _ _ (l .inv) r)
 
--- src/lib.rt:445:29
 enum-known-step-2 : tie.Need-enum-known-step-2 Inv-loop μ-loop
-enum-known-step-2 c = ?
+enum-known-step-2 c = c .match .keys2
 
--- src/lib.rt:445:43
 returns : tie.Need-returns Inv-loop μ-loop
-returns c = ?
+returns c =
+    let b = c .before .before .before in
+    let l = b .before .before .loop in
+    let a = b .before .before .before .before .before .before .before .before .args in
+    block-refused (a .s .now) (a .start) (l .at) (l .sizes) _ (l .inv) (stepped-refused (a .s .now) (l .at) _ _ (b .parse-data-item-or-save-frame .ensures) (c .before .step2 .given .1))
 
--- src/lib.rt:431:1
 returns-2 : tie.Need-returns-2 Inv-loop μ-loop
-returns-2 c = ?
+returns-2 c = block-ends _ _ (c .before .loop .at) (c .before .loop .sizes) (c .before .loop .inv) (c .loop-test .left)
 
 pub parse-data-block-spec : {M : Type 1} → statement M
 parse-data-block-spec =

@@ -1,3 +1,6 @@
+-- `items::parse_data_item_or_save_frame`: by whether `save_` stands there. Assumes nothing.
+use mathlib.Core.Path.{_≡_, refl, sym, _∙_}
+use Rattle.items.proofs.Onward.{item-stepped}
 use borrow.Author.Needs.{needs}
 use Rattle.items.proofs.parse_data_item_or_save_frame.Statement.{statement}
 use Rattle.items.proofs.parse_data_item_or_save_frame.Tie as tie
@@ -8,29 +11,25 @@ use Rattle.items.proofs.parse_data_item.Reads as parse-data-item-reads
 use Rattle.items.proofs.parse_save_frame.Reads as parse-save-frame-reads
 use Rattle.words.proofs.at_save.Reads as at-save-reads
 
--- src/lib.rt:424:8
 at-save-requires : tie.Need-at-save-requires
 at-save-requires c κs = search needs
 
--- src/lib.rt:425:9
 parse-save-frame-requires : tie.Need-parse-save-frame-requires
-parse-save-frame-requires c κs = ?
+parse-save-frame-requires c κs = (c .before .before .before .pre .0, sym (c .before .at-save .ensures) ∙ c .if1 .taken)
 
--- src/lib.rt:425:9
 returns : tie.Need-returns
 returns c = search needs
 
--- src/lib.rt:427:14
 parse-data-item-requires : tie.Need-parse-data-item-requires
 parse-data-item-requires c κs = search needs
 
--- src/lib.rt:427:5
 in-block-requires : tie.Need-in-block-requires
 in-block-requires c κs = search needs
 
--- src/lib.rt:420:1
 returns-2 : tie.Need-returns-2
-returns-2 c = ?
+returns-2 c =
+    let p = c .before .before .before .before .before .pre in
+    rw (c .in-block .ensures, c .before .parse-data-item .ensures) (item-stepped _ _ (p .1) (p .0 .none) (sym (c .before .before .before .at-save .ensures) ∙ c .before .before .if1 .left))
 
 pub parse-data-item-or-save-frame-spec : {M : Type 1} → statement M
 parse-data-item-or-save-frame-spec =
