@@ -1,10 +1,9 @@
 -- What a `match` tells where it leaves a variant out. Assumes nothing.
 use Prim.Native.Nat.{ℕ}
-use mathlib.Core.Path.{_≡_, refl, sym, ap, _∙_}
-use mathlib.Core.Bool.{Bool, true, false, cond, true≢false}
+use mathlib.Core.Path.{_≡_, refl}
+use mathlib.Core.Bool.{false}
 use mathlib.Core.List.{List, [], _∷_, map}
-use mathlib.Core.Logic.{_⊎_, inl, inr}
-use native.Mathlib.Omega.{arith}
+use mathlib.Core.Logic.{inl, inr}
 use borrow.Author.Tests.{eqb-false}
 use denote.Enum.Declared.{tagOf}
 use lib.Dec.{eqb}
@@ -13,7 +12,6 @@ use Rattle.records.specs.declared.Shape.{Shape}
 use Rattle.records.specs.declared.Shape.the-variants.{Empty, Place, Content, Count, Parts, PartsUncertain}
 use Rattle.records.specs.Kinds.{isContent}
 use Rattle.records.proofs.Shape.{the-type as shape-type}
-use Rattle.values.specs.declared.Why.{Why}
 use Rattle.values.specs.declared.Why.the-variants.{AtEnd}
 use Rattle.items.specs.declared.Found.{Found}
 use Rattle.items.specs.declared.Found.the-variants.{Value, Over, Missing}

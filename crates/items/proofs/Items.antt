@@ -1,18 +1,17 @@
 -- The item at an offset, by the code's tests: a loop from its names and values, a tag from what is found behind it, else none. Assumes nothing.
-use Prim.Native.Nat.{ℕ, zero, suc, _+_, _-_, _%_, _≤_, _<_}
+use Prim.Native.Nat.{ℕ, suc, _+_, _-_, _%_, _≤_, _<_}
 use mathlib.Core.Path.{_≡_, refl, sym, ap, _∙_}
-use mathlib.Core.Bool.{Bool, true, false, cond, true≢false, false≢true}
+use mathlib.Core.Bool.{Bool, true, false, cond, true≢false}
 use mathlib.Core.List.{List, [], _∷_, _++_}
 use native.Mathlib.Omega.{arith}
 use borrow.Author.Tests.{ne-eqb}
 use lib.Dec.{eqb, eqb·suc-zero}
 use lib.ListN.{length, drop}
-use Rattle.text.specs.Bytes.{is}
 use Rattle.text.specs.Gaps.{gap, gapEnd}
-use Rattle.text.proofs.Gaps.{gap-from, gap-within, gap-none}
+use Rattle.text.proofs.Gaps.{gap-none}
 use Rattle.words.specs.Words.{word, wordEnd}
 use Rattle.words.specs.Keywords.{starts, startsAt, keyLoop}
-use Rattle.values.specs.Values.{Class, Reason, block, loop, save, tag, value, overLimit, nothing, Lexed, lexed}
+use Rattle.values.specs.Values.{Class, block, loop, save, tag, value, overLimit, nothing, lexed}
 use Rattle.items.specs.declared.Sizes.{Sizes}
 use Rattle.items.specs.declared.Names.{Names}
 use Rattle.items.specs.declared.Values.{Values}
@@ -23,15 +22,15 @@ use Rattle.items.specs.declared.Item.the-variants.{Loop, Single, Ragged,
 use Rattle.items.specs.Tokens.{Mode, inBlock, lexIn, lex, after, Tok, tok}
 use Rattle.items.specs.Machine.{Rec, rec, loopEnd}
 use Rattle.items.specs.Sizes.{sizesOf, noSizes, added, joined, Upto}
-use Rattle.items.specs.Descent.{nameRecs, afterNames, valueRecs, afterValues, Item, taken, failed, broken, isOver, rows, loopBy, loopItem, single, tagItem, itemBy, item}
+use Rattle.items.specs.Descent.{nameRecs, afterNames, valueRecs, afterValues, taken, failed, broken, isOver, rows, loopBy, loopItem, single, tagItem, itemBy, item}
 use Rattle.items.specs.Decisions.{tokensAt, headAt, headWhy, whyNot}
 use Rattle.items.specs.Answers.{tagFirst, tagAt, foundAt, isOverFound, whyFound, namesOf, namesAt, headOver, valuesOf, valuesAt, rowsOf, itemAnswer, itemAt}
-use Rattle.items.proofs.Descent.{Ends, NoValue, value-or-not, names-ends, values-ends}
+use Rattle.items.proofs.Descent.{Ends, names-ends, values-ends}
 use Rattle.items.proofs.Lexes.{lex-other, startsItem}
-use Rattle.items.proofs.Lists.{met-value, no-value, wanted-over, wanted-why, NameStep, name-step, ValueStep, value-step}
-use Rattle.items.proofs.Offsets.{tokens-gap, tokens-ends, Met, met-loop, met-tag, first, Spot, both, both-spot}
-use Rattle.items.proofs.Passes.{Alike, names-alike, values-alike}
-use Rattle.items.proofs.Room.{sizes-cons, sizes-one, sizes-snoc, sizes-append, sizes-none, joined-assoc, added-none, upto-more}
+use Rattle.items.proofs.Lists.{met-value, name-step, value-step}
+use Rattle.items.proofs.Offsets.{tokens-gap, tokens-ends, Met, met-loop, met-tag, first, both, both-spot}
+use Rattle.items.proofs.Passes.{names-alike, values-alike}
+use Rattle.items.proofs.Room.{sizes-cons, sizes-one, sizes-snoc, sizes-append, joined-assoc, added-none, upto-more}
 use Rattle.items.proofs.Wanted.{wanted, found-wanted}
 
 -- the first token stands behind space and comments

@@ -1,9 +1,9 @@
 -- The names and the values of a loop, one at a time: what the code's two loops do in a turn, and where they end. Assumes nothing.
-use Prim.Native.Nat.{ℕ, zero, suc, _+_, _-_, _≤_, _<_}
+use Prim.Native.Nat.{ℕ, suc, _+_, _-_, _≤_, _<_}
 use mathlib.Core.Path.{_≡_, refl, sym, ap, _∙_}
-use mathlib.Core.Bool.{Bool, true, false, cond, true≢false, false≢true}
-use mathlib.Core.List.{List, [], _∷_}
-use mathlib.Core.Logic.{_⊎_, inl, inr, ⊎-elim}
+use mathlib.Core.Bool.{Bool, true, false}
+use mathlib.Core.List.{List, _∷_}
+use mathlib.Core.Logic.{_⊎_, ⊎-elim}
 use native.Mathlib.Nat.{add-zero, zero-add}
 use native.Mathlib.Omega.{arith}
 use lib.Dec.{eqb}
@@ -13,21 +13,20 @@ use Rattle.text.specs.Bytes.{is}
 use Rattle.text.specs.Gaps.{gap, gapEnd}
 use Rattle.text.proofs.Gaps.{gap-from, gap-within, gap-none}
 use Rattle.words.specs.Words.{word, wordEnd}
-use Rattle.values.specs.Values.{Class, Reason, block, loop, save, tag, value, overLimit, nothing, atEnd, Lexed, lexed}
-use Rattle.values.specs.Answers.{whyOf}
+use Rattle.values.specs.Values.{Class, block, loop, save, tag, value, overLimit, nothing, lexed}
 use Rattle.values.specs.declared.Why.{Why}
 use Rattle.items.specs.declared.Sizes.{Sizes}
 use Rattle.items.specs.declared.Names.{Names}
 use Rattle.items.specs.declared.Values.{Values}
 use Rattle.items.specs.declared.Found.{Found}
-use Rattle.items.specs.declared.Found.the-variants.{Value, Over, Missing}
-use Rattle.items.specs.Tokens.{Mode, inBlock, lexIn, lex, after, Tok, tok}
-use Rattle.items.specs.Machine.{Rec, rec}
+use Rattle.items.specs.declared.Found.the-variants.{Value}
+use Rattle.items.specs.Tokens.{inBlock, lexIn, lex, after, Tok, tok}
+use Rattle.items.specs.Machine.{rec}
 use Rattle.items.specs.Sizes.{sizesOf, noSizes, added, joined, Upto}
-use Rattle.items.specs.Descent.{nameRecs, afterNames, valueRecs, afterValues, isOver}
+use Rattle.items.specs.Descent.{nameRecs, valueRecs, isOver}
 use Rattle.items.specs.Decisions.{tokensAt, headAt, headWhy, whyNot}
 use Rattle.items.specs.Answers.{tagFirst, tagAt, foundAt, isOverFound, whyFound, namesOf, namesAt, headOver, valuesOf, valuesAt}
-use Rattle.items.proofs.Descent.{NoName, name-or-not, NoValue, value-or-not, names-more, names-none, values-more, values-none}
+use Rattle.items.proofs.Descent.{NoName, NoValue, value-or-not, names-more, names-none, values-more, values-none}
 use Rattle.items.proofs.Fits.{isValue, lexIn-pos}
 use Rattle.items.proofs.Lexes.{no-name}
 use Rattle.items.proofs.Offsets.{tokens-gap, Met, met, met-tag, first}

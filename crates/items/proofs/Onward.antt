@@ -1,7 +1,7 @@
 -- Reading on: an item, a frame and the block as the code passes over them, against what the machine still answers. Assumes nothing.
-use Prim.Native.Nat.{ℕ, zero, suc, _+_, _-_, _≤_, _<_}
+use Prim.Native.Nat.{ℕ, _+_, _-_, _≤_, _<_}
 use mathlib.Core.Path.{_≡_, refl, sym, ap, _∙_}
-use mathlib.Core.Bool.{Bool, true, false, cond, true≢false, false≢true}
+use mathlib.Core.Bool.{Bool, true, false, cond, true≢false}
 use mathlib.Core.List.{List, [], _∷_, _++_, append-assoc}
 use mathlib.Core.Option.{Option, none, some}
 use native.Mathlib.Omega.{arith}
@@ -10,7 +10,7 @@ use Rattle.text.specs.Gaps.{gap, gapEnd}
 use Rattle.text.proofs.Gaps.{gap-from, gap-within, gap-none}
 use Rattle.words.specs.Words.{word, wordEnd}
 use Rattle.words.specs.Keywords.{starts, startsAt, keyData, keySave}
-use Rattle.values.specs.Values.{Class, Reason, block, loop, save, tag, value, overLimit, nothing, atEnd, reservedWord, noStart, openQuote, openField, Lexed, lexed}
+use Rattle.values.specs.Values.{Class, block, loop, save, tag, value, overLimit, nothing, lexed}
 use Rattle.items.specs.declared.Sizes.{Sizes}
 use Rattle.items.specs.declared.Decision.{Decision}
 use Rattle.items.specs.declared.Decision.the-variants.{Fits, NoData, OpenFrame}
@@ -19,19 +19,19 @@ use Rattle.items.specs.declared.Step.the-variants.{Read, Refused}
 use Rattle.items.specs.declared.Item.{Item as Answered}
 use Rattle.items.specs.declared.Inside.{Inside}
 use Rattle.items.specs.declared.Inside.the-variants.{Read as ReadInside, Dropped, Refused as RefusedInside}
-use Rattle.items.specs.Tokens.{Mode, before, inBlock, inFrame, lexIn, lex, after, Tok, tok, tokens, tokensFrom}
-use Rattle.items.specs.Machine.{Rec, Answer, refused, done, run, config, start, items, rec, follow, move, atStart, atItem, fails, closes, stop}
-use Rattle.items.specs.Sizes.{sizesOf, storeSize, outlineSize, areaSize, noSizes, added, joined, Upto}
+use Rattle.items.specs.Tokens.{before, inBlock, inFrame, lexIn, lex, after, Tok, tok, tokens, tokensFrom}
+use Rattle.items.specs.Machine.{Rec, Answer, refused, done, run, config, items, rec, follow, move, atStart, atItem, fails, closes, stop}
+use Rattle.items.specs.Sizes.{sizesOf, noSizes, added, joined, Upto}
 use Rattle.items.specs.Reading.{decided}
-use Rattle.items.specs.Descent.{Item, taken, failed, broken, item}
-use Rattle.items.specs.Decisions.{tokensAt, headAt, headWhy, told, tells, refusal, room}
+use Rattle.items.specs.Descent.{Item, item}
+use Rattle.items.specs.Decisions.{tokensAt, headAt, told, tells}
 use Rattle.items.specs.Answers.{itemAnswer, itemAt}
 use Rattle.items.specs.Frames.{inBlockOf, inFrameOf, frameEnd, modeOf, left, blockAt, Passed, Stepped}
-use Rattle.items.proofs.Descent.{Ends, isPlain, failedRun, itemRun, item-in-frame, item-in-block}
+use Rattle.items.proofs.Descent.{isPlain, failedRun, itemRun, item-in-frame, item-in-block}
 use Rattle.items.proofs.Lexes.{lex-plain}
 use Rattle.items.proofs.Offsets.{tokens-gap, tokens-ends, Met, met-open, met-close, met-data, first, Spot, Both, both-last, both-save, both-more, both, both-spot}
 use Rattle.items.proofs.Passes.{AlikeItem, alike-taken, alike-ragged, alike-alone, alike-absent, alike-unnamed, alike-over, item-alike}
-use Rattle.items.proofs.Room.{sizes-append, sizes-one, sizes-none, added-none, none-joined, upto-none, upto-added, upto-joined, upto-more}
+use Rattle.items.proofs.Room.{sizes-append, sizes-one, added-none, upto-none, upto-added, upto-joined, upto-more}
 
 -- what is answered where a frame's item was dropped: the token there must close the frame
 unfoldable pub closing : ℕ → List Rec → List Tok → Answer

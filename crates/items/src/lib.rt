@@ -66,36 +66,36 @@ pub enum Decision {
 }
 
 // What stands where a value may: one, by its kind and length; a number over a digit limit; none.
-pub enum Found {
+enum Found {
     Value { kind: u8, size: usize },
     Over,
     Missing { why: Why },
 }
 
 // The names of a loop: how many, and the offset behind them and the space and comments there.
-pub struct Names {
-    pub count: usize,
-    pub next: usize,
-    pub sizes: Sizes,
+struct Names {
+    count: usize,
+    next: usize,
+    sizes: Sizes,
 }
 
 // The values of a loop, and why the list ended.
-pub struct Values {
-    pub count: usize,
-    pub next: usize,
-    pub sizes: Sizes,
-    pub over: bool,
-    pub why: Why,
+struct Values {
+    count: usize,
+    next: usize,
+    sizes: Sizes,
+    over: bool,
+    why: Why,
 }
 
 // What an item, or a frame, is in the block: read, or the reading's end.
-pub enum Step {
+enum Step {
     Read { next: usize, sizes: Sizes },
     Refused { decision: Decision },
 }
 
 // What an item is in a frame: read; dropped, with the offset where it stopped; or the reading's end.
-pub enum Inside {
+enum Inside {
     Read { next: usize, sizes: Sizes },
     Dropped { stop: usize },
     Refused { decision: Decision },
@@ -118,7 +118,7 @@ fn content_length(kind: u8, size: usize) -> usize
 }
 
 impl Sizes {
-    pub fn none() -> Sizes
+    fn none() -> Sizes
         ensures { λ r. ⌜ r ≡ noSizes ⌝ }
     {
         Sizes {
@@ -129,7 +129,7 @@ impl Sizes {
     }
 
     // One record more, of a kind and of a token with so many bytes.
-    pub fn add(self, kind: u8, size: usize) -> Sizes
+    fn add(self, kind: u8, size: usize) -> Sizes
         requires { ⌜ Upto (limit * limit) self × (size ≤ limit) ⌝ }
         ensures { λ r. ⌜ r ≡ added self kind size ⌝ }
     {
@@ -141,7 +141,7 @@ impl Sizes {
     }
 
     // The records of both.
-    pub fn join(self, other: Sizes) -> Sizes
+    fn join(self, other: Sizes) -> Sizes
         requires { ⌜ Upto (limit * limit) self × Upto (limit * limit) other ⌝ }
         ensures { λ r. ⌜ r ≡ joined self other ⌝ }
     {

@@ -1,11 +1,7 @@
-use mathlib.Core.Path.{refl, sym, _∙_, ap}
-use native.Mathlib.Omega.{arith}
 use Rattle.items.proofs.Lists.{tag-past, tag-here}
 use borrow.Author.Needs.{needs}
 use Rattle.items.proofs.at_tag.Statement.{statement}
 use Rattle.items.proofs.at_tag.Tie as tie
-use Rattle.items.proofs.at_tag.Reads as reads
-use Rattle.items.proofs.at_tag.Lts as lts
 
 returns : tie.Need-returns
 returns c = tag-past _ _ (c .if1 .taken)

@@ -1,6 +1,5 @@
 -- `items::close_frame`: `save_` stands where the items stopped, or the frame is open. Assumes nothing.
 use Prim.Native.Nat.{_*_}
-use mathlib.Core.Path.{_≡_, refl, sym, _∙_}
 use native.Mathlib.Omega.{arith}
 use borrow.Author.Tests.{not-true, not-false}
 use Rattle.items.specs.Reading.{limit}
@@ -9,11 +8,6 @@ use Rattle.items.proofs.Room.{upto-more}
 use borrow.Author.Needs.{needs}
 use Rattle.items.proofs.close_frame.Statement.{statement}
 use Rattle.items.proofs.close_frame.Tie as tie
-use Rattle.items.proofs.close_frame.Reads as reads
-use Rattle.items.proofs.close_frame.Lts as lts
-use Rattle.items.proofs.Sizes.add.Reads as add-reads
-use Rattle.text.proofs.gap_end.Reads as gap-end-reads
-use Rattle.words.proofs.at_save.Reads as at-save-reads
 
 at-save-requires : tie.Need-at-save-requires
 at-save-requires c κs = search needs

@@ -1,18 +1,13 @@
-use mathlib.Core.Path.{refl, sym, _∙_, ap}
+use mathlib.Core.Path.{_∙_}
 use native.Mathlib.Omega.{arith}
 use Prim.Native.Nat.{_-_}
 use mathlib.Core.Path.{_≡_}
-use Rattle.records.specs.Kinds.{hasContent, isContent, kindOf, shapeOf}
+use Rattle.records.specs.Kinds.{hasContent}
 use Rattle.items.proofs.Choices.{no-content}
 use Rattle.items.proofs.Room.{content-none, content-by}
 use borrow.Author.Needs.{needs}
 use Rattle.items.proofs.content_length.Statement.{statement}
 use Rattle.items.proofs.content_length.Tie as tie
-use Rattle.items.proofs.content_length.Reads as reads
-use Rattle.items.proofs.content_length.Lts as lts
-use Rattle.records.proofs.Kind.marks.Reads as marks-reads
-use Rattle.records.proofs.Kind.of.Reads as of-reads
-use Rattle.records.proofs.Kind.shape.Reads as shape-reads
 
 of-requires : tie.Need-of-requires
 of-requires c κs = search needs

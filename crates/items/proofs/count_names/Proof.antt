@@ -1,22 +1,14 @@
 -- `items::count_names`: the names counted, and those from here on, are those from the start on. Assumes nothing.
-use Prim.Native.Nat.{ℕ, _≤_, _<_, _-_, _+_, _*_}
-use mathlib.Core.Path.{_≡_, refl, sym, _∙_}
+use Prim.Native.Nat.{_-_, _*_}
+use mathlib.Core.Path.{sym, _∙_}
 use native.Mathlib.Omega.{arith}
 use borrow.Author.Tests.{not-true, not-false}
 use lib.ListN.{length}
 use Rattle.items.specs.Reading.{limit}
-use Rattle.items.specs.Sizes.{Upto}
-use Rattle.items.proofs.Lists.{NamesSoFar, names-start, names-next, names-all, NameStep, name-step}
+use Rattle.items.proofs.Lists.{NamesSoFar, names-start, names-next, names-all, name-step}
 use Rattle.items.proofs.Room.{upto-more}
 use Rattle.items.proofs.count_names.Statement.{statement}
 use Rattle.items.proofs.count_names.Tie as tie
-use Rattle.items.proofs.count_names.Reads as reads
-use Rattle.items.proofs.count_names.Lts as lts
-use Rattle.items.proofs.Sizes.add.Reads as add-reads
-use Rattle.items.proofs.Sizes.none.Reads as none-reads
-use Rattle.items.proofs.at_tag.Reads as at-tag-reads
-use Rattle.text.proofs.gap_end.Reads as gap-end-reads
-use Rattle.words.proofs.parse_identifier.Reads as parse-identifier-reads
 
 abbrev Inv-loop : tie.InvT-loop
 Inv-loop s from at₀ count₀ sizes₀ at count sizes = NamesSoFar s from at count sizes

@@ -1,23 +1,14 @@
 -- `items::count_values`: the values counted, and those from here on, are those from the start on. Assumes nothing.
-use Prim.Native.Nat.{ℕ, _≤_, _<_, _-_, _+_, _*_}
-use mathlib.Core.Path.{_≡_, refl, sym, _∙_}
+use Prim.Native.Nat.{_-_, _*_}
+use mathlib.Core.Path.{sym, _∙_}
 use native.Mathlib.Omega.{arith}
 use lib.ListN.{length}
 use Rattle.items.specs.Reading.{limit}
-use Rattle.items.specs.Sizes.{Upto}
 use Rattle.items.proofs.Choices.{not-value}
-use Rattle.items.proofs.Lists.{ValuesSoFar, values-start, values-next, values-all, ValueStep, value-step}
+use Rattle.items.proofs.Lists.{ValuesSoFar, values-start, values-next, values-all, value-step}
 use Rattle.items.proofs.Room.{upto-more}
 use Rattle.items.proofs.count_values.Statement.{statement}
 use Rattle.items.proofs.count_values.Tie as tie
-use Rattle.items.proofs.count_values.Reads as reads
-use Rattle.items.proofs.count_values.Lts as lts
-use Rattle.items.proofs.Sizes.add.Reads as add-reads
-use Rattle.items.proofs.Sizes.none.Reads as none-reads
-use Rattle.items.proofs.find_value.Reads as find-value-reads
-use Rattle.items.proofs.is_over.Reads as is-over-reads
-use Rattle.items.proofs.why_not.Reads as why-not-reads
-use Rattle.text.proofs.gap_end.Reads as gap-end-reads
 
 abbrev Inv-loop : tie.InvT-loop
 Inv-loop s from at₀ count₀ sizes₀ at count sizes = ValuesSoFar s from at count sizes

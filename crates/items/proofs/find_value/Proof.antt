@@ -1,11 +1,6 @@
-use mathlib.Core.Path.{refl, sym, _∙_, ap}
 use borrow.Author.Needs.{needs}
 use Rattle.items.proofs.find_value.Statement.{statement}
 use Rattle.items.proofs.find_value.Tie as tie
-use Rattle.items.proofs.find_value.Reads as reads
-use Rattle.items.proofs.find_value.Lts as lts
-use Rattle.items.proofs.number_kind.Reads as number-kind-reads
-use Rattle.values.proofs.parse_value.Reads as parse-value-reads
 
 parse-value-requires : tie.Need-parse-value-requires
 parse-value-requires c κs = search needs

@@ -1,9 +1,6 @@
-use mathlib.Core.Path.{refl, sym, _∙_, ap}
 use borrow.Author.Needs.{needs}
 use Rattle.items.proofs.in_block.Statement.{statement}
 use Rattle.items.proofs.in_block.Tie as tie
-use Rattle.items.proofs.in_block.Reads as reads
-use Rattle.items.proofs.in_block.Lts as lts
 
 enum-known-item : tie.Need-enum-known-item
 enum-known-item c = search needs

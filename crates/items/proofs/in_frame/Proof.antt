@@ -1,9 +1,6 @@
-use mathlib.Core.Path.{refl, sym, _∙_, ap}
 use borrow.Author.Needs.{needs}
 use Rattle.items.proofs.in_frame.Statement.{statement}
 use Rattle.items.proofs.in_frame.Tie as tie
-use Rattle.items.proofs.in_frame.Reads as reads
-use Rattle.items.proofs.in_frame.Lts as lts
 
 enum-known-item : tie.Need-enum-known-item
 enum-known-item c = search needs

@@ -1,10 +1,8 @@
-use mathlib.Core.Path.{refl, sym, _∙_, ap}
+use mathlib.Core.Path.{sym}
 use Rattle.items.proofs.Choices.{not-over}
 use borrow.Author.Needs.{needs}
 use Rattle.items.proofs.is_over.Statement.{statement}
 use Rattle.items.proofs.is_over.Tie as tie
-use Rattle.items.proofs.is_over.Reads as reads
-use Rattle.items.proofs.is_over.Lts as lts
 
 enum-told : tie.Need-enum-told
 enum-told c = search needs

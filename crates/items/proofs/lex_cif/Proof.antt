@@ -1,16 +1,11 @@
 -- `items::lex_cif`: the block behind leading space and comments. Assumes nothing.
-use mathlib.Core.Path.{_≡_, refl, sym, _∙_, ap}
+use mathlib.Core.Path.{sym, _∙_, ap}
 use borrow.Author.Tests.{not-true, not-false}
 use Rattle.items.specs.Decisions.{tells}
 use Rattle.items.proofs.Onward.{start-bare, decided-at, decided-none}
 use borrow.Author.Needs.{needs}
 use Rattle.items.proofs.lex_cif.Statement.{statement}
 use Rattle.items.proofs.lex_cif.Tie as tie
-use Rattle.items.proofs.lex_cif.Reads as reads
-use Rattle.items.proofs.lex_cif.Lts as lts
-use Rattle.items.proofs.parse_data_block.Reads as parse-data-block-reads
-use Rattle.text.proofs.gap_end.Reads as gap-end-reads
-use Rattle.words.proofs.at_data.Reads as at-data-reads
 
 gap-end-requires : tie.Need-gap-end-requires
 gap-end-requires c κs = search needs

@@ -1,23 +1,12 @@
 -- `items::parse_data_block`: up to here records of these sizes are kept, and the block's answer is what is still answered from here. Assumes nothing.
-use Prim.Native.Nat.{ℕ, _*_, _≤_, _<_, _+_, _-_}
-use mathlib.Core.Path.{_≡_, refl, sym, _∙_, ap}
+use Prim.Native.Nat.{_*_, _-_}
 use native.Mathlib.Omega.{arith}
 use lib.ListN.{length}
 use Rattle.items.specs.Reading.{limit}
-use Rattle.items.specs.Sizes.{Upto, noSizes}
-use Rattle.items.specs.Frames.{Passed, Stepped}
 use Rattle.items.proofs.Onward.{data-within, Begun, block-begins, block-goes-on, block-ends, block-refused, stepped-read, stepped-refused}
 use Rattle.items.proofs.Room.{upto-none, upto-more}
 use Rattle.items.proofs.parse_data_block.Statement.{statement}
 use Rattle.items.proofs.parse_data_block.Tie as tie
-use Rattle.items.proofs.parse_data_block.Reads as reads
-use Rattle.items.proofs.parse_data_block.Lts as lts
-use Rattle.items.proofs.Sizes.add.Reads as add-reads
-use Rattle.items.proofs.Sizes.join.Reads as join-reads
-use Rattle.items.proofs.Sizes.none.Reads as none-reads
-use Rattle.items.proofs.parse_data_item_or_save_frame.Reads as parse-data-item-or-save-frame-reads
-use Rattle.text.proofs.gap_end.Reads as gap-end-reads
-use Rattle.words.proofs.parse_identifier.Reads as parse-identifier-reads
 
 abbrev Inv-loop : tie.InvT-loop
 Inv-loop s start end sizes₀ at₀ sizes at = Begun s start at sizes

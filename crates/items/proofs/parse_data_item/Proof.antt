@@ -1,15 +1,9 @@
 -- `items::parse_data_item`: a loop, a tag, or no item. Assumes nothing.
-use mathlib.Core.Path.{_≡_, refl, sym, _∙_}
+use mathlib.Core.Path.{sym, _∙_}
 use Rattle.items.proofs.Items.{item-none}
 use borrow.Author.Needs.{needs}
 use Rattle.items.proofs.parse_data_item.Statement.{statement}
 use Rattle.items.proofs.parse_data_item.Tie as tie
-use Rattle.items.proofs.parse_data_item.Reads as reads
-use Rattle.items.proofs.parse_data_item.Lts as lts
-use Rattle.items.proofs.at_tag.Reads as at-tag-reads
-use Rattle.items.proofs.parse_loop.Reads as parse-loop-reads
-use Rattle.items.proofs.parse_tag.Reads as parse-tag-reads
-use Rattle.words.proofs.at_loop.Reads as at-loop-reads
 
 at-loop-requires : tie.Need-at-loop-requires
 at-loop-requires c κs = search needs

@@ -1,15 +1,9 @@
 -- `items::parse_data_item_or_save_frame`: by whether `save_` stands there. Assumes nothing.
-use mathlib.Core.Path.{_≡_, refl, sym, _∙_}
+use mathlib.Core.Path.{sym, _∙_}
 use Rattle.items.proofs.Onward.{item-stepped}
 use borrow.Author.Needs.{needs}
 use Rattle.items.proofs.parse_data_item_or_save_frame.Statement.{statement}
 use Rattle.items.proofs.parse_data_item_or_save_frame.Tie as tie
-use Rattle.items.proofs.parse_data_item_or_save_frame.Reads as reads
-use Rattle.items.proofs.parse_data_item_or_save_frame.Lts as lts
-use Rattle.items.proofs.in_block.Reads as in-block-reads
-use Rattle.items.proofs.parse_data_item.Reads as parse-data-item-reads
-use Rattle.items.proofs.parse_save_frame.Reads as parse-save-frame-reads
-use Rattle.words.proofs.at_save.Reads as at-save-reads
 
 at-save-requires : tie.Need-at-save-requires
 at-save-requires c κs = search needs

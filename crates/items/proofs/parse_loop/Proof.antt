@@ -1,20 +1,13 @@
 -- `items::parse_loop`: no names, a number over a limit, or rows. Assumes nothing.
-use Prim.Native.Nat.{ℕ, _*_, _≤_, _<_, _+_, _-_}
-use mathlib.Core.Path.{_≡_, refl, sym, _∙_, ap}
+use Prim.Native.Nat.{_-_}
+use mathlib.Core.Path.{refl, _∙_}
 use native.Mathlib.Omega.{arith}
-use lib.ListN.{length}
 use Rattle.items.specs.Reading.{limit}
-use Rattle.items.specs.Sizes.{Upto}
 use Rattle.items.proofs.Items.{loop-from, loop-named, loop-none, loop-valued, loop-over, loop-rows}
 use Rattle.items.proofs.Room.{upto-more}
 use borrow.Author.Needs.{needs}
 use Rattle.items.proofs.parse_loop.Statement.{statement}
 use Rattle.items.proofs.parse_loop.Tie as tie
-use Rattle.items.proofs.parse_loop.Reads as reads
-use Rattle.items.proofs.parse_loop.Lts as lts
-use Rattle.items.proofs.count_names.Reads as count-names-reads
-use Rattle.items.proofs.count_values.Reads as count-values-reads
-use Rattle.items.proofs.rows.Reads as rows-reads
 
 add-count-names : tie.Need-add-count-names
 add-count-names c = search needs

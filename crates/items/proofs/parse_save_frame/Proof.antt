@@ -1,26 +1,14 @@
 -- `items::parse_save_frame`: up to here records of these sizes are kept, and nothing else is changed of what is still answered. Assumes nothing.
-use Prim.Native.Nat.{ℕ, _*_, _≤_, _<_, _+_, _-_}
-use mathlib.Core.Path.{_≡_, refl, sym, _∙_, ap}
+use Prim.Native.Nat.{_*_, _-_}
 use native.Mathlib.Omega.{arith}
 use lib.ListN.{length}
 use mathlib.Core.Option.{none, some}
 use Rattle.items.specs.Reading.{limit}
-use Rattle.items.specs.Sizes.{Upto, noSizes}
-use Rattle.items.specs.Frames.{Passed, Stepped}
+use Rattle.items.specs.Frames.{Passed}
 use Rattle.items.proofs.Onward.{save-within, frame-opens, inside-read, inside-dropped, inside-refused, passed-then, frame-ends, frame-refused}
 use Rattle.items.proofs.Room.{upto-none, upto-more}
 use Rattle.items.proofs.parse_save_frame.Statement.{statement}
 use Rattle.items.proofs.parse_save_frame.Tie as tie
-use Rattle.items.proofs.parse_save_frame.Reads as reads
-use Rattle.items.proofs.parse_save_frame.Lts as lts
-use Rattle.items.proofs.Sizes.add.Reads as add-reads
-use Rattle.items.proofs.Sizes.join.Reads as join-reads
-use Rattle.items.proofs.Sizes.none.Reads as none-reads
-use Rattle.items.proofs.close_frame.Reads as close-frame-reads
-use Rattle.items.proofs.in_frame.Reads as in-frame-reads
-use Rattle.items.proofs.parse_data_item.Reads as parse-data-item-reads
-use Rattle.text.proofs.gap_end.Reads as gap-end-reads
-use Rattle.words.proofs.parse_identifier.Reads as parse-identifier-reads
 
 abbrev Inv-loop : tie.InvT-loop
 Inv-loop s start end sizes₀ at₀ sizes at = Passed s none start (some start) at sizes

@@ -1,28 +1,15 @@
 -- `items::parse_tag`: by what is found behind the tag. Assumes nothing.
-use Prim.Native.Nat.{ℕ, _*_, _≤_, _<_, _+_, _-_}
-use mathlib.Core.Path.{_≡_, refl, sym, _∙_, ap}
+use Prim.Native.Nat.{_*_, _-_}
+use mathlib.Core.Path.{sym, _∙_}
 use native.Mathlib.Omega.{arith}
-use lib.ListN.{length}
-use Rattle.text.specs.Gaps.{gapEnd}
-use Rattle.text.proofs.Gaps.{gap-none, gap-within}
-use Rattle.words.specs.Words.{wordEnd}
 use Rattle.items.specs.Reading.{limit}
-use Rattle.items.specs.Sizes.{Upto, noSizes, added}
+use Rattle.items.specs.Sizes.{noSizes}
 use Rattle.items.proofs.Choices.{not-value}
 use Rattle.items.proofs.Items.{TagRead, tag-onward, tag-value-within, tag-value, tag-alone}
-use Rattle.items.proofs.Room.{upto-none, upto-added, upto-more}
+use Rattle.items.proofs.Room.{upto-none, upto-added}
 use borrow.Author.Needs.{needs}
 use Rattle.items.proofs.parse_tag.Statement.{statement}
 use Rattle.items.proofs.parse_tag.Tie as tie
-use Rattle.items.proofs.parse_tag.Reads as reads
-use Rattle.items.proofs.parse_tag.Lts as lts
-use Rattle.items.proofs.Sizes.add.Reads as add-reads
-use Rattle.items.proofs.Sizes.none.Reads as none-reads
-use Rattle.items.proofs.find_value.Reads as find-value-reads
-use Rattle.items.proofs.is_over.Reads as is-over-reads
-use Rattle.items.proofs.why_not.Reads as why-not-reads
-use Rattle.text.proofs.gap_end.Reads as gap-end-reads
-use Rattle.words.proofs.parse_identifier.Reads as parse-identifier-reads
 
 parse-identifier-requires : tie.Need-parse-identifier-requires
 parse-identifier-requires c κs = search needs

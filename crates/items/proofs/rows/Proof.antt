@@ -1,20 +1,12 @@
-use mathlib.Core.Path.{_≡_, refl, sym, _∙_, ap}
-use Prim.Native.Nat.{_*_, _≤_}
+use Prim.Native.Nat.{_*_}
 use native.Mathlib.Omega.{arith}
-use borrow.Author.Tests.{eq-eqb, ne-eqb}
 use Rattle.items.specs.Reading.{limit}
-use Rattle.items.specs.Sizes.{added, joined, noSizes, Upto}
-use Rattle.items.specs.Answers.{rowsOf}
+use Rattle.items.specs.Sizes.{noSizes, Upto}
 use Rattle.items.proofs.Items.{rows-ragged, rows-whole}
 use Rattle.items.proofs.Room.{upto-none, upto-added, upto-joined, upto-more}
 use borrow.Author.Needs.{needs}
 use Rattle.items.proofs.rows.Statement.{statement}
 use Rattle.items.proofs.rows.Tie as tie
-use Rattle.items.proofs.rows.Reads as reads
-use Rattle.items.proofs.rows.Lts as lts
-use Rattle.items.proofs.Sizes.add.Reads as add-reads
-use Rattle.items.proofs.Sizes.join.Reads as join-reads
-use Rattle.items.proofs.Sizes.none.Reads as none-reads
 
 rem-remainder : tie.Need-rem-remainder
 rem-remainder c = search needs

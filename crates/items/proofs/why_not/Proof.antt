@@ -1,10 +1,8 @@
-use mathlib.Core.Path.{refl, sym, _∙_, ap}
+use mathlib.Core.Path.{sym}
 use Rattle.items.proofs.Choices.{not-missing}
 use borrow.Author.Needs.{needs}
 use Rattle.items.proofs.why_not.Statement.{statement}
 use Rattle.items.proofs.why_not.Tie as tie
-use Rattle.items.proofs.why_not.Reads as reads
-use Rattle.items.proofs.why_not.Lts as lts
 
 enum-known-found : tie.Need-enum-known-found
 enum-known-found c = search needs

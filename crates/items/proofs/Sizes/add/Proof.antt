@@ -1,15 +1,9 @@
-use mathlib.Core.Path.{refl, sym, _∙_, ap}
 use native.Mathlib.Omega.{arith}
 use Rattle.items.specs.Reading.{limit}
 use Rattle.items.proofs.Room.{body-small, outline-small, content-small, added-steps}
 use borrow.Author.Needs.{needs}
 use Rattle.items.proofs.Sizes.add.Statement.{statement}
 use Rattle.items.proofs.Sizes.add.Tie as tie
-use Rattle.items.proofs.Sizes.add.Reads as reads
-use Rattle.items.proofs.Sizes.add.Lts as lts
-use Rattle.items.proofs.content_length.Reads as content-length-reads
-use Rattle.records.proofs.body_length.Reads as body-length-reads
-use Rattle.records.proofs.outline_length.Reads as outline-length-reads
 
 add-t4 : tie.Need-add-t4
 unfolding limit

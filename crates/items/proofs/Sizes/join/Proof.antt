@@ -4,8 +4,6 @@ use Rattle.items.specs.Reading.{limit}
 use Rattle.items.specs.Sizes.{joined}
 use Rattle.items.proofs.Sizes.join.Statement.{statement}
 use Rattle.items.proofs.Sizes.join.Tie as tie
-use Rattle.items.proofs.Sizes.join.Reads as reads
-use Rattle.items.proofs.Sizes.join.Lts as lts
 
 add-t3 : tie.Need-add-t3
 unfolding limit

@@ -2,8 +2,6 @@ use mathlib.Core.Path.{refl}
 use Rattle.items.specs.Sizes.{noSizes}
 use Rattle.items.proofs.Sizes.none.Statement.{statement}
 use Rattle.items.proofs.Sizes.none.Tie as tie
-use Rattle.items.proofs.Sizes.none.Reads as reads
-use Rattle.items.proofs.Sizes.none.Lts as lts
 
 returns : tie.Need-returns
 unfolding noSizes
