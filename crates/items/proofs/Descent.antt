@@ -81,12 +81,15 @@ names-run (t ∷ ts) a n f out held = ⊎-elim (more (λ h. names-run ts a (suc 
   where
     Goal : Type 0
     Goal = run (t ∷ ts) (config (names a n) f out held) ≡ run (afterNames (t ∷ ts)) (config (names a (length (nameRecs (t ∷ ts)) + n)) f out (held ++ nameRecs (t ∷ ts)))
+
     Next : Type 0
     Next = (h : List Rec) → run ts (config (names a (suc n)) f out h) ≡ run (afterNames ts) (config (names a (length (nameRecs ts) + suc n)) f out (h ++ nameRecs ts))
+
     more : Next → t .class ≡ tag → Goal
     more ih e =
         let z : suc (length (nameRecs ts)) + n ≡ length (nameRecs ts) + suc n = omega arith in
         name-step t ts a n f out held e ∙ ih (held ++ (rec 6 t ∷ [])) ∙ rw (names-more t ts e .0, names-more t ts e .1, z, append-assoc)
+
     done′ : NoName (t .class) → Goal
     done′ e = rw (names-none t ts e .0, names-none t ts e .1, zero-add, append-nil)
 
@@ -98,13 +101,16 @@ values-run (t ∷ ts) a n k f out held = ⊎-elim (more (λ h. values-run ts a n
   where
     Goal : Type 0
     Goal = run (t ∷ ts) (config (values a n k) f out held) ≡ run (afterValues (t ∷ ts)) (config (values a n (length (valueRecs (t ∷ ts)) + k)) f out (held ++ valueRecs (t ∷ ts)))
+
     Next : Type 0
     Next = (h : List Rec) → run ts (config (values a n (suc k)) f out h) ≡ run (afterValues ts) (config (values a n (length (valueRecs ts) + suc k)) f out (h ++ valueRecs ts))
+
     more : Next → ((j : ℕ) × (t .class ≡ value j)) → Goal
     more ih e =
         let z : suc (length (valueRecs ts)) + k ≡ length (valueRecs ts) + suc k = omega arith in
         let v = values-more t ts (e .0) (e .1) in
         value-step t ts a n k (e .0) f out held (e .1) ∙ ih (held ++ (rec (e .0) t ∷ [])) ∙ rw (v .0, v .1, z, append-assoc)
+
     done′ : NoValue (t .class) → Goal
     done′ e = rw (values-none t ts e .0, values-none t ts e .1, zero-add, append-nil)
 

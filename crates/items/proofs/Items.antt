@@ -96,6 +96,7 @@ rows-answer t u us ns vs p c z = by (eqb (length vs % length ns) 0)
   where
     rem : ℕ
     rem = length vs % length ns
+
     by : (b : Bool) → itemAnswer (cond b (taken true (rec 5 t ∷ (ns ++ (vs ++ (loopEnd ∷ [])))) (u ∷ us)) (failed 5 (t .at) rem (u ∷ us))) ≡ cond b (Loop (u .at) (added (joined (joined (added noSizes 5 5) (sizesOf ns)) (sizesOf vs)) 7 0) (whyNot (u .class))) (Ragged (t .at) rem (u .at))
     by true = rw (loop-size t ns vs z)
     by false = refl
@@ -111,8 +112,10 @@ values-answer t ts (u ∷ us) n ns p z e h = rw (e, eqb·suc-zero (length ns)) (
   where
     counted : Values
     counted = record { count = length (valueRecs ts); next = u .at; sizes = sizesOf (valueRecs ts); over = isOver (u .class); why = whyNot (u .class) }
+
     named : Names
     named = record { count = suc (length ns); next = p; sizes = sizesOf (n ∷ ns) }
+
     by : (b : Bool) → isOver (u .class) ≡ b → itemAnswer (cond b (broken 9 (u .at)) (rows t (n ∷ ns) (valueRecs ts) (u ∷ us))) ≡ cond b (Over (u .at)) (rowsOf (t .at) named counted)
     by true q = unfold itemAnswer in refl
     by false q = rows-answer t u us (n ∷ ns) (valueRecs ts) p (isOver (u .class)) z
@@ -227,7 +230,7 @@ pub record TagRead (s : List ℕ) (o end stop : ℕ) (f : Found) : Type 0 where
   pub stops : stop ≡ gapEnd s end
   pub finds : f ≡ foundAt s stop
 
-module _ (s : List ℕ) (o end stop : ℕ) (f : Found) (r : TagRead s o end stop f) where
+module _ {s : List ℕ} {o end stop : ℕ} {f : Found} (r : TagRead s o end stop f) where
   pub tag-onward : (o < end) × (end ≤ length s)
   tag-onward = let n = name-step s o (r .bare) (r .tagged) in (rw (r .ends) (n .onward), rw (r .ends) (n .within))
 

@@ -46,6 +46,7 @@ apart (c ∷ k) (x ∷ l) (b ∷ s) d e = by (eqb c x) refl d (λ g. apart k l s
   where
     q : lower b ≡ c
     q = eqb-true (lower b) c (and-l (eqb (lower b) c) (starts k s) e)
+
     by : (t : Bool) → eqb c x ≡ t → (not t || parts-ways k l) ≡ true → (parts-ways k l ≡ true → starts l s ≡ false) → (eqb (lower b) x && starts l s) ≡ false
     by true f d ih = and-none (eqb (lower b) x) (starts l s) (ih d)
     by false f d ih = rw (q, f)
@@ -144,6 +145,7 @@ key-in-word c k b s f e = by (endsWord b) refl
   where
     q : lower b ≡ c
     q = eqb-true (lower b) c (and-l (eqb (lower b) c) (starts k s) e)
+
     by : (t : Bool) → endsWord b ≡ t → not t ≡ true
     by true g = let h : endsWord c ≡ true = rw q at (ends-lower b g) in absurd (true≢false (sym h ∙ f))
     by false g = refl

@@ -37,6 +37,7 @@ met m s o x g l p = by (x .size) refl p fits
   where
     fits : x .size ≤ length (drop o s)
     fits = rw l at (lex-fits m (drop o s))
+
     by : (n : ℕ) → x .size ≡ n → 0 < n → n ≤ length (drop o s) → Met m s o x
     by zero e q f = absurd (omega arith)
     by (suc n) e q f =
@@ -202,9 +203,11 @@ module _ (s : List ℕ) (j : ℕ) (g : gap (drop j s) ≡ 0) (h : j ≤ length s
           here-more (lexIn inBlock (b ∷ r)) (rw e) (rw (e, lex-same b r f)) (lex-stays inBlock b r f) (rw (lex-same b r f) (lex-stays inFrame b r f)) (omega arith)
       sized′ b r e f zero z (inl h) = absurd (omega arith)
       sized′ b r e f zero z (inr h) = here-last (lexIn inBlock (b ∷ r)) (h .0) (rw e) (rw (e, lex-same b r f)) z (h .1)
+
       split : (b : ℕ) (r : List ℕ) → drop j s ≡ b ∷ r → (t : Bool) → starts keySave (b ∷ r) ≡ t → Here
       split b r e true f = here-save (unfold startsAt in rw e f)
       split b r e false f = sized′ b r e f (lexIn inBlock (b ∷ r) .size) refl (lex-sized inBlock b r)
+
       by : (u : List ℕ) → drop j s ≡ u → Here
       by [] e = here-last (lexed (nothing atEnd) 0) atEnd (unfold lexIn in rw e) (unfold lexIn in rw e) (unfold lexed in refl) (unfold lexed in refl)
       by (b ∷ r) e = split b r e (starts keySave (b ∷ r)) refl

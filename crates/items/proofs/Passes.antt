@@ -130,8 +130,10 @@ loop-alike {s = s} {ts = ts} {us = us} o t l z b = rw (← a .same) (by (nameRec
   where
     a : Alike s (t .at + t .size) (nameRecs ts) (nameRecs us) (afterNames ts) (afterNames us)
     a = names-alike b
+
     v : Alike s (a .to) (valueRecs (afterNames ts)) (valueRecs (afterNames us)) (afterValues (afterNames ts)) (afterValues (afterNames us))
     v = values-alike (a .rest)
+
     by : (ns : List Rec) → Upto (a .to - (t .at + t .size)) (sizesOf ns) → AlikeItem s o (loopItem t ns (afterNames ts)) (loopItem t ns (afterNames us))
     by [] h = alike-unnamed
     by (n ∷ ns) h =
