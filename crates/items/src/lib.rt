@@ -210,7 +210,7 @@ fn why_not(found: Found) -> Why
 }
 
 // The names of a loop, from behind its `loop_` on.
-pub fn count_names(s: &[u8], from: usize) -> Names
+fn count_names(s: &[u8], from: usize) -> Names
     requires { ⌜ Ready (now s) from ⌝ }
     ensures { λ r. ⌜ r ≡ namesAt (now (s .entry)) from ⌝ }
 {
@@ -363,7 +363,7 @@ fn in_block(item: Item) -> Step
 }
 
 // What an item comes to in a frame: 5, 6 and 7 drop it, 8 and 9 end the reading.
-pub fn in_frame(item: Item) -> Inside
+fn in_frame(item: Item) -> Inside
     ensures { λ r. ⌜ r ≡ inFrameOf item ⌝ }
 {
     match item {
