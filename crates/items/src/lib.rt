@@ -68,7 +68,7 @@ pub enum Decision {
 }
 
 // What stands where a value may: one, by its kind and length; a number over a digit limit; none.
-enum Found {
+pub enum Found {
     Value { kind: u8, size: usize },
     Over,
     Missing { why: Why },

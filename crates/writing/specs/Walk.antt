@@ -5,15 +5,18 @@ use mathlib.Core.Path.{_≡_}
 use mathlib.Core.Bool.{Bool, true, false, cond}
 use mathlib.Core.List.{List, [], _∷_}
 use lib.Dec.{eqb}
-use lib.ListN.{length, getD}
+use lib.ListN.{length, drop, getD}
 use Rattle.text.specs.Bytes.{isEol}
-use Rattle.text.specs.Gaps.{gapEnd}
+use Rattle.text.specs.Gaps.{gap, gapEnd}
 use Rattle.text.specs.Places.{placeAt, IsPlace}
 use Rattle.records.specs.Kinds.{kindOf, shapeLength, marksOf}
 use Rattle.records.specs.Put.{put}
 use Rattle.items.specs.declared.Found.the-variants.{Value}
 use Rattle.items.specs.Answers.{foundAt}
+use Rattle.items.specs.Tokens.{Tok, inBlock}
 use Rattle.items.specs.Machine.{Rec}
+use Rattle.items.specs.Descent.{Item, taken, failed, broken, item}
+use Rattle.items.specs.Decisions.{tokensAt, headAt}
 use Rattle.items.specs.Sizes.{contentSize, storeSize, outlineSize, areaSize}
 use Rattle.writing.specs.declared.Cursor.{Cursor}
 use Rattle.writing.specs.declared.Written.{Written}
@@ -104,6 +107,38 @@ ValueDone full s d Ended l a = NoValue s d l a
 -- there is room for the value that stands there
 unfoldable pub ValueRoom : Bool → List ℕ → Desk → Type 0
 ValueRoom full s d = (k n : ℕ) → foundAt s (gapEnd s (d .cursor .place .offset)) ≡ Value k n → Room full (recAt k (gapEnd s (d .cursor .place .offset)) n ∷ []) d
+
+-- an item that is read: its records, and the tokens behind it
+unfoldable pub itemRecs : Item → List Rec
+itemRecs (taken b rs rest) = rs
+itemRecs (failed n o d rest) = []
+itemRecs (broken n o) = []
+
+unfoldable pub itemRest : Item → List Tok
+itemRest (taken b rs rest) = rest
+itemRest (failed n o d rest) = rest
+itemRest (broken n o) = []
+
+unfoldable pub isTaken : Item → Bool
+isTaken (taken b rs rest) = true
+isTaken (failed n o d rest) = false
+isTaken (broken n o) = false
+
+-- the item at an offset
+abbrev pub itemOf : List ℕ → ℕ → Item
+itemOf s o = item (tokensAt inBlock s o)
+
+-- an item that is read stands at the cursor, where no space does, and there is room for it
+pub record ItemHere (full : Bool) (s : List ℕ) (d : Desk) : Type 0 where
+  pub going : Going s (d .cursor)
+  pub bare : gap (drop (d .cursor .place .offset) s) ≡ 0
+  pub read : isTaken (itemOf s (d .cursor .place .offset)) ≡ true
+  pub room : Room full (itemRecs (itemOf s (d .cursor .place .offset))) d
+
+-- it is written, and the cursor stands behind it and the space there
+abbrev pub WroteItem : Bool → List ℕ → Desk → Desk → Type 0
+WroteItem full s d e =
+    Wrote full s (itemRecs (itemOf s (d .cursor .place .offset))) (headAt (itemRest (itemOf s (d .cursor .place .offset)))) d e
 
 -- from d with records rs left to write to e with records left: the buffers will be the same in the end
 pub record Onward (full : Bool) (s : List ℕ) (rs : List Rec) (d : Desk) (left : List Rec) (e : Desk) : Type 0 where

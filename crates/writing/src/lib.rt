@@ -6,6 +6,7 @@ ghost use Prim.Native.Nat.{ℕ, _+_, _≤_, _<_, _^_};
 ghost use lib.Dec.{eqb};
 ghost use lib.ListN.{length, take, drop};
 ghost use Rattle.text.specs.Places.{IsPlace, placeAt};
+ghost use Rattle.words.specs.Keywords.{startsAt, keyLoop};
 ghost use Rattle.records.specs.Kinds.{kindOf, shapeOf};
 ghost use Rattle.records.specs.declared.Shape.the-variants.{Content, Place as PlaceAlone};
 ghost use Rattle.records.specs.Put.{put};
@@ -15,7 +16,7 @@ ghost use Rattle.items.specs.Tokens.{inBlock};
 ghost use Rattle.items.specs.Decisions.{tokensAt, headAt};
 ghost use Rattle.items.specs.Descent.{nameRecs, afterNames, valueRecs, afterValues};
 ghost use Rattle.writing.specs.Writing.{tokenAt, decimalOf, contentBytes, loopBytes, numberBytes};
-ghost use Rattle.writing.specs.Walk.{storeLength, recordLength, Going, Room, IsToken, recAt, WroteOne, Wrote, behindGap, ValueRoom, ValueDone, desk};
+ghost use Rattle.writing.specs.Walk.{storeLength, recordLength, Going, Room, IsToken, recAt, WroteOne, Wrote, behindGap, ValueRoom, ValueDone, ItemHere, WroteItem, desk};
 use numbers::Decimal;
 use records::{Kind, Token};
 use text::Place;
@@ -184,24 +185,13 @@ fn write_number(s: &[u8], full: bool, store: &mut [u8], c: Cursor, decimal: Deci
     let place = c.place;
     let at = c.at;
     let area = c.area;
-    let kind = number_kind(decimal);
+    let kind = items::number_kind(decimal);
     put_number(full, store, at, token_at(place, size), decimal);
     Cursor {
         place: behind(s, place, kind, size),
         at: at + record_length(full, kind),
         area,
     }
-}
-
-// The kind of a number.
-fn number_kind(decimal: Decimal) -> u8
-    ensures { λ r. ⌜ r ≡ kindOfNumber decimal ⌝ }
-{
-    let uncertain = decimal.uncertain;
-    if uncertain {
-        return 15;
-    }
-    14
 }
 
 // `loop_`, with the number of its tags.
@@ -298,6 +288,20 @@ fn write_values(s: &[u8], full: bool, store: &mut [u8], area: &mut [u8], c: Curs
     }
 }
 
+// How many tags stand from an offset on.
+fn count_tags(s: &[u8], from: usize) -> usize
+    requires { ⌜ from ≤ length (now s) ⌝ }
+    ensures { λ r. ⌜ r ≡ length (nameRecs (tokensAt inBlock (now (s .entry)) from)) ⌝ }
+{
+    let mut at = text::gap_end(s, from);
+    let mut count: usize = 0;
+    while items::at_tag(s, at) {
+        at = text::gap_end(s, words::parse_identifier(s, at));
+        count += 1;
+    }
+    count
+}
+
 // The names of a loop, while tags stand.
 fn write_names(s: &[u8], full: bool, store: &mut [u8], area: &mut [u8], c: Cursor) -> Cursor
     requires { ⌜ Going (now s) c × Room full (nameRecs (tokensAt inBlock (now s) (c .place .offset))) (desk c (now store) (now area)) ⌝ }
@@ -308,7 +312,7 @@ fn write_names(s: &[u8], full: bool, store: &mut [u8], area: &mut [u8], c: Curso
         let here = trimmed(s, last);
         let place = here.place;
         let offset = place.offset;
-        if !at_tag(s, offset) {
+        if !items::at_tag(s, offset) {
             return here;
         }
         let end = words::parse_identifier(s, offset);
@@ -316,12 +320,44 @@ fn write_names(s: &[u8], full: bool, store: &mut [u8], area: &mut [u8], c: Curso
     }
 }
 
-// stand-in
-fn at_tag(s: &[u8], at: usize) -> bool
-    ensures { λ r. ⌜ r ≡ tagAt (now (s .entry)) at ⌝ }
+// A loop: its record counts the names, so they are counted first.
+fn write_loop_item(s: &[u8], full: bool, store: &mut [u8], area: &mut [u8], c: Cursor) -> Cursor
+    requires { ⌜ ItemHere full (now s) (desk c (now store) (now area)) × (startsAt keyLoop (now s) (c .place .offset) ≡ true) ⌝ }
+    ensures { λ r. ⌜ WroteItem full (now (s .entry)) (desk c (now (store .entry)) (now (area .entry))) (desk r (now (store .exit)) (now (area .exit))) ⌝ }
 {
-    if s.len() <= at {
-        return false;
+    let place = c.place;
+    let offset = place.offset;
+    let tags = count_tags(s, offset + 5);
+    let opened = write_loop(s, full, store, c, tags);
+    let named = write_names(s, full, store, area, opened);
+    let valued = write_values(s, full, store, area, named);
+    write_end(full, store, valued)
+}
+
+// A tag and its value.
+fn write_tag_item(s: &[u8], full: bool, store: &mut [u8], area: &mut [u8], c: Cursor) -> Cursor
+    requires { ⌜ ItemHere full (now s) (desk c (now store) (now area)) × (tagAt (now s) (c .place .offset) ≡ true) ⌝ }
+    ensures { λ r. ⌜ WroteItem full (now (s .entry)) (desk c (now (store .entry)) (now (area .entry))) (desk r (now (store .exit)) (now (area .exit))) ⌝ }
+{
+    let place = c.place;
+    let offset = place.offset;
+    let end = words::parse_identifier(s, offset);
+    let tagged = write_text(s, full, store, area, c, 4, end - offset);
+    let Written::Value { next } = write_value(s, full, store, area, tagged) else {
+        return tagged;
+    };
+    trimmed(s, next)
+}
+
+// An item.
+fn write_item(s: &[u8], full: bool, store: &mut [u8], area: &mut [u8], c: Cursor) -> Cursor
+    requires { ⌜ ItemHere full (now s) (desk c (now store) (now area)) ⌝ }
+    ensures { λ r. ⌜ WroteItem full (now (s .entry)) (desk c (now (store .entry)) (now (area .entry))) (desk r (now (store .exit)) (now (area .exit))) ⌝ }
+{
+    let place = c.place;
+    let offset = place.offset;
+    if words::at_loop(s, offset) {
+        return write_loop_item(s, full, store, area, c);
     }
-    s[at] == 95
+    write_tag_item(s, full, store, area, c)
 }

@@ -16,7 +16,7 @@ use Rattle.writing.proofs.write_names.Tie as tie
 use Rattle.writing.proofs.write_names.Reads as reads
 use Rattle.writing.proofs.write_names.Lts as lts
 use Rattle.words.proofs.parse_identifier.Reads as parse-identifier-reads
-use Rattle.writing.proofs.at_tag.Reads as at-tag-reads
+use Rattle.items.proofs.at_tag.Reads as at-tag-reads
 use Rattle.writing.proofs.trimmed.Reads as trimmed-reads
 use Rattle.writing.proofs.write_text.Reads as write-text-reads
 

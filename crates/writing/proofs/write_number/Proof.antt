@@ -14,7 +14,7 @@ use Rattle.writing.proofs.write_number.Tie as tie
 use Rattle.writing.proofs.write_number.Reads as reads
 use Rattle.writing.proofs.write_number.Lts as lts
 use Rattle.writing.proofs.behind.Reads as behind-reads
-use Rattle.writing.proofs.number_kind.Reads as number-kind-reads
+use Rattle.items.proofs.number_kind.Reads as number-kind-reads
 use Rattle.writing.proofs.put_number.Reads as put-number-reads
 use Rattle.writing.proofs.record_length.Reads as record-length-reads
 use Rattle.writing.proofs.token_at.Reads as token-at-reads
