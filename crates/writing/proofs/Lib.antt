@@ -9,3 +9,4 @@ pub mod Turns
 pub mod Values
 pub mod SoFar
 pub mod Lists
+pub mod Items

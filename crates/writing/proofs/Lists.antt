@@ -112,16 +112,14 @@ module _ (full : Bool) (s : List ℕ) (d₀ : Desk) where
       all full s (namesFrom s) (behindNames s) d₀ d _ h (n .0) (ap headAt (h .same ∙ n .1) ∙ head-at inBlock s o ∙ g)
 
 -- behind space and comments stand none
-pub gap-again : (s : List ℕ) (c e : Cursor) → e ≡ behindGap s c → gapEnd s (e .place .offset) ≡ e .place .offset
-gap-again s c e q =
-    let z = trim-offset s c e q in
-    rw z (ends (gap-none s (c .place .offset)))
+pub gap-twice : (s : List ℕ) (o : ℕ) → gapEnd s (gapEnd s o) ≡ gapEnd s o
+gap-twice s o = ends (gapEnd s o) (gap-none s o)
   where
-    o : ℕ
-    o = gapEnd s (c .place .offset)
+    ends : (p : ℕ) → gap (drop p s) ≡ 0 → gapEnd s p ≡ p
+    ends p e = unfold gapEnd in omega (arith, e)
 
-    ends : gap (drop o s) ≡ 0 → gapEnd s o ≡ o
-    ends e = unfold gapEnd in omega (arith, e)
+pub gap-again : (s : List ℕ) (c e : Cursor) → e ≡ behindGap s c → gapEnd s (e .place .offset) ≡ e .place .offset
+gap-again s c e q = rw (trim-offset s c e q) (gap-twice s (c .place .offset))
 
 -- the code's answer is the end
 pub is-ended : (full : Bool) (s : List ℕ) (d : Desk) (v : Written) (l a : List ℕ) → v ≡ Ended → ValueDone full s d v l a → NoValue s d l a
