@@ -10,8 +10,10 @@ ghost use Rattle.items.specs.Reading.{decided, limit};
 ghost use Rattle.items.specs.Answers.{Ready, Here, tagAt, kindOfNumber, foundAt, isOverFound, whyFound, namesAt, valuesAt, rowsOf, itemAt};
 ghost use Rattle.items.specs.Frames.{inBlockOf, inFrameOf, frameEnd, Stepped, blockAt};
 use numbers::Decimal;
-use records::{Kind, Shape};
-use values::{Value, Why};
+use records::Kind;
+use records::Shape;
+use values::Value;
+use values::Why;
 
 // The room that records take.
 pub struct Sizes {
@@ -340,12 +342,24 @@ fn in_block(item: Item) -> Step
     ensures { λ r. ⌜ r ≡ inBlockOf item ⌝ }
 {
     match item {
-        Item::Loop { next, sizes, why: _ } => Step::Read { next, sizes },
+        Item::Loop {
+            next,
+            sizes,
+            why: _,
+        } => Step::Read { next, sizes },
         Item::Single { next, sizes } => Step::Read { next, sizes },
-        Item::Ragged { at, remainder, stop: _ } => Step::Refused {
+        Item::Ragged {
+            at,
+            remainder,
+            stop: _,
+        } => Step::Refused {
             decision: Decision::Ragged { at, remainder },
         },
-        Item::NoValue { at, stop: _, why: _ } => Step::Refused {
+        Item::NoValue {
+            at,
+            stop: _,
+            why: _,
+        } => Step::Refused {
             decision: Decision::NoValue { at },
         },
         Item::NoItem { at } => Step::Refused {
@@ -365,10 +379,22 @@ fn in_frame(item: Item) -> Inside
     ensures { λ r. ⌜ r ≡ inFrameOf item ⌝ }
 {
     match item {
-        Item::Loop { next, sizes, why: _ } => Inside::Read { next, sizes },
+        Item::Loop {
+            next,
+            sizes,
+            why: _,
+        } => Inside::Read { next, sizes },
         Item::Single { next, sizes } => Inside::Read { next, sizes },
-        Item::Ragged { at: _, remainder: _, stop } => Inside::Dropped { stop },
-        Item::NoValue { at: _, stop, why: _ } => Inside::Dropped { stop },
+        Item::Ragged {
+            at: _,
+            remainder: _,
+            stop,
+        } => Inside::Dropped { stop },
+        Item::NoValue {
+            at: _,
+            stop,
+            why: _,
+        } => Inside::Dropped { stop },
         Item::NoItem { at } => Inside::Dropped { stop: at },
         Item::NoNames { at } => Inside::Refused {
             decision: Decision::NoNames { at },

@@ -464,7 +464,11 @@ fn fields_at(store: &[u8], at: usize, shape: Shape) -> Fields
         Shape::Content => plain_fields(store, at, u32_at(store, at + Kind::PLACE)),
         Shape::Count => plain_fields(store, at, u32_at(store, at + Kind::PLACE)),
         Shape::Parts => parts_fields(store, at, 0),
-        Shape::PartsUncertain => parts_fields(store, at, u32_at(store, at + (Kind::PLACE + Kind::PARTS))),
+        Shape::PartsUncertain => parts_fields(
+            store,
+            at,
+            u32_at(store, at + (Kind::PLACE + Kind::PARTS)),
+        ),
     }
 }
 
