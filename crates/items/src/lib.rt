@@ -156,7 +156,7 @@ impl Sizes {
 }
 
 // Whether a tag stands at an offset.
-fn at_tag(s: &[u8], at: usize) -> bool
+pub fn at_tag(s: &[u8], at: usize) -> bool
     ensures { λ r. ⌜ r ≡ tagAt (now (s .entry)) at ⌝ }
 {
     if s.len() <= at {
@@ -166,7 +166,7 @@ fn at_tag(s: &[u8], at: usize) -> bool
 }
 
 // Kind 14, or 15 with uncertainty.
-fn number_kind(decimal: Decimal) -> u8
+pub fn number_kind(decimal: Decimal) -> u8
     ensures { λ r. ⌜ r ≡ kindOfNumber decimal ⌝ }
 {
     if decimal.uncertain {
