@@ -29,7 +29,7 @@ joined-requires : tie.Need-joined-requires
 joined-requires c κs = search needs
 
 returns : tie.Need-returns
-returns c = 
+returns c =
     let start = c .before .before .before .before .before .before in
     c .joined .ensures ∙ sym (de32-at (start .args .store .now) (start .args .at))
 

@@ -26,7 +26,7 @@ add-result : tie.Need-add-result
 add-result c = search needs
 
 returns : tie.Need-returns
-returns c = 
+returns c =
     let start = c .before .before .before in
     rw (c .before .u32-at .ensures, c .u32-at2 .ensures) (sym (de64-at (start .args .store .now) (start .args .at)))
 
