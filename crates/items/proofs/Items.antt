@@ -230,7 +230,7 @@ pub record TagRead (s : List ℕ) (o end stop : ℕ) (f : Found) : Type 0 where
   pub stops : stop ≡ gapEnd s end
   pub finds : f ≡ foundAt s stop
 
-module _ (s : List ℕ) (o end stop : ℕ) (f : Found) (r : TagRead s o end stop f) where
+module _ {s : List ℕ} {o end stop : ℕ} {f : Found} (r : TagRead s o end stop f) where
   pub tag-onward : (o < end) × (end ≤ length s)
   tag-onward = let n = name-step s o (r .bare) (r .tagged) in (rw (r .ends) (n .onward), rw (r .ends) (n .within))
 

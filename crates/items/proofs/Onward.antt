@@ -334,21 +334,26 @@ unfolding wordEnd lexed
 data-within s o g e = let m = met-data s o g e in (omega (arith, m .some-bytes), m .within)
 
 -- what a frame's item is, once it is known
-module _ (s : List ℕ) (a o : ℕ) (h : o ≤ length s) (g : gap (drop o s) ≡ 0) (i : Answered) (e : i ≡ itemAt s o) (x : Inside) (f : x ≡ inFrameOf i) where
-  inside-known : PassedInside s a o x
-  inside-known = rw (f, e) (item-inside s a o h g)
+pub inside-known :
+    (s : List ℕ) (a o : ℕ) (i : Answered) (x : Inside)
+    → o ≤ length s
+    → gap (drop o s) ≡ 0
+    → i ≡ itemAt s o
+    → x ≡ inFrameOf i
+    → PassedInside s a o x
+inside-known s a o i x h g e f = rw (f, e) (item-inside s a o h g)
 
-  pub inside-read : (p : ℕ) (z : Sizes) → x ≡ ReadInside p z → Passed s (some a) o (some a) p z
-  unfolding PassedInside
-  inside-read p z q = rw q at inside-known
+pub inside-read : {s : List ℕ} {a o p : ℕ} {z : Sizes} {x : Inside} → PassedInside s a o x → x ≡ ReadInside p z → Passed s (some a) o (some a) p z
+unfolding PassedInside
+inside-read h q = rw q at h
 
-  pub inside-dropped : (p : ℕ) → x ≡ Dropped p → DroppedAt s a o p
-  unfolding PassedInside
-  inside-dropped p q = rw q at inside-known
+pub inside-dropped : {s : List ℕ} {a o p : ℕ} {x : Inside} → PassedInside s a o x → x ≡ Dropped p → DroppedAt s a o p
+unfolding PassedInside
+inside-dropped h q = rw q at h
 
-  pub inside-refused : (d : Decision) → x ≡ RefusedInside d → (out : List Rec) → told d ≡ tells (left (some a) s o out)
-  unfolding PassedInside
-  inside-refused d q = rw q at inside-known
+pub inside-refused : (s : List ℕ) (a o : ℕ) {d : Decision} {x : Inside} → PassedInside s a o x → x ≡ RefusedInside d → (out : List Rec) → told d ≡ tells (left (some a) s o out)
+unfolding PassedInside
+inside-refused s a o h q = rw q at h
 
 -- what a part of the block is, once it is known
 pub stepped-read : (s : List ℕ) (o p : ℕ) (z : Sizes) (x : Step) → Stepped s o x → x ≡ Read p z → Passed s none o none p z

@@ -156,7 +156,7 @@ impl Sizes {
 }
 
 // Whether a tag stands at an offset.
-fn at_tag(s: &[u8], at: usize) -> bool
+pub fn at_tag(s: &[u8], at: usize) -> bool
     ensures { λ r. ⌜ r ≡ tagAt (now (s .entry)) at ⌝ }
 {
     if s.len() <= at {
@@ -166,7 +166,7 @@ fn at_tag(s: &[u8], at: usize) -> bool
 }
 
 // Kind 14, or 15 with uncertainty.
-fn number_kind(decimal: Decimal) -> u8
+pub fn number_kind(decimal: Decimal) -> u8
     ensures { λ r. ⌜ r ≡ kindOfNumber decimal ⌝ }
 {
     if decimal.uncertain {
@@ -342,24 +342,12 @@ fn in_block(item: Item) -> Step
     ensures { λ r. ⌜ r ≡ inBlockOf item ⌝ }
 {
     match item {
-        Item::Loop {
-            next,
-            sizes,
-            why: _,
-        } => Step::Read { next, sizes },
+        Item::Loop { next, sizes, .. } => Step::Read { next, sizes },
         Item::Single { next, sizes } => Step::Read { next, sizes },
-        Item::Ragged {
-            at,
-            remainder,
-            stop: _,
-        } => Step::Refused {
+        Item::Ragged { at, remainder, .. } => Step::Refused {
             decision: Decision::Ragged { at, remainder },
         },
-        Item::NoValue {
-            at,
-            stop: _,
-            why: _,
-        } => Step::Refused {
+        Item::NoValue { at, .. } => Step::Refused {
             decision: Decision::NoValue { at },
         },
         Item::NoItem { at } => Step::Refused {
@@ -379,22 +367,10 @@ fn in_frame(item: Item) -> Inside
     ensures { λ r. ⌜ r ≡ inFrameOf item ⌝ }
 {
     match item {
-        Item::Loop {
-            next,
-            sizes,
-            why: _,
-        } => Inside::Read { next, sizes },
+        Item::Loop { next, sizes, .. } => Inside::Read { next, sizes },
         Item::Single { next, sizes } => Inside::Read { next, sizes },
-        Item::Ragged {
-            at: _,
-            remainder: _,
-            stop,
-        } => Inside::Dropped { stop },
-        Item::NoValue {
-            at: _,
-            stop,
-            why: _,
-        } => Inside::Dropped { stop },
+        Item::Ragged { stop, .. } => Inside::Dropped { stop },
+        Item::NoValue { stop, .. } => Inside::Dropped { stop },
         Item::NoItem { at } => Inside::Dropped { stop: at },
         Item::NoNames { at } => Inside::Refused {
             decision: Decision::NoNames { at },

@@ -5,7 +5,7 @@ use lib.ListN.{length}
 use mathlib.Core.Option.{none, some}
 use Rattle.items.specs.Reading.{limit}
 use Rattle.items.specs.Frames.{Passed}
-use Rattle.items.proofs.Onward.{save-within, frame-opens, inside-read, inside-dropped, inside-refused, passed-then, frame-ends, frame-refused}
+use Rattle.items.proofs.Onward.{PassedInside, save-within, frame-opens, inside-known, inside-read, inside-dropped, inside-refused, passed-then, frame-ends, frame-refused}
 use Rattle.items.proofs.Room.{upto-none, upto-more}
 use Rattle.items.proofs.parse_save_frame.Statement.{statement}
 use Rattle.items.proofs.parse_save_frame.Tie as tie
@@ -15,6 +15,18 @@ Inv-loop s start end sizes₀ at₀ sizes at = Passed s none start (some start) 
 
 abbrev μ-loop : tie.MeasureT-loop
 μ-loop s start end sizes₀ at₀ sizes at = length s - at
+
+-- what is known once the item at hand is read
+known :
+    (b : tie.After-in-frame Inv-loop μ-loop)
+    → PassedInside
+    (b .before .before .before .before .before .before .before .before .args .s .now)
+    (b .before .before .before .before .before .before .before .before .args .start)
+    (b .before .before .loop .at)
+    (b .in-frame .result)
+known b =
+    let l = b .before .before .loop in
+    inside-known _ _ (l .at) _ _ (l .inv .within) (l .inv .bare) (b .before .parse-data-item .ensures) (b .in-frame .ensures)
 
 parse-identifier-requires : tie.Need-parse-identifier-requires Inv-loop μ-loop
 parse-identifier-requires c κs = tt
@@ -55,25 +67,22 @@ unfolding limit
 join-requires c κs =
     let b = c .before .before .before in
     let l = b .before .before .loop in
-    let a = b .before .before .before .before .before .before .before .before .args in
     let small = c .before .before .before .before .before .before .before .before .before .before .before .pre .0 .small in
-    let r = inside-read (a .s .now) (a .start) (l .at) (l .inv .within) (l .inv .bare) _ (b .before .parse-data-item .ensures) _ (b .in-frame .ensures) _ _ (c .before .inside .given .1) in
+    let r = inside-read (known b) (c .before .inside .given .1) in
     (upto-more _ (limit * limit) _ (l .inv .fits) (omega (arith, l .inv .within, small)), upto-more _ (limit * limit) _ (r .fits) (omega (arith, r .within, small)))
 
 loop-less : tie.Need-loop-less Inv-loop μ-loop
 loop-less c =
     let b = c .before .before .before .before in
     let l = b .before .before .loop in
-    let a = b .before .before .before .before .before .before .before .before .args in
-    let r = inside-read (a .s .now) (a .start) (l .at) (l .inv .within) (l .inv .bare) _ (b .before .parse-data-item .ensures) _ (b .in-frame .ensures) _ _ (c .before .before .inside .given .1) in
+    let r = inside-read (known b) (c .before .before .inside .given .1) in
     omega (arith, r .onward, r .within)
 
 loop-again : tie.Need-loop-again Inv-loop μ-loop
 loop-again c =
     let b = c .before .before .before .before in
     let l = b .before .before .loop in
-    let a = b .before .before .before .before .before .before .before .before .args in
-    let r = inside-read (a .s .now) (a .start) (l .at) (l .inv .within) (l .inv .bare) _ (b .before .parse-data-item .ensures) _ (b .in-frame .ensures) _ _ (c .before .before .inside .given .1) in
+    let r = inside-read (known b) (c .before .before .inside .given .1) in
     rw (c .join .ensures) (passed-then _ none (some _) (some _) _ (l .at) _ _ _ (l .inv) r)
 
 enum-known-inside-2 : tie.Need-enum-known-inside-2 Inv-loop μ-loop
@@ -84,17 +93,15 @@ unfolding limit
 close-frame-requires c κs =
     let b = c .before .before .before in
     let l = b .before .before .loop in
-    let a = b .before .before .before .before .before .before .before .before .args in
     let small = c .before .before .before .before .before .before .before .before .before .before .before .pre .0 .small in
-    let d = inside-dropped (a .s .now) (a .start) (l .at) (l .inv .within) (l .inv .bare) _ (b .before .parse-data-item .ensures) _ (b .in-frame .ensures) _ (c .before .inside2 .given .1) in
+    let d = inside-dropped (known b) (c .before .inside2 .given .1) in
     (record { within = d .within; small = small }, upto-more _ limit _ (l .inv .fits) (omega (arith, l .inv .within, small)))
 
 returns : tie.Need-returns Inv-loop μ-loop
 returns c =
     let b = c .before .before .before .before in
     let l = b .before .before .loop in
-    let a = b .before .before .before .before .before .before .before .before .args in
-    rw (c .close-frame .ensures) (frame-ends _ _ (l .at) _ (l .sizes) (l .inv) (inside-dropped (a .s .now) (a .start) (l .at) (l .inv .within) (l .inv .bare) _ (b .before .parse-data-item .ensures) _ (b .in-frame .ensures) _ (c .before .before .inside2 .given .1)))
+    rw (c .close-frame .ensures) (frame-ends _ _ (l .at) _ (l .sizes) (l .inv) (inside-dropped (known b) (c .before .before .inside2 .given .1)))
 
 enum-known-inside-3 : tie.Need-enum-known-inside-3 Inv-loop μ-loop
 enum-known-inside-3 c = c .match .keys3
@@ -103,8 +110,7 @@ returns-2 : tie.Need-returns-2 Inv-loop μ-loop
 returns-2 c =
     let b = c .before .before .before in
     let l = b .before .before .loop in
-    let a = b .before .before .before .before .before .before .before .before .args in
-    frame-refused _ _ (l .at) (l .sizes) _ (l .inv) (inside-refused (a .s .now) (a .start) (l .at) (l .inv .within) (l .inv .bare) _ (b .before .parse-data-item .ensures) _ (b .in-frame .ensures) _ (c .before .inside3 .given .1))
+    frame-refused _ _ (l .at) (l .sizes) _ (l .inv) (inside-refused _ _ (l .at) (known b) (c .before .inside3 .given .1))
 
 pub parse-save-frame-spec : {M : Type 1} → statement M
 parse-save-frame-spec =
