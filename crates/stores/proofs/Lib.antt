@@ -1,2 +1,5 @@
 pub mod Walking
 pub mod Nesting
+pub mod Quoting
+pub mod Contents
+pub mod Filling

@@ -11,7 +11,7 @@ ghost use Rattle.stores.specs.Contents.{isAlone, isName, readableBy, rea
 ghost use Rattle.stores.specs.Pieces.{plain};
 ghost use Rattle.stores.specs.Soundness.{sound};
 ghost use Rattle.stores.specs.Content.{nth, partOf, contentAt, contentReport, partBytes};
-ghost use Rattle.stores.specs.Records.{walkedAt};
+ghost use Rattle.stores.specs.Records.{lies, walkedAt};
 use records::Entry;
 use records::Fields;
 use records::Kind;
@@ -466,4 +466,124 @@ pub enum Walked {
         next: usize,
     },
     NoRecord,
+}
+
+// The part of the area that a record's content takes.
+fn part_of(kind: Kind, fields: Fields) -> Content
+    ensures { λ r. ⌜ r ≡ partOf (Entry.Record kind fields 0) ⌝ }
+{
+    if has_content(kind) {
+        return Content::Part {
+            from: fields.number as usize,
+            size: content_length(kind, fields),
+        };
+    }
+    Content::NoContent
+}
+
+// The part of a record by its number, the store not being judged.
+fn part_at(store: &[u8], number: usize) -> Content
+    ensures { λ r. ⌜ r ≡ partOf (nth (entries (now (store .entry))) number) ⌝ }
+{
+    let mut left = number;
+    let mut at = 0;
+    while at < store.len() {
+        let Entry::Record { kind, fields, next } = records::read_record(store, at) else {
+            return Content::NoContent;
+        };
+        if left == 0 {
+            return part_of(kind, fields);
+        }
+        left -= 1;
+        at = next;
+    }
+    Content::NoContent
+}
+
+// CONTENT: where the content of a record, by its number from 0, stands.
+pub fn find_content(store: &[u8], area: &[u8], number: usize) -> Content
+    ensures { λ r. ⌜ r ≡ contentAt (now (store .entry)) (now (area .entry)) number ⌝ }
+{
+    if !is_sound(store, area) {
+        return Content::NotSound;
+    }
+    part_at(store, number)
+}
+
+// CONTENT: the part of the area that holds it; an empty one on refusal.
+pub fn content_part<'a>(store: &[u8], area: &'a [u8], number: usize) -> &'a [u8]
+    ensures { λ r. ⌜ now r ≡ partBytes (now (area .entry)) (contentAt (now (store .entry)) (now (area .entry)) number) ⌝ }
+{
+    let found = find_content(store, area, number);
+    let Content::Part { from, size } = found else {
+        return &area[0..0];
+    };
+    let end = from + size;
+    &area[from..end]
+}
+
+impl Content {
+    // The answer in document 01's numbers.
+    pub fn report(self) -> Report
+        ensures { λ r. ⌜ r ≡ contentReport self ⌝ }
+    {
+        let number = match self {
+            Content::Part { from: _, size: _ } => 0,
+            Content::NotSound => 12,
+            Content::NoContent => 14,
+        };
+        Report {
+            number,
+            offset: 0,
+            line: 0,
+            column: 0,
+            detail: 0,
+            first: 0,
+            second: 0,
+        }
+    }
+}
+
+// Whether a record's content lies inside an area of so many bytes.
+fn lies_inside(size: usize, kind: Kind, fields: Fields) -> bool
+    ensures { λ r. ⌜ r ≡ lies size kind fields ⌝ }
+{
+    let token = fields.token;
+    let length = token.length as usize;
+    let marks = kind.marks();
+    if length < marks {
+        return false;
+    }
+    let from = fields.number as usize;
+    from + (length - marks) <= size
+}
+
+// The record at an offset of any bytes.
+pub fn record_at(store: &[u8], area: &[u8], at: usize) -> Walked
+    ensures { λ r. ⌜ r ≡ walkedAt (now (store .entry)) (now (area .entry)) at ⌝ }
+{
+    let found = records::read_record(store, at);
+    let Entry::Record { kind, fields, next } = found else {
+        return Walked::NoRecord;
+    };
+    let number = kind.number();
+    if !has_content(kind) {
+        return Walked::Record {
+            number,
+            fields,
+            from: 0,
+            size: 0,
+            next,
+        };
+    }
+    if !lies_inside(area.len(), kind, fields) {
+        return Walked::NoRecord;
+    }
+    Walked::Record {
+        number,
+        fields,
+        from: fields.number as usize,
+        size: content_length(kind, fields),
+        next,
+    }
 }
