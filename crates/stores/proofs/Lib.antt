@@ -3,3 +3,5 @@ pub mod Nesting
 pub mod Quoting
 pub mod Contents
 pub mod Filling
+pub mod Looking
+pub mod Records

@@ -216,7 +216,11 @@ fn is_nested(store: &[u8]) -> bool
             return false;
         };
         let stand = standing(frame, place, kind.number(), fields.number as usize);
-        let Stand::Stands { frame: within, place: then } = stand else {
+        let Stand::Stands {
+            frame: within,
+            place: then,
+        } = stand
+        else {
             return false;
         };
         frame = within;

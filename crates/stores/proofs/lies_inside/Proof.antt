@@ -1,33 +1,30 @@
+-- `stores::lies_inside`: each `return` goes by the test that led there. Assumes nothing.
 use borrow.Author.Needs.{needs}
+use borrow.Author.Tests.{le-leb, lt-leb}
+use Rattle.stores.specs.Contents.{contentLength}
+use Rattle.stores.specs.Records.{lies}
 use Rattle.stores.proofs.lies_inside.Statement.{statement}
 use Rattle.stores.proofs.lies_inside.Tie as tie
-use Rattle.stores.proofs.lies_inside.Reads as reads
-use Rattle.stores.proofs.lies_inside.Lts as lts
-use Rattle.records.proofs.Kind.marks.Reads as marks-reads
 
--- src/lib.rt:552:18
 cast-length : tie.Need-cast-length
 cast-length c = search needs
 
--- src/lib.rt:553:9
 marks-requires : tie.Need-marks-requires
 marks-requires c κs = search needs
 
--- src/lib.rt:555:9
 returns : tie.Need-returns
-returns c = ?
+unfolding lies
+returns c = rw (← c .before .marks .ensures, lt-leb _ _ (c .if1 .taken))
 
--- src/lib.rt:557:16
 cast-from : tie.Need-cast-from
 cast-from c = search needs
 
--- src/lib.rt:558:5
 add-result : tie.Need-add-result
 add-result c = search needs
 
--- src/lib.rt:548:1
 returns-2 : tie.Need-returns-2
-returns-2 c = ?
+unfolding lies contentLength
+returns-2 c = rw (← c .before .before .marks .ensures, le-leb _ _ (c .before .if1 .left))
 
 pub lies-inside-spec : {M : Type 1} → statement M
 lies-inside-spec =

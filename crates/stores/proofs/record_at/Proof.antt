@@ -1,61 +1,76 @@
+-- `stores::record_at`: by what stands there, and whether its content lies inside. Assumes nothing.
+use Prim.Native.Nat.{_≤_}
+use mathlib.Core.Path.{_≡_, sym, _∙_}
 use borrow.Author.Needs.{needs}
+use borrow.Author.Tests.{not-true, not-false}
+use Rattle.stores.specs.Records.{answered, walkedOf, walkedAt}
 use Rattle.stores.proofs.record_at.Statement.{statement}
 use Rattle.stores.proofs.record_at.Tie as tie
-use Rattle.stores.proofs.record_at.Reads as reads
-use Rattle.stores.proofs.record_at.Lts as lts
-use Rattle.records.proofs.Kind.number.Reads as number-reads
-use Rattle.records.proofs.read_record.Reads as read-record-reads
-use Rattle.stores.proofs.content_length.Reads as content-length-reads
-use Rattle.stores.proofs.has_content.Reads as has-content-reads
-use Rattle.stores.proofs.lies_inside.Reads as lies-inside-reads
 
--- src/lib.rt:565:9
 read-record-requires : tie.Need-read-record-requires
 read-record-requires c κs = search needs
 
--- src/lib.rt:566:25
 enum-known-found : tie.Need-enum-known-found
 enum-known-found c = search needs
 
--- src/lib.rt:567:9
 enum-told : tie.Need-enum-told
 enum-told c = search needs
 
--- src/lib.rt:567:9
 returns : tie.Need-returns
-returns c = ?
+unfolding walkedAt walkedOf
+returns c = rw (← c .before .before .read-record .ensures, c .enum-told .given .1)
 
--- src/lib.rt:569:9
 number-requires : tie.Need-number-requires
 number-requires c κs = search needs
 
--- src/lib.rt:570:9
 has-content-requires : tie.Need-has-content-requires
 has-content-requires c κs = search needs
 
--- src/lib.rt:571:9
 returns-2 : tie.Need-returns-2
-returns-2 c = ?
+unfolding walkedAt walkedOf answered
+returns-2 c =
+    rw (
+      ← c .before .before .before .before .before .before .read-record .ensures,
+      c .before .before .before .before .found .given .1,
+      ← c .before .has-content .ensures,
+      not-true (c .before .has-content .result) (c .if1 .taken),
+      c .before .before .number .ensures,
+    )
 
--- src/lib.rt:579:9
 lies-inside-requires : tie.Need-lies-inside-requires
 lies-inside-requires c κs = search needs
 
--- src/lib.rt:580:9
 returns-3 : tie.Need-returns-3
-returns-3 c = ?
+unfolding walkedAt walkedOf answered
+returns-3 c =
+    rw (
+      ← c .before .before .before .before .before .before .before .before .read-record .ensures,
+      c .before .before .before .before .before .before .found .given .1,
+      ← c .before .before .before .has-content .ensures,
+      not-false (c .before .before .before .has-content .result) (c .before .before .if1 .left),
+      ← c .before .lies-inside .ensures,
+      not-true (c .before .lies-inside .result) (c .if2 .taken),
+    )
 
--- src/lib.rt:585:15
 cast-t11 : tie.Need-cast-t11
 cast-t11 c = search needs
 
--- src/lib.rt:586:15
 content-length-requires : tie.Need-content-length-requires
 content-length-requires c κs = search needs
 
--- src/lib.rt:562:1
 returns-4 : tie.Need-returns-4
-returns-4 c = ?
+unfolding walkedAt walkedOf answered
+returns-4 c =
+    rw (
+      ← c .before .before .before .before .before .before .before .before .before .before .read-record .ensures,
+      c .before .before .before .before .before .before .before .before .found .given .1,
+      ← c .before .before .before .before .before .has-content .ensures,
+      not-false (c .before .before .before .before .before .has-content .result) (c .before .before .before .before .if1 .left),
+      ← c .before .before .before .lies-inside .ensures,
+      not-false (c .before .before .before .lies-inside .result) (c .before .before .if2 .left),
+      c .before .before .before .before .before .before .number .ensures,
+      c .content-length .ensures,
+    )
 
 pub record-at-spec : {M : Type 1} → statement M
 record-at-spec =
