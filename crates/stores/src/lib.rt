@@ -522,8 +522,8 @@ pub fn content_part<'a>(store: &[u8], area: &'a [u8], number: usize) -> &'a [u8]
     let Content::Part { from, size } = found else {
         return &area[0..0];
     };
-    let end = from + size;
-    &area[from..end]
+    let behind = from + size;
+    &area[from..behind]
 }
 
 impl Content {

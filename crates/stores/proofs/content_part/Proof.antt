@@ -26,8 +26,8 @@ part-result-end c = search needs
 returns : tie.Need-returns
 returns c = rw (← c .before .before .find-content .ensures) (sym (part-refused _ (c .before .before .find-content .result) (c .before .match .keys2)))
 
-add-end : tie.Need-add-end
-add-end c =
+add-behind : tie.Need-add-behind
+add-behind c =
     let given = c .before .before .before .before .before .before .args in
     let got = c .before .found .given in
     let inside = content-inside (given .store .now) (given .area .now) (given .number) (got .0 .0) (got .0 .1 .0) (sym (c .before .before .before .find-content .ensures) ∙ got .1) in
@@ -62,7 +62,7 @@ content-part-spec =
     part-result-start
     part-result-end
     returns
-    add-end
+    add-behind
     sub-result-2
     part-result-start-2
     part-result-end-2
