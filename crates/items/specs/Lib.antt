@@ -5,3 +5,4 @@ pub mod Sizes
 pub mod Descent
 pub mod Decisions
 pub mod Answers
+pub mod Frames

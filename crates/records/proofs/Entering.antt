@@ -4,14 +4,17 @@ use mathlib.Core.Path.{_≡_, refl, sym, ap, _∙_}
 use mathlib.Core.Bool.{Bool, true, false, cond, _&&_}
 use mathlib.Core.List.{List, [], _∷_}
 use native.Mathlib.Omega.{arith}
+use native.Mathlib.Nat.{add-zero}
 use native.Mathlib.Numerals.{add-one}
-use borrow.Author.Tests.{lt-ltb, le-ltb, le-leb, lt-leb}
+use borrow.Author.Tests.{lt-ltb, le-ltb, le-leb, lt-leb, leb-true}
 use lib.Dec.{leb, ltb}
 use lib.ListN.{length, drop, getD, length-drop, drop-of-length-le}
-use lib.Seq.{drop-cons}
-use Rattle.records.specs.declared.Entry.{Entry}
+use lib.Seq.{drop-cons, getD-drop}
+use Rattle.text.proofs.Bools.{and-l, and-r}
+use Rattle.records.specs.declared.Kind.{Kind}
+use Rattle.records.specs.declared.Fields.{Fields}
 use Rattle.records.specs.declared.Entry.the-variants.{Record, Nothing}
-use Rattle.records.specs.Kinds.{kindOf, numberOf, shapeOf, bodyLength}
+use Rattle.records.specs.Kinds.{kindOf, numberOf, shapeOf, shapeLength, bodyLength}
 use Rattle.records.specs.Entries.{fieldsOf, isKind, entryOf, entryAt}
 
 pub entry-over : (s : List ℕ) (at : ℕ) → length s ≤ at → entryAt s at ≡ Nothing
@@ -41,3 +44,43 @@ unfolding entryOf isKind
 entry-whole s at h known fits =
     let room : bodyLength (getD s at 0) ≤ length (drop (at + 1) s) = omega (arith, length-drop (at + 1) s) in
     entry-here s at h ∙ rw (lt-ltb _ _ known, le-leb _ _ room)
+
+-- what a record found says: its kind is that of its byte, and it ends behind its body, within the bytes
+pub record Found (s : List ℕ) (at : ℕ) (kind : Kind) (next : ℕ) : Type 0 where
+  pub here : at < length s
+  pub named : kind ≡ kindOf (getD s at 0)
+  pub known : isKind kind ≡ true
+  pub after : next ≡ at + 1 + shapeLength (shapeOf kind)
+  pub within : next ≤ length s
+
+chosen : (t : Bool) (k kind : Kind) (f fields : Fields) (n next : ℕ) → cond t (Record k f n) Nothing ≡ Record kind fields next → (t ≡ true) × (kind ≡ k) × (fields ≡ f) × (next ≡ n)
+chosen true k kind f fields n next e = (refl, (cc), (cc), (cc))
+chosen false k kind f fields n next e = let z : _≡_ {A = ℕ} 0 1 = cc in absurd (omega arith)
+
+found-front : (at : ℕ) (b : List ℕ) (kind : Kind) (fields : Fields) (next : ℕ) → entryOf at b ≡ Record kind fields next → (0 < length b) × (kind ≡ kindOf (getD b 0 0)) × (isKind kind ≡ true) × (next ≡ at + 1 + shapeLength (shapeOf kind)) × (next ≤ at + length b)
+unfolding entryOf bodyLength
+found-front at [] kind fields next e = let z : _≡_ {A = ℕ} 0 1 = cc in absurd (omega arith)
+found-front at (x ∷ b) kind fields next e =
+    let k = kindOf x in
+    let n = at + 1 + bodyLength x in
+    let test = isKind k && leb (bodyLength x) (length b) in
+    let got = chosen test k kind (fieldsOf (shapeOf k) b) fields n next e in
+    let room = leb-true (bodyLength x) (length b) (and-r (isKind k) (leb (bodyLength x) (length b)) (got .0)) in (
+      omega arith,
+      got .1,
+      rw (got .1) (and-l (isKind k) (leb (bodyLength x) (length b)) (got .0)),
+      rw (got .1) (got .3),
+      omega (arith, got .3),
+    )
+
+pub found : (s : List ℕ) (at : ℕ) (kind : Kind) (fields : Fields) (next : ℕ) → entryAt s at ≡ Record kind fields next → Found s at kind next
+unfolding entryAt
+found s at kind fields next e =
+    let got = found-front at (drop at s) kind fields next e in
+    record {
+      here = omega (arith, length-drop at s, got .0);
+      named = got .1 ∙ ap kindOf (getD-drop at s 0 0 ∙ ap (λ (i : ℕ). getD s i 0) (add-zero at));
+      known = got .2;
+      after = got .3;
+      within = omega (arith, length-drop at s, got .0, got .4);
+    }

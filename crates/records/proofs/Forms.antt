@@ -5,10 +5,13 @@ use mathlib.Core.List.{List, [], _∷_, _++_, append-assoc}
 use native.Mathlib.Omega.{arith}
 use lib.ListN.{length}
 use Rattle.numbers.specs.declared.Decimal.{Decimal}
+use Rattle.records.specs.declared.Shape.{Shape}
+use Rattle.records.specs.declared.Shape.the-variants.{Empty, Place, Content, Count, Parts, PartsUncertain}
 use Rattle.records.specs.declared.Token.{Token}
+use Rattle.records.specs.Kinds.{kindOf, shapeOf, shapeLength, outlineShape, bodyLength, outlineLength}
 use Rattle.records.specs.Bytes.{le32, le64, signed32, flag}
 use Rattle.records.specs.Put.{front, put}
-use Rattle.records.specs.Records.{tokenBytes, decimalBytes, placeRecord, contentRecord, loopRecord, numberRecord, uncertainRecord}
+use Rattle.records.specs.Records.{tokenBytes, decimalBytes, endRecord, placeRecord, contentRecord, loopRecord, numberRecord, uncertainRecord}
 use Rattle.records.proofs.Putting.{put-more, front-next}
 
 pub length-token : (t : Token) → length (tokenBytes t) ≡ 16
@@ -38,6 +41,45 @@ length-number t d = refl
 pub length-uncertain : (t : Token) (d : Decimal) → length (uncertainRecord t d) ≡ 39
 unfolding uncertainRecord tokenBytes decimalBytes le64 signed32 le32
 length-uncertain t d = refl
+
+-- so each is its kind's byte and a body of the kind's length
+pub end-whole : length endRecord ≡ 1 + bodyLength 7
+unfolding endRecord bodyLength kindOf shapeOf shapeLength
+end-whole = refl
+
+pub place-whole : (k : ℕ) (t : Token) → shapeOf (kindOf k) ≡ Place → length (placeRecord k t) ≡ 1 + bodyLength k
+unfolding bodyLength shapeLength
+place-whole k t shape = rw shape (length-place k t)
+
+pub content-whole : (k : ℕ) (t : Token) (a : ℕ) → shapeOf (kindOf k) ≡ Content → length (contentRecord k t a) ≡ 1 + bodyLength k
+unfolding bodyLength shapeLength
+content-whole k t a shape = rw shape (length-content k t a)
+
+pub loop-whole : (t : Token) (n : ℕ) → length (loopRecord t n) ≡ 1 + bodyLength 5
+unfolding bodyLength kindOf shapeOf shapeLength
+loop-whole t n = length-loop t n
+
+pub number-whole : (t : Token) (d : Decimal) → length (numberRecord t d) ≡ 1 + bodyLength 14
+unfolding bodyLength kindOf shapeOf shapeLength
+number-whole t d = length-number t d
+
+pub uncertain-whole : (t : Token) (d : Decimal) → length (uncertainRecord t d) ≡ 1 + bodyLength 15
+unfolding bodyLength kindOf shapeOf shapeLength
+uncertain-whole t d = length-uncertain t d
+
+-- in the outline every record but kind 7 is its kind's byte and P
+outlined : (s : Shape) → 0 < shapeLength s → shapeLength (outlineShape s) ≡ 16
+unfolding shapeLength outlineShape
+outlined Empty h = absurd (omega arith)
+outlined Place h = refl
+outlined Content h = refl
+outlined Count h = refl
+outlined Parts h = refl
+outlined PartsUncertain h = refl
+
+pub outline-whole : (k : ℕ) (t : Token) → 0 < bodyLength k → length (placeRecord k t) ≡ 1 + outlineLength k
+unfolding bodyLength outlineLength
+outline-whole k t h = rw (outlined (shapeOf (kindOf k)) h) (length-place k t)
 
 -- eight bytes by two fours
 pub long-put : (at v : ℕ) (l : List ℕ) → at + 8 ≤ length l → put (at + 4) (le32 (v / 4294967296)) (put at (le32 (v % 4294967296)) l) ≡ put at (le64 v) l

@@ -3,3 +3,4 @@ pub mod Putting
 pub mod Forms
 pub mod Offsets
 pub mod Entering
+pub mod Back

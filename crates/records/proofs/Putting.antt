@@ -1,6 +1,6 @@
 -- Laws of putting bytes over those of a list. Assumes nothing.
 use Prim.Native.Nat.{ℕ, zero, suc, _+_, _-_, _≤_, _<_}
-use mathlib.Core.Path.{_≡_, refl, ap, _∙_}
+use mathlib.Core.Path.{_≡_, refl, sym, ap, _∙_}
 use mathlib.Core.List.{List, [], _∷_, _++_, append-assoc, append-nil}
 use native.Mathlib.Omega.{arith}
 use native.Mathlib.Nat.{zero-add, suc-add}
@@ -53,6 +53,38 @@ take-front vs l = take-append-seam vs (drop (length vs) l)
 pub drop-front : (vs l : List ℕ) → drop (length vs) (front vs l) ≡ drop (length vs) l
 unfolding front
 drop-front vs l = drop-append-seam vs (drop (length vs) l)
+
+-- of several put at the front, those behind the first stand at the front of what follows it
+pub drop-front-append : (vs ws l : List ℕ) → drop (length vs) (front (vs ++ ws) l) ≡ front ws (drop (length vs) l)
+unfolding front
+drop-front-append vs ws l = rw (append-assoc, drop-append-seam, length-append, drop-drop)
+
+pub front-append : (vs ws l : List ℕ) → front (vs ++ ws) l ≡ vs ++ front ws (drop (length vs) l)
+unfolding front
+front-append vs ws l = rw (append-assoc, length-append, drop-drop)
+
+-- within a part
+pub front-take : (n : ℕ) (vs l : List ℕ) → length vs ≤ n → front vs (take n l) ≡ take n (front vs l)
+unfolding front
+front-take n [] l h = refl
+front-take zero (v ∷ vs) l h = absurd (omega arith)
+front-take (suc n) (v ∷ vs) [] h =
+    ap (λ (z : List ℕ). v ∷ z) (append-nil vs ∙ sym (ap (take n) (append-nil vs) ∙ take-all n vs (omega arith)))
+front-take (suc n) (v ∷ vs) (x ∷ l) h = ap (λ (z : List ℕ). v ∷ z) (front-take n vs l (omega arith))
+
+-- from where bytes were put on, they stand at the front
+pub drop-put : (at : ℕ) (vs l : List ℕ) → at ≤ length l → drop at (put at vs l) ≡ front vs (drop at l)
+unfolding put
+drop-put zero vs l h = refl
+drop-put (suc at) vs [] h = absurd (omega arith)
+drop-put (suc at) vs (x ∷ l) h = drop-put at vs l (omega arith)
+
+-- before it nothing changed
+pub take-put : (at : ℕ) (vs l : List ℕ) → at ≤ length l → take at (put at vs l) ≡ take at l
+unfolding put
+take-put zero vs l h = refl
+take-put (suc at) vs [] h = absurd (omega arith)
+take-put (suc at) vs (x ∷ l) h = ap (λ (z : List ℕ). x ∷ z) (take-put at vs l (omega arith))
 
 -- one byte
 pub set-put : (at v : ℕ) (l : List ℕ) → at < length l → set l at v ≡ put at (v ∷ []) l

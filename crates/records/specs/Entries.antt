@@ -1,10 +1,11 @@
 -- Records read back (document 01, 'Records'): what stands at an offset of any bytes. A byte that is no kind, and a body that does not fit, give nothing; sign,
 -- fraction digits and exponent come as they are stored, for soundness to judge. Assumes nothing.
-use Prim.Native.Nat.{ℕ, _+_, _*_}
+use Prim.Native.Nat.{ℕ, _+_, _-_, _*_, _%_}
 use mathlib.Core.Bool.{Bool, cond, _&&_}
 use mathlib.Core.List.{List, [], _∷_}
 use lib.Dec.{leb, ltb}
 use lib.ListN.{length, drop, getD}
+use Rattle.numbers.specs.declared.Decimal.{Decimal}
 use Rattle.records.specs.declared.Kind.{Kind}
 use Rattle.records.specs.declared.Shape.{Shape}
 use Rattle.records.specs.declared.Shape.the-variants.{Empty, Place, Content, Count, Parts as PartsShape, PartsUncertain}
@@ -13,6 +14,7 @@ use Rattle.records.specs.declared.Parts.{Parts}
 use Rattle.records.specs.declared.Fields.{Fields}
 use Rattle.records.specs.declared.Entry.{Entry}
 use Rattle.records.specs.declared.Entry.the-variants.{Record, Nothing}
+use Rattle.records.specs.Bytes.{flag}
 use Rattle.records.specs.Kinds.{kindOf, numberOf, shapeOf, bodyLength}
 
 -- the number that the first four bytes give, the lowest first
@@ -40,20 +42,39 @@ partsOf b u =
       uncertainty = u;
     }
 
-abbrev pub noToken : Token
-noToken = record { offset = 0; length = 0; line = 0; column = 0 }
-
 abbrev pub noParts : Parts
 noParts = record { sign = 0; integer = 0; fraction = 0; places = 0; exponent = 0; uncertainty = 0 }
 
--- a body by its shape; what the shape has not is 0
+-- what a body holds: nothing; P and a number; P and decimal parts. What it has not is 0
+abbrev pub noFields : Fields
+noFields = record { token = record { offset = 0; length = 0; line = 0; column = 0 }; number = 0; parts = noParts }
+
+unfoldable pub plainFields : List ℕ → ℕ → Fields
+plainFields b n = record { token = tokenOf b; number = n; parts = noParts }
+
+unfoldable pub partsFields : List ℕ → ℕ → Fields
+partsFields b u = record { token = tokenOf b; number = 0; parts = partsOf (drop 16 b) u }
+
+-- the parts that a number is stored as: an exponent by its two's complement
+unfoldable pub stored : Decimal → ℕ → Parts
+stored d u =
+    record {
+      sign = flag (d .minus);
+      integer = d .integer;
+      fraction = d .fraction;
+      places = d .places;
+      exponent = cond (d .lowers) (4294967296 - d .exponent) (d .exponent) % 4294967296;
+      uncertainty = u;
+    }
+
+-- a body by its shape
 unfoldable pub fieldsOf : Shape → List ℕ → Fields
-fieldsOf Empty b = record { token = noToken; number = 0; parts = noParts }
-fieldsOf Place b = record { token = tokenOf b; number = 0; parts = noParts }
-fieldsOf Content b = record { token = tokenOf b; number = de32 (drop 16 b); parts = noParts }
-fieldsOf Count b = record { token = tokenOf b; number = de32 (drop 16 b); parts = noParts }
-fieldsOf PartsShape b = record { token = tokenOf b; number = 0; parts = partsOf (drop 16 b) 0 }
-fieldsOf PartsUncertain b = record { token = tokenOf b; number = 0; parts = partsOf (drop 16 b) (de32 (drop 34 b)) }
+fieldsOf Empty b = noFields
+fieldsOf Place b = plainFields b 0
+fieldsOf Content b = plainFields b (de32 (drop 16 b))
+fieldsOf Count b = plainFields b (de32 (drop 16 b))
+fieldsOf PartsShape b = partsFields b 0
+fieldsOf PartsUncertain b = partsFields b (de32 (drop 34 b))
 
 -- every kind but `NoKind`
 unfoldable pub isKind : Kind → Bool

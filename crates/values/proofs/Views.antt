@@ -53,7 +53,8 @@ unfolding closed
 multi-view t none e = missing openField
 multi-view t (some n) e = multi t n refl e
 
-value-view : (b : ℕ) (t : List ℕ) → Read (b ∷ t) (lexValue b t)
+-- by its first byte
+pub value-view : (b : ℕ) (t : List ℕ) → Read (b ∷ t) (lexValue b t)
 unfolding lexValue is inWord endsWord
 value-view b t =
     pick (b ∷ t) (is 46 b) _ _ (λ e. rw (eqb-true b 46 e) (word-view (46 ∷ t) (lexed (value 8) 1) (word-pos 46 t refl) (point t refl)))
