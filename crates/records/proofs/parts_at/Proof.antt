@@ -1,3 +1,4 @@
+-- `records::parts_at`: part by part. Assumes nothing.
 use borrow.Author.Needs.{needs}
 use mathlib.Core.Path.{sym}
 use Rattle.records.proofs.Offsets.{parts-at}
@@ -32,7 +33,7 @@ u32-at-requires-2 : tie.Need-u32-at-requires-2
 u32-at-requires-2 c κs = search needs
 
 returns : tie.Need-returns
-returns c = 
+returns c =
     let start = c .before .before .before .before .before .before in
     rw (c .before .before .before .u32-at .ensures, c .before .before .u64-at .ensures, c .u32-at2 .ensures)
     (sym (parts-at (start .args .store .now) (start .args .at) (start .args .uncertainty)))

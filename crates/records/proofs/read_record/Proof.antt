@@ -1,3 +1,4 @@
+-- `records::read_record`: each return by the tests that led there. Assumes nothing.
 use borrow.Author.Needs.{needs}
 use Prim.Native.Nat.{_<_, _≤_, _-_, _+_}
 use mathlib.Core.Path.{_≡_, sym, _∙_}
@@ -21,7 +22,7 @@ number-requires : tie.Need-number-requires
 number-requires c κs = search needs
 
 returns-2 : tie.Need-returns-2
-returns-2 c = 
+returns-2 c =
     let start = c .before .before .before .before .before .before in
     let e : numberOf (kindOf (getD (start .args .store .now) (start .args .at) 0)) ≡ 0 = rw (← c .before .before .of .ensures) (sym (c .before .number .ensures) ∙ c .if2 .taken) in
     sym (entry-none (start .args .store .now) (start .args .at) (c .before .before .before .before .if1 .left) e)
@@ -40,7 +41,7 @@ sub-if3 c = search needs
 
 returns-3 : tie.Need-returns-3
 unfolding bodyLength
-returns-3 c = 
+returns-3 c =
     let start = c .before .before .before .before .before .before .before .before .before in
     let s = start .args .store .now in
     let at = start .args .at in
@@ -55,7 +56,7 @@ add-t7 c = search needs
 
 returns-4 : tie.Need-returns-4
 unfolding bodyLength
-returns-4 c = 
+returns-4 c =
     let start = c .before .before .before .before .before .before .before .before .before .before in
     let s = start .args .store .now in
     let at = start .args .at in

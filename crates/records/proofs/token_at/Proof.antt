@@ -1,3 +1,4 @@
+-- `records::token_at`: four numbers. Assumes nothing.
 use borrow.Author.Needs.{needs}
 use mathlib.Core.Path.{sym}
 use Rattle.records.proofs.Offsets.{token-at}
@@ -26,7 +27,7 @@ u32-at-requires-4 : tie.Need-u32-at-requires-4
 u32-at-requires-4 c κs = search needs
 
 returns : tie.Need-returns
-returns c = 
+returns c =
     let start = c .before .before .before .before .before in
     rw (
       c .before .before .before .u32-at .ensures,

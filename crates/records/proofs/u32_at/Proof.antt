@@ -1,3 +1,4 @@
+-- `records::u32_at`: the four bytes are those from the offset on. Assumes nothing.
 use borrow.Author.Needs.{needs}
 use mathlib.Core.Path.{sym, _∙_}
 use Rattle.records.proofs.Offsets.{de32-at}
@@ -29,7 +30,7 @@ joined-requires : tie.Need-joined-requires
 joined-requires c κs = search needs
 
 returns : tie.Need-returns
-returns c = 
+returns c =
     let start = c .before .before .before .before .before .before in
     c .joined .ensures ∙ sym (de32-at (start .args .store .now) (start .args .at))
 

@@ -1,5 +1,6 @@
+-- `records::u64_at`: two fours. Assumes nothing.
 use borrow.Author.Needs.{needs}
-use mathlib.Core.Path.{sym, _∙_}
+use mathlib.Core.Path.{sym}
 use Rattle.records.proofs.Offsets.{de64-at}
 use Rattle.records.proofs.u64_at.Statement.{statement}
 use Rattle.records.proofs.u64_at.Tie as tie
@@ -26,7 +27,7 @@ add-result : tie.Need-add-result
 add-result c = search needs
 
 returns : tie.Need-returns
-returns c = 
+returns c =
     let start = c .before .before .before in
     rw (c .before .u32-at .ensures, c .u32-at2 .ensures) (sym (de64-at (start .args .store .now) (start .args .at)))
 
