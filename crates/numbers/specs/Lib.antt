@@ -1,2 +1,5 @@
 pub mod Parts
 pub mod Meaning
+pub mod Spelling
+pub mod Cif
+pub mod Cuts

@@ -1,4 +1,5 @@
 pub mod Bools
+pub mod Ranges
 pub mod Runs
 pub mod Gaps
 pub mod Places

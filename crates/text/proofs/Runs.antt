@@ -28,7 +28,7 @@ module _ (p : ℕ → Bool) (s : List ℕ) (o : ℕ) where
   unfolding spanEnd
   span-from = omega arith
 
-span-le : (p : ℕ → Bool) (s : List ℕ) → span p s ≤ length s
+pub span-le : (p : ℕ → Bool) (s : List ℕ) → span p s ≤ length s
 unfolding span
 span-le p [] = omega arith
 span-le p (b ∷ s) = by (p b) (span-le p s)

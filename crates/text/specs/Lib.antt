@@ -2,3 +2,4 @@ pub mod Bytes
 pub mod Runs
 pub mod Gaps
 pub mod Places
+pub mod Reports

@@ -1,0 +1,111 @@
+-- What the code answers of a value, a loop's names and values, and the item at an offset. Assumes nothing.
+use Prim.Native.Nat.{ℕ, _%_, _≤_}
+use mathlib.Core.Path.{_≡_}
+use mathlib.Core.Bool.{Bool, true, false, cond}
+use mathlib.Core.List.{List, [], _∷_}
+use lib.Dec.{eqb}
+use lib.ListN.{length, drop}
+use Rattle.text.specs.Bytes.{is}
+use Rattle.text.specs.Gaps.{gap}
+use Rattle.numbers.specs.declared.Decimal.{Decimal}
+use Rattle.values.specs.Answers.{valueAt}
+use Rattle.values.specs.declared.Why.{Why}
+use Rattle.values.specs.declared.Why.the-variants.{AtEnd}
+use Rattle.values.specs.declared.Value.{Value as ValueAnswer}
+use Rattle.values.specs.declared.Value.the-variants.{Token, Number, Over as OverAnswer, Missing as MissingAnswer}
+use Rattle.items.specs.declared.Found.{Found}
+use Rattle.items.specs.declared.Found.the-variants.{Value as FoundValue, Over as FoundOver, Missing as FoundMissing}
+use Rattle.items.specs.declared.Names.{Names}
+use Rattle.items.specs.declared.Values.{Values}
+use Rattle.items.specs.declared.Item.{Item as Answered}
+use Rattle.items.specs.declared.Item.the-variants.{Loop, Single, Ragged, NoValue, NoItem, NoNames, Over}
+use Rattle.items.specs.Tokens.{Tok, inBlock}
+use Rattle.items.specs.Reading.{limit}
+use Rattle.items.specs.Sizes.{sizesOf, noSizes, added, joined}
+use Rattle.items.specs.Descent.{Item, taken, failed, broken, item, nameRecs, afterNames, valueRecs, afterValues, isOver}
+use Rattle.items.specs.Decisions.{tokensAt, headAt, headWhy}
+
+-- o is an offset of a text within limit 1
+pub record Ready (s : List ℕ) (o : ℕ) : Type 0 where
+  pub within : o ≤ length s
+  pub small : length s ≤ limit
+
+-- and no space or comment stands there
+pub record Here (s : List ℕ) (o : ℕ) : Type 0 where
+  pub within : o ≤ length s
+  pub small : length s ≤ limit
+  pub none : gap (drop o s) ≡ 0
+
+-- a tag starts with `_`
+unfoldable pub tagFirst : List ℕ → Bool
+tagFirst [] = false
+tagFirst (b ∷ s) = is 95 b
+
+unfoldable pub tagAt : List ℕ → ℕ → Bool
+tagAt s o = tagFirst (drop o s)
+
+-- kind 14, or 15 with uncertainty
+abbrev pub kindOfNumber : Decimal → ℕ
+kindOfNumber d = cond (d .uncertain) 15 14
+
+abbrev pub foundOf : ValueAnswer → Found
+foundOf (Token k n) = FoundValue k n
+foundOf (Number d n) = FoundValue (kindOfNumber d) n
+foundOf OverAnswer = FoundOver
+foundOf (MissingAnswer w) = FoundMissing w
+
+abbrev pub foundAt : List ℕ → ℕ → Found
+foundAt s o = foundOf (valueAt s o)
+
+abbrev pub isOverFound : Found → Bool
+isOverFound (FoundValue k n) = false
+isOverFound FoundOver = true
+isOverFound (FoundMissing w) = false
+
+abbrev pub whyFound : Found → Why
+whyFound (FoundValue k n) = AtEnd
+whyFound FoundOver = AtEnd
+whyFound (FoundMissing w) = w
+
+-- the names that tokens start with
+unfoldable pub namesOf : List Tok → Names
+namesOf ts = record { count = length (nameRecs ts); next = headAt (afterNames ts); sizes = sizesOf (nameRecs ts) }
+
+unfoldable pub namesAt : List ℕ → ℕ → Names
+namesAt s o = namesOf (tokensAt inBlock s o)
+
+-- the values that tokens start with, and what ended them
+unfoldable pub headOver : List Tok → Bool
+headOver [] = false
+headOver (t ∷ ts) = isOver (t .class)
+
+unfoldable pub valuesOf : List Tok → Values
+valuesOf ts =
+    record {
+      count = length (valueRecs ts);
+      next = headAt (afterValues ts);
+      sizes = sizesOf (valueRecs ts);
+      over = headOver (afterValues ts);
+      why = headWhy (afterValues ts);
+    }
+
+unfoldable pub valuesAt : List ℕ → ℕ → Values
+valuesAt s o = valuesOf (tokensAt inBlock s o)
+
+-- the loop at offset o, by its names and values
+unfoldable pub rowsOf : ℕ → Names → Values → Answered
+rowsOf o names values =
+    cond (eqb (values .count % names .count) 0)
+    (Loop (values .next) (added (joined (joined (added noSizes 5 5) (names .sizes)) (values .sizes)) 7 0) (values .why))
+    (Ragged o (values .count % names .count) (values .next))
+
+unfoldable pub itemAnswer : Item → Answered
+itemAnswer (taken true rs rest) = Loop (headAt rest) (sizesOf rs) (headWhy rest)
+itemAnswer (taken false rs rest) = Single (headAt rest) (sizesOf rs)
+itemAnswer (failed n o d rest) =
+    cond (eqb n 5) (Ragged o d (headAt rest)) (cond (eqb n 6) (NoValue o (headAt rest) (headWhy rest)) (NoItem o))
+itemAnswer (broken n o) = cond (eqb n 8) (NoNames o) (Over o)
+
+-- the item at offset o, behind space and comments. It is the same in the block and in a frame: no item reaches over a `save_`
+unfoldable pub itemAt : List ℕ → ℕ → Answered
+itemAt s o = itemAnswer (item (tokensAt inBlock s o))

@@ -1,0 +1,138 @@
+-- Laws of pieces of a word, of runs of digits in it and of the numbers that they write. Assumes nothing.
+use Prim.Native.Nat.{ℕ, zero, suc, _+_, _-_, _*_, _^_, _≤_, _<_}
+use mathlib.Core.Path.{_≡_, refl, sym, _∙_}
+use mathlib.Core.Bool.{Bool, true, false, cond, not}
+use mathlib.Core.List.{List, [], _∷_, _++_}
+use native.Mathlib.Nat.{add-zero, pow-suc, pow-le-pow-right, lt-of-lt-of-le}
+use native.Mathlib.Decide.{decLt}
+use native.Mathlib.Omega.{arith}
+use lib.Dec.{leb, ltb, eqb, lit<}
+use lib.ListN.{length, take, drop, getD, length-take, length-drop, drop-of-length-le}
+use lib.Seq.{take-suc, take-nil, drop-cons, drop-drop, getD-drop}
+use borrow.Author.Tests.{leb-true, lt-ltb, le-ltb, le-leb, lt-leb}
+use Rattle.text.specs.Bytes.{isDigit, is}
+use Rattle.text.specs.Runs.{span, spanEnd}
+use Rattle.text.proofs.Bools.{and-l, and-r}
+use Rattle.text.proofs.Runs.{past-end, span-from, span-within, span-all}
+use Rattle.numbers.specs.Parts.{isEmpty, valueFrom, value, minus}
+use Rattle.numbers.specs.Cuts.{piece, digitsEnd, Run}
+
+-- pieces
+
+pub piece-over : (w : List ℕ) (i j : ℕ) → j ≤ i → piece w i j ≡ []
+unfolding piece
+piece-over w i j h =
+    let e : j - i ≡ 0 = omega arith in
+    rw e
+
+pub piece-none : (w : List ℕ) (i : ℕ) → piece w i i ≡ []
+piece-none w i = piece-over w i i (omega arith)
+
+pub piece-length : (w : List ℕ) (i j : ℕ) → j ≤ length w → length (piece w i j) ≡ j - i
+unfolding piece
+piece-length w i j h = omega (arith, length-take (j - i) (drop i w), length-drop i w)
+
+empty-length : (s : List ℕ) → isEmpty s ≡ leb (length s) 0
+unfolding isEmpty
+empty-length [] = refl
+empty-length (b ∷ s) = sym (lt-leb (suc (length s)) 0 (omega arith))
+
+pub piece-empty : (w : List ℕ) (i j : ℕ) → j ≤ length w → isEmpty (piece w i j) ≡ not (ltb i j)
+piece-empty w i j h = empty-length (piece w i j) ∙ rw (piece-length w i j h) (by (decLt i j))
+  where
+    by : Dec (i < j) → leb (j - i) 0 ≡ not (ltb i j)
+    by (yes l) = rw (lt-leb (j - i) 0 (omega arith), lt-ltb i j l)
+    by (no l) = rw (le-leb (j - i) 0 (omega arith), le-ltb i j (omega arith))
+
+pub rest-empty : (w : List ℕ) (i : ℕ) → isEmpty (drop i w) ≡ not (ltb i (length w))
+rest-empty w i = empty-length (drop i w) ∙ rw (length-drop i w) (by (decLt i (length w)))
+  where
+    by : Dec (i < length w) → leb (length w - i) 0 ≡ not (ltb i (length w))
+    by (yes l) = rw (lt-leb (length w - i) 0 (omega arith), lt-ltb i (length w) l)
+    by (no l) = rw (le-leb (length w - i) 0 (omega arith), le-ltb i (length w) (omega arith))
+
+-- a sign's first byte says whether it is a minus
+pub piece-minus : (w : List ℕ) (i j : ℕ) → i < j → minus (piece w i j) ≡ eqb (getD w i 0) 45
+unfolding minus piece is
+piece-minus w i j h = by (decLt i (length w))
+  where
+    n : j - i ≡ suc (j - i - 1)
+    n = omega arith
+
+    by : Dec (i < length w) → minus (take (j - i) (drop i w)) ≡ eqb (getD w i 0) 45
+    by (yes l) = rw (n, drop-cons w i 0 l)
+    by (no l) =
+        let o : length w ≤ i = omega arith in
+        rw (drop-of-length-le w o, take-nil (j - i), past-end w i o)
+
+-- runs of digits
+
+pub digit-range : (b : ℕ) → isDigit b ≡ true → (48 ≤ b) × (b ≤ 57)
+unfolding isDigit
+digit-range b e = (leb-true 48 b (and-l (leb 48 b) (leb b 57) e), leb-true b 57 (and-r (leb 48 b) (leb b 57) e))
+
+pub run-digit : {w : List ℕ} {i j : ℕ} → Run w i j → (k : ℕ) → i ≤ k → k < j → (48 ≤ getD w k 0) × (getD w k 0 ≤ 57)
+run-digit {w} r k h l = digit-range (getD w k 0) (r .all k h l)
+
+pub run-first : {w : List ℕ} {i j : ℕ} → Run w i j → (k : ℕ) → i ≤ k → k ≤ j → Run w i k
+run-first r k h l = record { from = h; to = omega (arith, r .to); all = λ n a b. r .all n a (omega arith) }
+
+pub run-here : (w : List ℕ) (i : ℕ) → i ≤ length w → Run w i (digitsEnd w i)
+unfolding digitsEnd
+run-here w i h = record { from = span-from isDigit w i; to = span-within isDigit w i h; all = λ k a b. span-all isDigit w i k a b }
+
+pub run-none : (w : List ℕ) (i : ℕ) → i ≤ length w → Run w i i
+run-none w i h = record { from = omega arith; to = h; all = λ k a b. absurd (omega arith) }
+
+span-twice : (p : ℕ → Bool) (s : List ℕ) → span p (drop (span p s) s) ≡ 0
+unfolding span
+span-twice p [] = refl
+span-twice p (b ∷ s) = by (p b) refl (span-twice p s)
+  where
+    by : (t : Bool) → p b ≡ t → span p (drop (span p s) s) ≡ 0 → span p (drop (cond t (suc (span p s)) 0) (b ∷ s)) ≡ 0
+    by true e h = h
+    by false e h = rw e
+
+-- behind digits no more digits stand
+pub digits-end-twice : (w : List ℕ) (i : ℕ) → digitsEnd w (digitsEnd w i) ≡ digitsEnd w i
+unfolding digitsEnd spanEnd
+digits-end-twice w i = rw (← drop-drop (span isDigit (drop i w)) i w, span-twice isDigit (drop i w), add-zero)
+
+-- the numbers that they write
+
+value-snoc : (a : ℕ) (ds : List ℕ) (d : ℕ) → valueFrom a (ds ++ d ∷ []) ≡ valueFrom a ds * 10 + (d - 48)
+unfolding valueFrom
+value-snoc a [] d = refl
+value-snoc a (x ∷ ds) d = value-snoc (a * 10 + (x - 48)) ds d
+
+pub value-none : (w : List ℕ) (i : ℕ) → value (piece w i i) ≡ 0
+unfolding value valueFrom
+value-none w i = rw (piece-none w i)
+
+pub value-more : (w : List ℕ) (i j : ℕ) → i ≤ j → j < length w → value (piece w i (j + 1)) ≡ value (piece w i j) * 10 + (getD w j 0 - 48)
+unfolding value piece
+value-more w i j h l =
+    let e : j + 1 - i ≡ suc (j - i) = omega arith in
+    let f : i + (j - i) ≡ j = omega arith in
+    let n : j - i < length (drop i w) = omega (arith, length-drop i w) in
+    rw (e, take-suc (drop i w) (j - i) 0 n, value-snoc, getD-drop, f)
+
+digit-more : (v n d : ℕ) → v < 10 ^ n → d ≤ 9 → v * 10 + d < 10 ^ suc n
+digit-more v n d h l = rw pow-suc (omega arith)
+
+value-below : (w : List ℕ) (i n : ℕ) → Run w i (i + n) → value (piece w i (i + n)) < 10 ^ n
+value-below w i zero r = rw (add-zero i, value-none w i) (lit< tt)
+value-below w i (suc n) r =
+    let e : i + suc n ≡ i + n + 1 = omega arith in
+    let d = run-digit r (i + n) (omega arith) (omega arith) in
+    rw (e, value-more w i (i + n) (omega arith) (omega (arith, r .to)))
+    (digit-more _ _ _ (value-below w i n (run-first r (i + n) (omega arith) (omega arith))) (omega arith))
+
+-- n digits write a number below 10 to the power of n
+pub run-below : {w : List ℕ} {i j : ℕ} → Run w i j → value (piece w i j) < 10 ^ (j - i)
+run-below {w} {i} {j} r =
+    let e : i + (j - i) ≡ j = omega (arith, r .from) in
+    rw e at (value-below w i (j - i) (rw e r))
+
+pub run-fits : {w : List ℕ} {i j : ℕ} (m : ℕ) → Run w i j → j - i ≤ m → value (piece w i j) < 10 ^ m
+run-fits m r h = lt-of-lt-of-le (run-below r) (pow-le-pow-right (lit< tt) h)

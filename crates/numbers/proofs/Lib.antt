@@ -1,0 +1,9 @@
+pub mod Spell
+pub mod Made
+pub mod Spelled
+pub mod Cif
+pub mod CifBack
+pub mod DigitRuns
+pub mod Bounds
+pub mod Bridge
+pub mod Facts

@@ -1,0 +1,66 @@
+-- The service Outline shows neither digits nor contents. Proved: for two texts where digits alone differ (digits-unseen), or where contents of a text that is
+-- read differ too (contents-unseen), it answers the same and leaves the same bytes in any lent store. Assumes nothing.
+use Prim.Native.Nat.{ℕ, _+_}
+use mathlib.Core.Bool.{Bool, true, false, cond}
+use mathlib.Core.Path.{_≡_, refl, sym, ap, ap₂, _∙_}
+use mathlib.Core.List.{List, [], _∷_, _++_}
+use lib.ListN.{length}
+use Rattle.text.specs.Places.{placeAt}
+use Rattle.records.specs.declared.Shape.{Shape}
+use Rattle.records.specs.declared.Shape.the-variants.{Empty, Place, Content, Count, Parts, PartsUncertain}
+use Rattle.records.specs.Kinds.{kindOf, shapeOf, outlineShape}
+use Rattle.items.specs.Machine.{Rec, Answer, refused, done}
+use Rattle.items.specs.Sizes.{contentSize}
+use Rattle.items.specs.Reading.{outline}
+use Rattle.writing.specs.Writing.{tokenOf, shaped, shapeIn, recordBytes, tagsOf, storeOf}
+use Rattle.reading.specs.Services.{refusal, outlineBy, outlineAnswer, outlineStoreBy, outlineStore}
+use Rattle.promises.specs.Differences.{insideRecs, DigitsDiffer, ContentsDiffer}
+use Rattle.promises.proofs.Demand3.{digits-hidden, contents-hidden, places-stay}
+
+-- what the service gives for s and for t
+pub record Same (s t store : List ℕ) : Type 0 where
+  pub answers : outlineAnswer s (length store) ≡ outlineAnswer t (length store)
+  pub stores : outlineStore s store ≡ outlineStore t store
+
+module _ (s t : List ℕ) (places : (n : ℕ) → placeAt s n ≡ placeAt t n) where
+  record-same : (x : Shape) (a n : ℕ) (r : Rec) → shaped (outlineShape x) s a n r ≡ shaped (outlineShape x) t a n r
+  unfolding shaped outlineShape tokenOf
+  record-same Empty a n r = refl
+  record-same Place a n r = rw (places (r .at))
+  record-same Content a n r = rw (places (r .at))
+  record-same Count a n r = rw (places (r .at))
+  record-same Parts a n r = rw (places (r .at))
+  record-same PartsUncertain a n r = rw (places (r .at))
+
+  store-same : (a : ℕ) (rs : List Rec) → storeOf false s a rs ≡ storeOf false t a rs
+  unfolding storeOf recordBytes shapeIn
+  store-same a [] = refl
+  store-same a (r ∷ rs) =
+      ap₂ {C = List ℕ} _++_ (record-same (shapeOf (kindOf (r .kind))) a (tagsOf rs) r) (store-same (a + contentSize (r .kind) (r .size)) rs)
+
+  answer-by : (m : ℕ) (x : Answer) → outlineBy s m x ≡ outlineBy t m x
+  unfolding outlineBy refusal
+  answer-by m (refused n o d) = rw (places o)
+  answer-by m (done rs) = refl
+
+  store-by : (l : List ℕ) (x : Answer) → outlineStoreBy s l x ≡ outlineStoreBy t l x
+  unfolding outlineStoreBy
+  store-by l (refused n o d) = refl
+  store-by l (done rs) = rw (store-same 0 rs)
+
+  same-of : (l : List ℕ) → outline s ≡ outline t → Same s t l
+  unfolding outlineAnswer outlineStore
+  same-of l e =
+      record {
+        answers = answer-by (length l) (outline s) ∙ ap (outlineBy t (length l)) e;
+        stores = store-by l (outline s) ∙ ap (outlineStoreBy t l) e;
+      }
+
+pub digits-unseen : (s t store : List ℕ) → DigitsDiffer s t → Same s t store
+unfolding DigitsDiffer
+digits-unseen s t store d = same-of s t (places-stay (λ j. ⊥) s t d) store (digits-hidden s t d)
+
+pub contents-unseen : (s t store : List ℕ) (rs : List Rec) → outline s ≡ done rs → ContentsDiffer rs s t → Same s t store
+unfolding ContentsDiffer
+contents-unseen s t store rs e d =
+    same-of s t (places-stay (λ j. insideRecs rs j ≡ true) s t d) store (e ∙ sym (contents-hidden s t rs e d))

@@ -1,0 +1,32 @@
+-- Proved: document 01's readings hold, as one list under one claim, by computing (readings-hold). Assumes nothing.
+use Prim.Native.Nat.{ℕ}
+use mathlib.Core.Path.{refl}
+use Rattle.text.specs.Bytes.{is, isAscii, isDigit, isEol, isSpace, endsWord}
+use Rattle.text.specs.Runs.{span}
+use Rattle.text.specs.Gaps.{gapByte, gapThen, gapIn, gap}
+use Rattle.text.specs.Places.{step as scanStep, scan, scanAt, placeAt}
+use Rattle.text.specs.Reports.{success, refusedAt, refusedBare, noRoom}
+use Rattle.words.specs.Words.{inWord, word, isOrdinary}
+use Rattle.words.specs.Keywords.{lower, starts, keyData, keyGlobal, keyLoop, keySave, keyStop, reserved}
+use Rattle.words.specs.Quotes.{more, quoted, fieldIn, field}
+use Rattle.numbers.specs.Parts.{cut, consGot, digits, sign, point, absent, signedDigits, isEmpty, exponent, close, bracket, parts, isNumber, within, valueFrom, value, minus}
+use Rattle.numbers.specs.Meaning.{meaning}
+use Rattle.records.specs.Kinds.{kindOf, shapeOf, shapeLength, marksOf, opening, bodyLength, isContent, hasContent}
+use Rattle.values.specs.Values.{lexed, numberOr, wordOr, closed, lexValue, lexAsValue}
+use Rattle.values.specs.Answers.{whyOf, answer, valueAnswer}
+use Rattle.items.specs.Tokens.{saveSize, lexIn, lex, after, tok, emit, step, tokensFrom, tokens}
+use Rattle.items.specs.Machine.{config, rec, loopEnd, closes, fails, atItem, loopEnds, atValue, noMoreNames, atName, atWant, atStart, move, follow, run}
+use Rattle.items.specs.Sizes.{contentSize, storeSize, areaSize}
+use Rattle.items.specs.Reading.{limit, decided, outline}
+use Rattle.writing.specs.Writing.{contentOf, areaOf}
+use Rattle.reading.specs.Services.{refusal, readRoom, readBy, readAnswer}
+use Rattle.promises.specs.Readings.{bytes, rowOf, seen, asked, reads, means, done-with, decimal, whole, readings, ReadingsHold}
+
+-- one name for all that a reading computes with: to unfold it is to unfold whatever its line names
+unfoldable opened : ℕ
+unfolding is isAscii isDigit isEol isSpace endsWord span gapByte gapThen gapIn gap scanStep scan scanAt placeAt success refusedAt refusedBare noRoom inWord word isOrdinary lower starts keyData keyGlobal keyLoop keySave keyStop reserved more quoted fieldIn field cut consGot digits sign point absent signedDigits isEmpty exponent close bracket parts isNumber within valueFrom value minus meaning kindOf shapeOf shapeLength marksOf opening bodyLength isContent hasContent lexed numberOr wordOr closed lexValue lexAsValue whyOf answer valueAnswer saveSize lexIn lex after tok emit step tokensFrom tokens config rec loopEnd closes fails atItem loopEnds atValue noMoreNames atName atWant atStart move follow run contentSize storeSize areaSize limit decided outline contentOf areaOf refusal readRoom readBy readAnswer
+opened = 0
+
+pub readings-hold : ReadingsHold
+unfolding opened bytes rowOf seen asked reads means done-with decimal whole readings ReadingsHold
+readings-hold = refl

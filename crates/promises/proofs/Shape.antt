@@ -1,0 +1,128 @@
+-- The shape of a text has every digit replaced by `0`. Proved: no class of bytes that reading asks for tells a byte from its shape, so runs, space and comments, keywords,
+-- quotes and text fields are the same in both. A class is one computed test over the ten digits (blind). Assumes nothing.
+use Prim.Native.Nat.{ℕ, zero, suc, _+_, _-_, _≤_}
+use mathlib.Core.Bool.{Bool, true, false, cond, _&&_, Bool·beq}
+use mathlib.Core.Path.{_≡_, refl, sym, ap, ap₂}
+use mathlib.Core.List.{List, [], _∷_, map}
+use lib.Dec.{leb}
+use lib.ListN.{take}
+use native.Mathlib.Omega.{arith}
+use borrow.Author.Tests.{leb-true}
+use Rattle.text.specs.Bytes.{isDigit, isEol, isSpace, endsWord, is}
+use Rattle.text.specs.Runs.{span}
+use Rattle.text.specs.Gaps.{gapByte, gapThen, gapIn, gap}
+use Rattle.text.proofs.Bools.{and-l, and-r}
+use Rattle.text.proofs.Ranges.{allBelow, below}
+use Rattle.words.specs.Words.{isOrdinary, inWord, word}
+use Rattle.words.specs.Keywords.{lower, starts}
+use Rattle.words.specs.Quotes.{quoted, fieldIn, field}
+
+-- the shape of a byte, and of a text
+unfoldable pub σ : ℕ → ℕ
+σ b = cond (isDigit b) 48 b
+
+unfoldable pub shape : List ℕ → List ℕ
+shape s = map σ s
+
+-- a test that does not tell digits apart
+unfoldable pub flat : (ℕ → Bool) → Bool
+flat f = allBelow (λ k. Bool·beq (f (48 + k)) (f 48)) 10
+
+beq-eq : (a b : Bool) → Bool·beq a b ≡ true → a ≡ b
+beq-eq true true e = refl
+beq-eq true false e = sym e
+beq-eq false true e = e
+beq-eq false false e = refl
+
+-- it takes a byte and its shape for one
+pub blind : (f : ℕ → Bool) → flat f ≡ true → (b : ℕ) → f (σ b) ≡ f b
+unfolding σ flat isDigit
+blind f e b = go (isDigit b) refl
+  where
+    go : (t : Bool) → isDigit b ≡ t → f (cond (isDigit b) 48 b) ≡ f b
+    go false q = rw q
+    go true q =
+        let lo : 48 ≤ b = leb-true 48 b (and-l (leb 48 b) (leb b 57) q) in
+        let hi : b ≤ 57 = leb-true b 57 (and-r (leb 48 b) (leb b 57) q) in
+        let is : 48 + (b - 48) ≡ b = omega arith in
+        let r : f (48 + (b - 48)) ≡ f 48 = beq-eq _ _ (below (λ k. Bool·beq (f (48 + k)) (f 48)) 10 e (b - 48) (omega arith)) in
+        rw q (sym (rw is at r))
+
+-- the classes
+pub digit-σ : (b : ℕ) → isDigit (σ b) ≡ isDigit b
+unfolding flat allBelow isDigit
+digit-σ = blind isDigit refl
+
+pub eol-σ : (b : ℕ) → isEol (σ b) ≡ isEol b
+unfolding flat allBelow isEol
+eol-σ = blind isEol refl
+
+pub space-σ : (b : ℕ) → isSpace (σ b) ≡ isSpace b
+unfolding flat allBelow isSpace
+space-σ = blind isSpace refl
+
+pub inWord-σ : (b : ℕ) → inWord (σ b) ≡ inWord b
+unfolding flat allBelow inWord endsWord
+inWord-σ = blind inWord refl
+
+pub ordinary-σ : (b : ℕ) → isOrdinary (σ b) ≡ isOrdinary b
+unfolding flat allBelow isOrdinary
+ordinary-σ = blind isOrdinary refl
+
+-- one byte that is no digit
+pub is-σ : (a : ℕ) → flat (is a) ≡ true → (b : ℕ) → is a (σ b) ≡ is a b
+is-σ a e b = blind (is a) e b
+
+-- runs
+pub span-σ : (p : ℕ → Bool) → ((b : ℕ) → p (σ b) ≡ p b) → (s : List ℕ) → span p (map σ s) ≡ span p s
+unfolding span
+span-σ p h [] = refl
+span-σ p h (b ∷ s) = rw (h b, span-σ p h s)
+
+pub word-σ : (s : List ℕ) → word (map σ s) ≡ word s
+unfolding word
+word-σ s = span-σ inWord inWord-σ s
+
+pub gapByte-σ : (c : Bool) (b : ℕ) → gapByte c (σ b) ≡ gapByte c b
+unfolding flat allBelow gapByte isSpace is
+gapByte-σ true b = refl
+gapByte-σ false b = blind (gapByte false) refl b
+
+pub gapThen-σ : (c : Bool) (b : ℕ) → gapThen c (σ b) ≡ gapThen c b
+unfolding flat allBelow gapThen isEol is
+gapThen-σ true b = blind (gapThen true) refl b
+gapThen-σ false b = blind (gapThen false) refl b
+
+pub gapIn-σ : (c : Bool) (s : List ℕ) → gapIn c (map σ s) ≡ gapIn c s
+unfolding gapIn
+gapIn-σ c [] = refl
+gapIn-σ c (b ∷ s) = rw (gapByte-σ c b, gapThen-σ c b, gapIn-σ (gapThen c b) s)
+
+pub gap-σ : (s : List ℕ) → gap (map σ s) ≡ gap s
+unfolding gap
+gap-σ s = gapIn-σ false s
+
+-- a keyword without digits
+unfoldable pub noDigit : List ℕ → Bool
+noDigit [] = true
+noDigit (c ∷ k) = flat (λ b. is c (lower b)) && noDigit k
+
+pub starts-σ : (k s : List ℕ) → noDigit k ≡ true → starts k (map σ s) ≡ starts k s
+unfolding starts noDigit
+starts-σ [] s e = refl
+starts-σ (c ∷ k) [] e = refl
+starts-σ (c ∷ k) (b ∷ s) e = ap₂ _&&_ (blind (λ x. is c (lower x)) (and-l _ (noDigit k) e) b) (starts-σ k s (and-r (flat (λ b. is c (lower b))) _ e))
+
+pub quoted-σ : (m : ℕ) → flat (is m) ≡ true → (s : List ℕ) → quoted m (map σ s) ≡ quoted m s
+unfolding quoted
+quoted-σ m e [] = refl
+quoted-σ m e (b ∷ s) = rw (is-σ m e b, eol-σ b, quoted-σ m e s)
+
+fieldIn-σ : (e : Bool) (s : List ℕ) → fieldIn e (map σ s) ≡ fieldIn e s
+unfolding fieldIn flat allBelow is
+fieldIn-σ e [] = refl
+fieldIn-σ e (b ∷ s) = rw (is-σ 59 refl b, eol-σ b, fieldIn-σ (isEol b) s)
+
+pub field-σ : (s : List ℕ) → field (map σ s) ≡ field s
+unfolding field
+field-σ s = fieldIn-σ false s

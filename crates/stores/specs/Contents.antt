@@ -1,0 +1,94 @@
+-- Contents (document 01): they fill the area in order exactly; each could be read as its kind; numbers keep the limits, their sign byte is 0 or 1, and a fraction is
+-- below 10 to the power of its digits. Assumes nothing.
+use Prim.Native.Nat.{ℕ, _+_, _-_, _^_}
+use mathlib.Core.Bool.{Bool, true, false, cond, _&&_, _||_}
+use mathlib.Core.List.{List, [], _∷_, _++_}
+use lib.Dec.{eqb, leb, ltb}
+use lib.ListN.{length, take, drop}
+use Rattle.text.specs.Bytes.{isAscii}
+use Rattle.text.specs.Runs.{span}
+use Rattle.words.specs.Words.{word}
+use Rattle.values.specs.Values.{Class, block, loop, save, tag, value, overLimit, nothing, lexAsValue}
+use Rattle.records.specs.declared.Entry.{Entry}
+use Rattle.records.specs.declared.Entry.the-variants.{Record, Nothing}
+use Rattle.records.specs.declared.Parts.{Parts}
+use Rattle.records.specs.declared.Kind.{Kind}
+use Rattle.records.specs.declared.Kind.the-variants.{NoKind, Block, FrameOpen, FrameClose, Tag, Loop, LoopTag, LoopEnd, Inapplicable, Unknown, Bare, SingleQuoted, DoubleQuoted, Multiline, Number, Uncertain}
+use Rattle.records.specs.declared.Fields.{Fields}
+use Rattle.records.specs.Kinds.{shapeOf, isContent, marksOf}
+
+-- w alone is a value of kind k, and nothing stands behind it
+unfoldable pub isKind : ℕ → Class → Bool
+isKind k (value j) = eqb j k
+isKind k block = false
+isKind k loop = false
+isKind k save = false
+isKind k tag = false
+isKind k overLimit = false
+isKind k (nothing w) = false
+
+unfoldable pub isAlone : ℕ → List ℕ → Bool
+isAlone k w = isKind k (lexAsValue w .class) && eqb (lexAsValue w .size) (length w)
+
+-- a name is one word, perhaps an empty one
+unfoldable pub isName : List ℕ → Bool
+isName c = eqb (word c) (length c)
+
+-- a content as it could be read: as a name, or, between its marks, as a value of its kind
+unfoldable pub readableBy : Kind → List ℕ → Bool
+readableBy NoKind c = false
+readableBy Block c = isName c
+readableBy FrameOpen c = isName c
+readableBy FrameClose c = false
+readableBy Tag c = isName c
+readableBy Loop c = false
+readableBy LoopTag c = isName c
+readableBy LoopEnd c = false
+readableBy Inapplicable c = false
+readableBy Unknown c = false
+readableBy Bare c = isAlone 10 c
+readableBy SingleQuoted c = isAlone 11 (39 ∷ (c ++ (39 ∷ [])))
+readableBy DoubleQuoted c = isAlone 12 (34 ∷ (c ++ (34 ∷ [])))
+readableBy Multiline c = isAlone 13 (59 ∷ (c ++ (59 ∷ [])))
+readableBy Number c = false
+readableBy Uncertain c = false
+
+-- only ASCII is read
+unfoldable pub readable : Kind → List ℕ → Bool
+readable k c = eqb (span isAscii c) (length c) && readableBy k c
+
+-- an exponent as stored, in two's complement: within ±999,999,999
+unfoldable pub exponentKept : ℕ → Bool
+exponentKept e = ltb e 1000000000 || ltb (4294967296 - 1000000000) e
+
+unfoldable pub partsKept : Parts → Bool
+partsKept p =
+    leb (p .sign) 1 && (ltb (p .integer) 1000000000 && (leb (p .places) 18 && (ltb (p .fraction) (10 ^ (p .places)) && (exponentKept (p .exponent) && ltb (p .uncertainty) 1000000000))))
+
+-- a content is P's length less the marks
+unfoldable pub contentLength : Kind → Fields → ℕ
+contentLength k f = f .token .length - marksOf k
+
+-- the content itself, where its record says that it starts
+unfoldable pub contentBytes : List ℕ → Kind → Fields → List ℕ
+contentBytes ar k f = take (contentLength k f) (drop (f .number) ar)
+
+-- a record's own rule, its content starting at area offset a
+unfoldable pub contentKept : List ℕ → ℕ → Kind → Fields → Bool
+contentKept ar a k f =
+    leb (marksOf k) (f .token .length) && (eqb (f .number) a && (leb (contentLength k f) (length ar - a) && readable k (take (contentLength k f) (drop a ar))))
+
+unfoldable pub ownRule : List ℕ → ℕ → Kind → Fields → Bool
+ownRule ar a k f = cond (isContent (shapeOf k)) (contentKept ar a k f) (partsKept (f .parts))
+
+-- the area that a record's content takes
+unfoldable pub takes : Kind → Fields → ℕ
+takes k f = cond (isContent (shapeOf k)) (contentLength k f) 0
+
+unfoldable pub filledFrom : List Entry → List ℕ → ℕ → Bool
+filledFrom [] ar a = eqb a (length ar)
+filledFrom (Nothing ∷ es) ar a = false
+filledFrom (Record k f next ∷ es) ar a = let more = filledFrom es ar (a + takes k f) in ownRule ar a k f && more
+
+unfoldable pub filled : List Entry → List ℕ → Bool
+filled es ar = filledFrom es ar 0

@@ -1,0 +1,4 @@
+pub mod Points
+pub mod Pieces
+pub mod Views
+pub mod Laws

@@ -1,0 +1,67 @@
+-- Laws of words and ordinary bytes. Assumes nothing.
+use Prim.Native.Nat.{ℕ, _+_, _-_, _≤_, _<_}
+use mathlib.Core.Path.{_≡_, refl, sym, ap, _∙_}
+use mathlib.Core.Bool.{Bool, true, false, _&&_, true≢false}
+use mathlib.Core.List.{List, _∷_}
+use native.Mathlib.Omega.{arith}
+use borrow.Author.Tests.{eqb-true, leb-true}
+use lib.Dec.{leb, eqb}
+use lib.ListN.{length, drop, getD}
+use Rattle.text.specs.Bytes.{isEol, endsWord}
+use Rattle.text.specs.Runs.{span, spanEnd}
+use Rattle.text.proofs.Bools.{and-l, and-r, or-cases}
+use Rattle.text.proofs.Ranges.{allBelow, passes}
+use Rattle.text.proofs.Runs.{span-from, span-within, span-all, span-over}
+use Rattle.words.specs.Words.{inWord, word, wordEnd, isOrdinary}
+
+-- a word is the run of its bytes
+pub word-run : (s : List ℕ) (o : ℕ) → wordEnd s o ≡ spanEnd inWord s o
+unfolding wordEnd word spanEnd
+word-run s o = refl
+
+-- and its end is its start and its length
+pub word-end : (s : List ℕ) (o : ℕ) → wordEnd s o ≡ o + word (drop o s)
+unfolding wordEnd
+word-end s o = refl
+
+pub word-size : (s : List ℕ) (o : ℕ) → wordEnd s o - o ≡ word (drop o s)
+word-size s o = omega (arith, word-end s o)
+
+-- a word lies within the text
+pub word-from : (s : List ℕ) (o : ℕ) → o ≤ wordEnd s o
+word-from s o = rw (word-run s o) (span-from inWord s o)
+
+pub word-within : (s : List ℕ) (o : ℕ) → o ≤ length s → wordEnd s o ≤ length s
+word-within s o h = rw (word-run s o) (span-within inWord s o h)
+
+pub word-past : (s : List ℕ) (o : ℕ) → length s ≤ o → wordEnd s o ≡ o
+word-past s o h = rw (word-run s o) (span-over inWord s o h)
+
+pub word-fits : (s : List ℕ) → word s ≤ length s
+word-fits s = omega (arith, word-end s 0, word-within s 0 (omega arith))
+
+-- no byte of a word ends a line
+pub in-word-plain : (b : ℕ) → inWord b ≡ true → isEol b ≡ false
+unfolding inWord endsWord isEol
+in-word-plain b e = by (isEol b) refl
+  where
+    by : (t : Bool) → isEol b ≡ t → isEol b ≡ false
+    by false q = q
+    by true q =
+        absurd (or-cases (eqb b 10) (eqb b 13) (λ t. true≢false (sym e ∙ ap inWord (eqb-true b 10 t))) (λ t. true≢false (sym e ∙ ap inWord (eqb-true b 13 t))) q)
+
+pub word-plain : (s : List ℕ) (o k : ℕ) → o ≤ k → k < wordEnd s o → isEol (getD s k 0) ≡ false
+word-plain s o k h l = in-word-plain (getD s k 0) (span-all inWord s o k h (rw (word-run s o) at l))
+
+-- a word has a byte where one of its bytes stands, and an ordinary byte is one
+pub word-pos : (b : ℕ) (s : List ℕ) → inWord b ≡ true → 0 < word (b ∷ s)
+unfolding word span
+word-pos b s e = rw e (omega arith)
+
+pub ordinary-in-word : (b : ℕ) → isOrdinary b ≡ true → inWord b ≡ true
+unfolding isOrdinary inWord endsWord allBelow
+ordinary-in-word b e =
+    let r = and-l (leb 33 b && leb b 126) _ e in
+    let low : 33 ≤ b = leb-true 33 b (and-l (leb 33 b) (leb b 126) r) in
+    let high : b ≤ 126 = leb-true b 126 (and-r (leb 33 b) (leb b 126) r) in
+    passes inWord 33 94 refl b low (omega arith)

@@ -1,0 +1,70 @@
+-- What Read and Outline write of a text's records (document 01, 'Records'): store bytes and area bytes. Content, decimal parts and places are functions of the
+-- text and of a record's kind, offset and length. The flag `full` tells Read's bodies from the outline's, which are P alone. Assumes nothing.
+use Prim.Native.Nat.{ℕ, suc, _+_, _-_}
+use mathlib.Core.Bool.{Bool, true, false, cond}
+use mathlib.Core.List.{List, [], _∷_, _++_}
+use lib.Dec.{eqb}
+use lib.ListN.{length, take, drop}
+use Rattle.text.specs.Places.{placeAt}
+use Rattle.numbers.specs.declared.Decimal.{Decimal}
+use Rattle.numbers.specs.Parts.{parts}
+use Rattle.numbers.specs.Meaning.{meaning}
+use Rattle.records.specs.declared.Shape.{Shape}
+use Rattle.records.specs.declared.Shape.the-variants.{Empty, Place, Content, Count, Parts, PartsUncertain}
+use Rattle.records.specs.declared.Token.{Token}
+use Rattle.records.specs.Kinds.{kindOf, shapeOf, outlineShape, opening}
+use Rattle.records.specs.Records.{placeRecord, contentRecord, loopRecord, numberRecord, uncertainRecord}
+use Rattle.items.specs.Machine.{Rec}
+use Rattle.items.specs.Sizes.{contentSize}
+
+-- P of a record: the place of the whole token, marks included
+unfoldable pub tokenOf : List ℕ → Rec → Token
+tokenOf s r = record { offset = r .at; length = r .size; line = placeAt s (r .at) .line; column = placeAt s (r .at) .column }
+
+-- the bytes of a record's token
+unfoldable pub tokenText : List ℕ → Rec → List ℕ
+tokenText s r = take (r .size) (drop (r .at) s)
+
+-- the token less its marks, for the kinds that have content
+unfoldable pub contentOf : List ℕ → Rec → List ℕ
+contentOf s r = take (contentSize (r .kind) (r .size)) (drop (r .at + opening (kindOf (r .kind))) s)
+
+unfoldable pub decimalOf : List ℕ → Rec → Decimal
+decimalOf s r = meaning (parts (tokenText s r))
+
+-- a record's bytes by its shape: a is the area offset, n the number of tags
+unfoldable pub shaped : Shape → List ℕ → ℕ → ℕ → Rec → List ℕ
+shaped Empty s a n r = r .kind ∷ []
+shaped Place s a n r = placeRecord (r .kind) (tokenOf s r)
+shaped Content s a n r = contentRecord (r .kind) (tokenOf s r) a
+shaped Count s a n r = loopRecord (tokenOf s r) n
+shaped Parts s a n r = numberRecord (tokenOf s r) (decimalOf s r)
+shaped PartsUncertain s a n r = uncertainRecord (tokenOf s r) (decimalOf s r)
+
+-- in the outline every body is P, except kind 7 with none
+unfoldable pub shapeIn : Bool → ℕ → Shape
+shapeIn true k = shapeOf (kindOf k)
+shapeIn false k = outlineShape (shapeOf (kindOf k))
+
+unfoldable pub recordBytes : Bool → List ℕ → ℕ → ℕ → Rec → List ℕ
+recordBytes full s a n r = shaped (shapeIn full (r .kind)) s a n r
+
+-- a loop counts the tags that stand directly behind it
+unfoldable pub tagsOf : List Rec → ℕ
+tagsOf [] = 0
+tagsOf (r ∷ rs) = let more = suc (tagsOf rs) in cond (eqb (r .kind) 6) more 0
+
+-- the store's bytes of records whose contents start at area offset a
+unfoldable pub storeOf : Bool → List ℕ → ℕ → List Rec → List ℕ
+storeOf full s a [] = []
+storeOf full s a (r ∷ rs) = recordBytes full s a (tagsOf rs) r ++ storeOf full s (a + contentSize (r .kind) (r .size)) rs
+
+-- contents follow one another in record order
+unfoldable pub areaOf : List ℕ → List Rec → List ℕ
+areaOf s [] = []
+areaOf s (r ∷ rs) = contentOf s r ++ areaOf s rs
+
+-- the outline has no area
+unfoldable pub areaIn : Bool → List ℕ → List Rec → List ℕ
+areaIn true s rs = areaOf s rs
+areaIn false s rs = []
