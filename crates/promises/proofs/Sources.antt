@@ -13,8 +13,9 @@ use Rattle.values.proofs.Laws.{Lies, value-lies}
 use Rattle.items.specs.Tokens.{Mode, before, inBlock, inFrame, lexIn, lex}
 use Rattle.items.specs.Machine.{Rec, loopEnd}
 use Rattle.items.proofs.Fits.{lex-fits}
+use Rattle.promises.proofs.Lines.{modeOf}
 use Rattle.promises.proofs.Lexing.{as-value, NumberWord, number-word, Worded, keyTag, tag-word, plainKey, key-word}
-use Rattle.promises.proofs.Taken.{Took, modeIn, Tags, opens, named, Rows, first, next, Taken, heading, single, rows, no-rows, opened, shut}
+use Rattle.promises.proofs.Taken.{Took, Tags, opens, named, Rows, first, next, Taken, heading, single, rows, no-rows, opened, shut}
 
 -- what holds of each record
 pub data Each (P : Rec → Type 0) : List Rec → Type 0 where
@@ -38,11 +39,11 @@ pub data Source (s : List ℕ) (r : Rec) : Type 0 where
   of-heading : Took s before block 1 r → Source s r
   of-opening : Took s inBlock save 2 r → Source s r
   of-closing : Took s inFrame save 3 r → Source s r
-  of-tag : (f : Bool) → Took s (modeIn f) tag 4 r → Source s r
-  of-loop : (f : Bool) → Took s (modeIn f) loop 5 r → Source s r
-  of-name : (f : Bool) → Took s (modeIn f) tag 6 r → Source s r
+  of-tag : (f : Bool) → Took s (modeOf f) tag 4 r → Source s r
+  of-loop : (f : Bool) → Took s (modeOf f) loop 5 r → Source s r
+  of-name : (f : Bool) → Took s (modeOf f) tag 6 r → Source s r
   of-end : r ≡ loopEnd → Source s r
-  of-value : (f : Bool) (k : ℕ) → Took s (modeIn f) (value k) k r → Source s r
+  of-value : (f : Bool) (k : ℕ) → Took s (modeOf f) (value k) k r → Source s r
 
 tags-sources : {s : List ℕ} {f : Bool} {n : ℕ} {h : List Rec} → Tags s f n h → Each (Source s) h
 tags-sources {f = f} (opens t) = also (of-loop f t) none
@@ -87,13 +88,13 @@ module _ {s : List ℕ} {r : Rec} where
   other : {m : Mode} (c : Class) (k : ℕ) → 1 ≤ k → k < 6 → Took s m c k r → Facts s r
   other c k l h t = took-facts c k l (omega arith) (λ q. absurd (omega arith)) t
 
-  name-some : (f : Bool) → Took s (modeIn f) tag 6 r → 0 < r .size
-  unfolding modeIn lex
+  name-some : (f : Bool) → Took s (modeOf f) tag 6 r → 0 < r .size
+  unfolding modeOf lex
   name-some true t = worded-some (drop (r .at) s) (r .size) (tag-word inFrame (drop (r .at) s) (r .size) (t .reads))
   name-some false t = worded-some (drop (r .at) s) (r .size) (tag-word inBlock (drop (r .at) s) (r .size) (t .reads))
 
-  value-reads : (f : Bool) (k : ℕ) → Took s (modeIn f) (value k) k r → lexAsValue (drop (r .at) s) ≡ lexed (value k) (r .size)
-  unfolding modeIn lex
+  value-reads : (f : Bool) (k : ℕ) → Took s (modeOf f) (value k) k r → lexAsValue (drop (r .at) s) ≡ lexed (value k) (r .size)
+  unfolding modeOf lex
   value-reads true k t = as-value inFrame (drop (r .at) s) k (r .size) (t .reads)
   value-reads false k t = as-value inBlock (drop (r .at) s) k (r .size) (t .reads)
 

@@ -21,6 +21,8 @@ use Rattle.items.specs.Tokens.{Mode, before, inBlock, inFrame, lex, after, Tok,
 use Rattle.items.specs.Machine.{Rec, Answer, refused, done, State, start, items, names, values, wants, Config, config, Outcome, go, stop, rec, loopEnd, closes, fails, atItem, loopEnds, atValue, noMoreNames, atName, atWant, atStart, move, follow, run}
 use Rattle.items.specs.Reading.{limit, decided, outline}
 use Rattle.items.proofs.Fits.{lex-fits}
+use Rattle.promises.proofs.Lines.{modeOf}
+use Rattle.promises.proofs.Lexing.{never}
 
 -- the bytes of the tokens of records
 unfoldable pub bytesOf : List Rec → ℕ
@@ -43,24 +45,20 @@ pub data In : Bool → Mode → Option ℕ → Type 0 where
   block-mode : In false inBlock none
   frame-mode : (a : ℕ) → In true inFrame (some a)
 
-unfoldable pub modeIn : Bool → Mode
-modeIn true = inFrame
-modeIn false = inBlock
-
 -- a loop and n tags
 pub data Tags (s : List ℕ) (f : Bool) : ℕ → List Rec → Type 0 where
-  opens : {r : Rec} → Took s (modeIn f) loop 5 r → Tags s f 0 (r ∷ [])
-  named : {n : ℕ} {h : List Rec} {r : Rec} → Tags s f n h → Took s (modeIn f) tag 6 r → Tags s f (suc n) (h ++ (r ∷ []))
+  opens : {r : Rec} → Took s (modeOf f) loop 5 r → Tags s f 0 (r ∷ [])
+  named : {n : ℕ} {h : List Rec} {r : Rec} → Tags s f n h → Took s (modeOf f) tag 6 r → Tags s f (suc n) (h ++ (r ∷ []))
 
 -- a loop, n tags and j values
 pub data Rows (s : List ℕ) (f : Bool) (n : ℕ) : ℕ → List Rec → Type 0 where
-  first : {h : List Rec} {r : Rec} (k : ℕ) → Tags s f n h → Took s (modeIn f) (value k) k r → Rows s f n 1 (h ++ (r ∷ []))
-  next : {j : ℕ} {h : List Rec} {r : Rec} (k : ℕ) → Rows s f n j h → Took s (modeIn f) (value k) k r → Rows s f n (suc j) (h ++ (r ∷ []))
+  first : {h : List Rec} {r : Rec} (k : ℕ) → Tags s f n h → Took s (modeOf f) (value k) k r → Rows s f n 1 (h ++ (r ∷ []))
+  next : {j : ℕ} {h : List Rec} {r : Rec} (k : ℕ) → Rows s f n j h → Took s (modeOf f) (value k) k r → Rows s f n (suc j) (h ++ (r ∷ []))
 
 -- a heading and whole items; in a frame or not; the flag: a loop without rows stands last
 pub data Taken (s : List ℕ) : Bool → Bool → List Rec → Type 0 where
   heading : {r : Rec} → Took s before block 1 r → Taken s false false (r ∷ [])
-  single : {f : Bool} {out : List Rec} {t v : Rec} (k : ℕ) → Taken s f false out → Took s (modeIn f) tag 4 t → Took s (modeIn f) (value k) k v → Taken s f false (out ++ (t ∷ []) ++ (v ∷ []))
+  single : {f : Bool} {out : List Rec} {t v : Rec} (k : ℕ) → Taken s f false out → Took s (modeOf f) tag 4 t → Took s (modeOf f) (value k) k v → Taken s f false (out ++ (t ∷ []) ++ (v ∷ []))
   rows : {f e : Bool} {n j : ℕ} {out h : List Rec} → Taken s f e out → Rows s f (suc n) (suc j) h → suc j % suc n ≡ 0 → Taken s f false (out ++ h ++ (loopEnd ∷ []))
   no-rows : {f e : Bool} {n : ℕ} {out h : List Rec} → Taken s f e out → Tags s f (suc n) h → Taken s f true (out ++ h ++ (loopEnd ∷ []))
   opened : {e : Bool} {out : List Rec} {r : Rec} → Taken s false e out → Took s inBlock save 2 r → Taken s true false (out ++ (r ∷ []))
@@ -72,7 +70,7 @@ data Has (s : List ℕ) : Mode → State → Option ℕ → List Rec → List Re
   at-items : {f : Bool} {m : Mode} {fr : Option ℕ} {out : List Rec} → In f m fr → Taken s f false out → Has s m items fr out []
   at-names : {f e : Bool} {m : Mode} {fr : Option ℕ} {a n : ℕ} {out h : List Rec} → In f m fr → Taken s f e out → Tags s f n h → Has s m (names a n) fr out h
   at-values : {f e : Bool} {m : Mode} {fr : Option ℕ} {a n j : ℕ} {out h : List Rec} → In f m fr → Taken s f e out → Rows s f (suc n) (suc j) h → Has s m (values a (suc n) (suc j)) fr out h
-  at-wants : {f : Bool} {m : Mode} {fr : Option ℕ} {a : ℕ} {out : List Rec} {r : Rec} → In f m fr → Taken s f false out → Took s (modeIn f) tag 4 r → Has s m (wants a) fr out (r ∷ [])
+  at-wants : {f : Bool} {m : Mode} {fr : Option ℕ} {a : ℕ} {out : List Rec} {r : Rec} → In f m fr → Taken s f false out → Took s (modeOf f) tag 4 r → Has s m (wants a) fr out (r ∷ [])
 
 -- in mode m, before offset o, the machine c has what it should, of so many bytes
 record Good (s : List ℕ) (m : Mode) (o : ℕ) (c : Config) : Type 0 where
@@ -85,8 +83,8 @@ pub record Read (s : List ℕ) (o : ℕ) (rs : List Rec) : Type 0 where
   pub taken : Taken s false rowless rs
   pub spent : bytesOf rs ≤ o
 
-in-mode : {f : Bool} {m : Mode} {fr : Option ℕ} → In f m fr → m ≡ modeIn f
-unfolding modeIn
+in-mode : {f : Bool} {m : Mode} {fr : Option ℕ} → In f m fr → m ≡ modeOf f
+unfolding modeOf
 in-mode block-mode = refl
 in-mode (frame-mode a) = refl
 
@@ -108,9 +106,6 @@ in-block block-mode = record { frame = refl; mode = refl }
 rows-last : {s : List ℕ} {f : Bool} {out : List Rec} (e : Bool) → (e ≡ true → ⊥) → Taken s f e out → Taken s f false out
 rows-last true n h = absurd (n refl)
 rows-last false n h = h
-
-never : {A : Type 0} → _≡_ {A = ℕ} 0 1 → A
-never e = absurd (omega arith)
 
 module _ (s : List ℕ) (m : Mode) (t : Tok) (reads : lex m (drop (t .at) s) ≡ lexed (t .class) (t .size)) (within : t .at ≤ length s) where
   Ok : ℕ → Outcome → Type 0
@@ -226,7 +221,7 @@ module _ (s : List ℕ) (m : Mode) (t : Tok) (reads : lex m (drop (t .at) s) ≡
   name-ok o a n fr out held overLimit i h g b p = more-ok o a n fr out held overLimit i h g b p (λ z. never (cc))
   name-ok o a n fr out held (nothing w) i h g b p = more-ok o a n fr out held (nothing w) i h g b p (λ z. never (cc))
 
-  want-ok : (o a : ℕ) {f : Bool} (fr : Option ℕ) (out : List Rec) (r : Rec) (c : Class) → In f m fr → Taken s f false out → Took s (modeIn f) tag 4 r → bytesOf out + bytesOf (r ∷ []) ≤ o → t .class ≡ c → Ok o (atWant a fr out (r ∷ []) c t)
+  want-ok : (o a : ℕ) {f : Bool} (fr : Option ℕ) (out : List Rec) (r : Rec) (c : Class) → In f m fr → Taken s f false out → Took s (modeOf f) tag 4 r → bytesOf out + bytesOf (r ∷ []) ≤ o → t .class ≡ c → Ok o (atWant a fr out (r ∷ []) c t)
   unfolding Ok atWant config after bytesOf rec
   want-ok o a fr out r (value k) i h g b p =
       record {

@@ -1,9 +1,10 @@
 -- What a store and its area say, record by record, places aside: the kind, the content and the decimal parts. Two stores with their areas say the same when these lists
 -- are equal. Assumes nothing.
-use Prim.Native.Nat.{ℕ}
+use Prim.Native.Nat.{ℕ, _<_}
 use mathlib.Core.Path.{_≡_}
 use mathlib.Core.Bool.{Bool, cond}
 use mathlib.Core.List.{List, [], map}
+use lib.ListN.{getD}
 use Rattle.records.specs.declared.Entry.{Entry}
 use Rattle.records.specs.declared.Entry.the-variants.{Record, Nothing}
 use Rattle.records.specs.declared.Fields.{Fields}
@@ -12,6 +13,10 @@ use Rattle.records.specs.declared.Parts.{Parts}
 use Rattle.records.specs.Kinds.{shapeOf, isContent}
 use Rattle.stores.specs.Walk.{entries}
 use Rattle.stores.specs.Contents.{contentBytes}
+
+-- a list of bytes
+unfoldable pub Bytes : List ℕ → Type 0
+Bytes s = (i : ℕ) → getD s i 0 < 256
 
 -- a record without content has an empty one here, and one without decimal parts has zeros; bytes that are no record say nothing
 pub data Saying : Type 0 where
