@@ -21,4 +21,9 @@ pub mod Alone
 pub mod Nests
 pub mod Same
 pub mod RoundTrip
+pub mod Walks
+pub mod Again
+pub mod Contents
+pub mod Refusals
+pub mod ReadIsSound
 pub mod Readings

@@ -93,7 +93,7 @@ module _ {s : List ℕ} {r : Rec} where
   name-some true t = worded-some (drop (r .at) s) (r .size) (tag-word inFrame (drop (r .at) s) (r .size) (t .reads))
   name-some false t = worded-some (drop (r .at) s) (r .size) (tag-word inBlock (drop (r .at) s) (r .size) (t .reads))
 
-  value-reads : (f : Bool) (k : ℕ) → Took s (modeOf f) (value k) k r → lexAsValue (drop (r .at) s) ≡ lexed (value k) (r .size)
+  pub value-reads : (f : Bool) (k : ℕ) → Took s (modeOf f) (value k) k r → lexAsValue (drop (r .at) s) ≡ lexed (value k) (r .size)
   unfolding modeOf lex
   value-reads true k t = as-value inFrame (drop (r .at) s) k (r .size) (t .reads)
   value-reads false k t = as-value inBlock (drop (r .at) s) k (r .size) (t .reads)

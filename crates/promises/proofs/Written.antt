@@ -57,7 +57,7 @@ written s a (r ∷ rs) = entryOf s a (tagsOf rs) r ∷ written s (a + contentSiz
 
 -- The kinds that have a shape alone
 
-unfoldable Only : Shape → ℕ → Type 0
+unfoldable pub Only : Shape → ℕ → Type 0
 Only Empty k = k ≡ 7
 Only Place k = Unit {0}
 Only Content k = Unit {0}
@@ -88,6 +88,11 @@ only Uncertain h = refl
 pub kind-back : (k : ℕ) → 1 ≤ k → k ≤ 15 → numberOf (kindOf k) ≡ k
 unfolding kindOf allBelow
 kind-back k l h = eqb-true (numberOf (kindOf k)) k (passes (λ n. eqb (numberOf (kindOf n)) n) 1 15 refl k l (omega arith))
+
+pub only-kind : (s : List ℕ) (r : Rec) → Facts s r → Only (shapeOf (kindOf (r .kind))) (r .kind)
+only-kind s r h =
+    let q = kind-back (r .kind) (h .low) (h .high) in
+    rw q at (only (kindOf (r .kind)) (omega (arith, h .low)))
 
 -- One record
 
@@ -127,7 +132,7 @@ module _ (s : List ℕ) (fits : length s ≤ 16777216) (r : Rec) (h : Facts s r)
 
     record-back : entryAt (recordBytes true s a n r ++ rest) 0 ≡ entryOf s a n r
     unfolding recordBytes shapeIn entryOf bodyLength
-    record-back = shape-back (shapeOf (kindOf (r .kind))) refl (rw (kind-back (r .kind) (h .low) (h .high)) at (only (kindOf (r .kind)) (omega (arith, h .low, kind-back (r .kind) (h .low) (h .high)))))
+    record-back = shape-back (shapeOf (kindOf (r .kind))) refl (only-kind s r h)
 
 -- All records
 
