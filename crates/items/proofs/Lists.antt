@@ -44,10 +44,6 @@ pub names-gap : (s : List ℕ) (o : ℕ) → namesAt s (gapEnd s o) ≡ namesAt 
 unfolding namesAt
 names-gap s o = ap namesOf (tokens-gap inBlock s o)
 
-pub values-gap : (s : List ℕ) (o : ℕ) → valuesAt s (gapEnd s o) ≡ valuesAt s o
-unfolding valuesAt
-values-gap s o = ap valuesOf (tokens-gap inBlock s o)
-
 -- a name more
 names-cons : (n : ℕ) (z : Sizes) (t : Tok) (ts : List Tok) → t .class ≡ tag → addNames n z (namesOf (t ∷ ts)) ≡ addNames (n + 1) (added z 6 (t .size)) (namesOf ts)
 unfolding addNames namesOf rec

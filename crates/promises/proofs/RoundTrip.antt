@@ -1,31 +1,55 @@
--- The round trip. Proved: sound entries, rendered within the limit, are read, and the records that are read have the entries' kinds, in order, each with its
--- whole token (round-trip). Assumes nothing.
-use Prim.Native.Nat.{ℕ, suc, _+_, _≤_}
-use mathlib.Core.Bool.{true≢false, false≢true, Bool, true, false, cond}
-use mathlib.Core.Path.{_≡_, refl, sym, ap, ap₂, _∙_}
-use mathlib.Core.List.{List, [], _∷_, _++_, append-assoc}
+-- THE ROUND TRIP (document 01). Proved: take any store that is sound with its area, whose rendering keeps the limit of 16,777,216 bytes. Render, lent a text with room,
+-- succeeds and writes the rendering (renders). Read, given those bytes and lent a store and an area with room, exactly enough or more and whatever they held, succeeds, takes
+-- as many bytes of both as the first store and area have, and the store and area that it so writes say the same as the first, record by record: kinds, contents and decimal
+-- parts (reads-back). Assumes nothing but that the store is bytes.
+use Prim.Native.Nat.{ℕ, suc, _+_, _-_, _≤_}
+use mathlib.Core.Bool.{true≢false, false≢true, Bool, true, false, cond, _&&_}
+use mathlib.Core.Path.{_≡_, refl, sym, ap, _∙_}
+use mathlib.Core.List.{List, [], _∷_, _++_, map}
 use mathlib.Core.Option.{none}
 use native.Mathlib.Omega.{arith}
-use native.Mathlib.Nat.{zero-add}
 use borrow.Author.Tests.{eqb-true, le-ltb}
 use lib.Dec.{eqb}
-use lib.ListN.{length, length-append}
-use lib.Seq.{take-append-seam, drop-append-seam}
-use Rattle.text.specs.Bytes.{is, isSpace, isAscii}
+use lib.ListN.{length, take, drop}
+use lib.Seq.{take-append-seam}
+use Rattle.text.specs.Bytes.{is, isSpace, isAscii, endsWord}
 use Rattle.text.specs.Gaps.{gap, gapIn, gapByte, gapThen}
 use Rattle.text.specs.Runs.{span}
+use Rattle.text.specs.Reports.{success}
 use Rattle.text.proofs.Bools.{or-cases, and-l, and-r}
 use Rattle.words.specs.Keywords.{lower, starts, keyData}
-use Rattle.words.specs.Words.{word}
+use Rattle.words.specs.Words.{inWord, word}
 use Rattle.values.specs.Values.{block, lexed}
+use Rattle.records.specs.declared.Entry.{Entry}
+use Rattle.records.specs.declared.Entry.the-variants.{Record, Nothing}
+use Rattle.records.specs.declared.Fields.{Fields}
+use Rattle.records.specs.declared.Kind.{Kind}
+use Rattle.records.specs.declared.Kind.the-variants.{Block}
+use Rattle.records.specs.Kinds.{kindOf, numberOf, shapeOf, isContent}
+use Rattle.records.specs.Put.{front}
 use Rattle.items.specs.Tokens.{before, inBlock, lex, after, tok, tokensFrom, tokens}
-use Rattle.items.specs.Machine.{done, start, config, go, rec, loopEnd, atStart, move, follow, run}
+use Rattle.items.specs.Machine.{Rec, done, start, config, go, rec, loopEnd, atStart, move, follow, run}
 use Rattle.items.specs.Reading.{limit, decided, outline}
+use Rattle.items.specs.Sizes.{storeSize, areaSize}
 use Rattle.items.proofs.Ended.{word-ended, starts-ended, noLf}
 use Rattle.items.proofs.Advance.{advance₀}
-use Rattle.promises.specs.Entries.{Entry, entry, ending, render, recsAt, slices, tokensOf, modeOf, at-items, nest, allAscii, heads, sound}
+use Rattle.writing.specs.Writing.{storeOf, areaOf}
+use Rattle.reading.specs.Services.{readAnswer}
+use Rattle.stores.specs.Walk.{entries}
+use Rattle.stores.specs.Nesting.{nested, nestedFrom, start as first, standing, stands, falls, items, ended, follow as follows}
+use Rattle.stores.specs.Contents.{readableBy, contentBytes, filled, isName}
+use Rattle.stores.specs.Soundness.{sound}
+use Rattle.rendering.specs.Rendering.{isEnd, tokenText, linesOf, rendering, limit as renderLimit, renderRoom, renderAnswer, renderOut}
+use Rattle.promises.specs.Sayings.{Bytes, saying, sayings, SaySame}
+use Rattle.promises.specs.Results.{renderedBytes, storeBytes, areaBytes}
+use Rattle.promises.proofs.Reading.{Reads, reads}
+use Rattle.promises.proofs.Lines.{Line, line, ending, render, recsAt, modeOf, at-items}
+use Rattle.promises.proofs.Taken.{outline-taken}
+use Rattle.promises.proofs.Told.{told, sayings-told}
 use Rattle.promises.proofs.Trip.{Nested, trip, stateOf, frameOf, Held}
-use Rattle.promises.proofs.SoundCheck.{nest-sound}
+use Rattle.promises.proofs.Alone.{Fine, wordFor, by-kind, all-span}
+use Rattle.promises.proofs.Nests.{standing-all, Filled, full, more, filled-by, lineFor, linesFor, of-number, render-lines, lines-ascii, nested-lines}
+use Rattle.promises.proofs.Same.{all-same, store-same, area-same}
 
 -- the block's token, alone, is read whole
 record Head (w : List ℕ) : Type 0 where
@@ -58,74 +82,91 @@ head-step (b ∷ s) t o h =
     advance₀ before b s t (lexed block (length (b ∷ s))) o (data-no-gap b s (s ++ 10 ∷ t) (h .opens))
     (rw (data-ended (b ∷ s) t, h .opens, word-ended (b ∷ s) t, h .fills)) refl
 
-run-reads : (w : List ℕ) (es : List Entry) → Head w → Nested false (at-items false) es → run (tokensFrom (render (entry 1 w ∷ es)) 0 before 0) (config start none [] []) ≡ done (recsAt 0 (entry 1 w ∷ es))
+run-reads : (w : List ℕ) (es : List Line) → Head w → Nested false (at-items false) es → run (tokensFrom (render (line 1 w ∷ es)) 0 before 0) (config start none [] []) ≡ done (recsAt 0 (line 1 w ∷ es))
 unfolding render recsAt run move atStart follow config rec tok lexed modeOf stateOf frameOf Held
 run-reads w es h n =
     rw (head-step w (render es) 0 h) (trip n (suc (0 + length w)) 0 0 _ [] refl)
 
-read-rendered : (w : List ℕ) (es : List Entry) → Head w → Nested false (at-items false) es
-    → length (render (entry 1 w ∷ es)) ≤ limit → length (render (entry 1 w ∷ es)) ≤ span isAscii (render (entry 1 w ∷ es))
-    → outline (render (entry 1 w ∷ es)) ≡ done (recsAt 0 (entry 1 w ∷ es))
-unfolding outline decided tokens
-read-rendered w es h n f a =
-    rw (le-ltb limit _ f, le-ltb (span isAscii (render (entry 1 w ∷ es))) _ a) (run-reads w es h n)
+-- a store's first record is its heading
+head-of : (ar : List ℕ) (f : Fields) → Fine ar Block f → Head (wordFor ar Block f)
+unfolding wordFor tokenText keyData starts lower is readableBy shapeOf isContent isName word span inWord endsWord
+head-of ar f h =
+    let c = contentBytes ar Block f in
+    record { opens = refl; fills = ap (λ (n : ℕ). suc (suc (suc (suc (suc n))))) (eqb-true (word c) (length c) (by-kind ar f Block refl h)) }
 
-same-tokens : (p : List ℕ) (es : List Entry) → slices (p ++ render es) (recsAt (length p) es) ≡ tokensOf es
-unfolding slices recsAt tokensOf render loopEnd
-same-tokens p [] = refl
-same-tokens p (entry k w ∷ es) =
-    ap₂ {C = List (List ℕ)} (λ x r. x ∷ r)
-    (rw (drop-append-seam p (w ++ 10 ∷ render es)) (take-append-seam w (10 ∷ render es)))
-    (let e : p ++ (w ++ 10 ∷ render es) ≡ (p ++ (w ++ 10 ∷ [])) ++ render es = simp append-assoc in
-    let n : suc (length p + length w) ≡ length (p ++ (w ++ 10 ∷ [])) = simp length-append (omega arith) in
-    rw (e, n) (same-tokens (p ++ (w ++ 10 ∷ [])) es))
-same-tokens p (ending ∷ es) = ap {B = List (List ℕ)} (λ r. [] ∷ r) (same-tokens p es)
-
--- bytes of a class, one more, and what follows
-span-over : (p : ℕ → Bool) (w : List ℕ) (c : ℕ) (r : List ℕ) → span p w ≡ length w → p c ≡ true → span p (w ++ c ∷ r) ≡ length w + suc (span p r)
-unfolding span
-span-over p [] c r e h = rw h (sym (zero-add (suc (span p r))))
-span-over p (b ∷ w) c r e h = by (p b) refl e (λ q. span-over p w c r q h)
+-- what the machine reads of a sound store's rendering
+lines-read : (ar : List ℕ) {a n : ℕ} {es : List Entry} → Filled ar a n es → nestedFrom es false first ≡ true → run (tokensFrom (render (linesFor ar es)) 0 before 0) (config start none [] []) ≡ done (recsAt 0 (linesFor ar es))
+unfolding nestedFrom ended standing follows linesFor lineFor isEnd
+lines-read ar (full e) q = absurd (false≢true q)
+lines-read ar (more {es = es} {k = k} {f = f} {next = next} h z g) q = by (eqb (numberOf k) 1) refl q
   where
-    by : (x : Bool) → p b ≡ x → cond x (suc (span p w)) 0 ≡ suc (length w) → (span p w ≡ length w → span p (w ++ c ∷ r) ≡ length w + suc (span p r))
-        → cond (p b) (suc (span p (w ++ c ∷ r))) 0 ≡ suc (length w) + suc (span p r)
-    by true q k f = let g = f (omega arith) in rw (q, g) (omega arith)
-    by false q k f = absurd (omega arith)
+    by : (t : Bool) → eqb (numberOf k) 1 ≡ t → follows (cond t (stands false (items false)) falls) (λ f w. nestedFrom es f w) ≡ true
+        → run (tokensFrom (render (lineFor ar (Record k f next) ∷ linesFor ar es)) 0 before 0) (config start none [] []) ≡ done (recsAt 0 (lineFor ar (Record k f next) ∷ linesFor ar es))
+    by true t q = let e : k ≡ Block = unfold kindOf in of-number k 1 t in rw e (run-reads (wordFor ar Block f) (linesFor ar es) (head-of ar f (rw e at h)) (nested-lines ar g q))
+    by false t q = absurd (false≢true q)
 
-render-ascii : (es : List Entry) → allAscii es ≡ true → span isAscii (render es) ≡ length (render es)
-unfolding allAscii render span
-render-ascii [] e = refl
-render-ascii (entry k w ∷ es) e =
-    let a : span isAscii w ≡ length w = eqb-true (span isAscii w) (length w) (and-l (eqb (span isAscii w) (length w)) (allAscii es) e) in
-    span-over isAscii w 10 (render es) a (unfold isAscii in refl)
-    ∙ rw (render-ascii es (and-r (eqb (span isAscii w) (length w)) (allAscii es) e)) (sym (length-append w (10 ∷ render es)))
-render-ascii (ending ∷ es) e = render-ascii es e
+-- a sound store of bytes
+record Sound (st ar : List ℕ) : Type 0 where
+  filling : Filled ar 0 (length st) (entries st)
+  nesting : nestedFrom (entries st) false first ≡ true
 
-head-of : (k : ℕ) (w : List ℕ) → heads k w ≡ true → Head w
-unfolding heads
-head-of k w e =
-    let r = and-r (eqb k 1) _ e in
-    record { opens = and-l (starts keyData w) _ r; fills = eqb-true (word w) (length w) (and-r (starts keyData w) _ r) }
-
-head-kind : (k : ℕ) (w : List ℕ) → heads k w ≡ true → k ≡ 1
-unfolding heads
-head-kind k w e = eqb-true k 1 (and-l (eqb k 1) _ e)
-
-pub record Back (es : List Entry) : Type 0 where
-  pub records : outline (render es) ≡ done (recsAt 0 es)
-  pub tokens : slices (render es) (recsAt 0 es) ≡ tokensOf es
-
-pub round-trip : (es : List Entry) → sound es ≡ true → length (render es) ≤ limit → Back es
-unfolding sound
-round-trip [] e f = absurd (false≢true e)
-round-trip (ending ∷ es) e f = absurd (false≢true e)
-round-trip (entry k w ∷ es) e f =
-    let h = and-l (heads k w) _ e in
-    let r = and-r (heads k w) _ e in
-    let one : k ≡ 1 = head-kind k w h in
-    let n = nest-sound es false (at-items false) (and-l (nest es false (at-items false)) _ r) in
-    let a = render-ascii (entry k w ∷ es) (and-r (nest es false (at-items false)) _ r) in
+sound-of : (st ar : List ℕ) → Bytes st → sound st ar ≡ true → Sound st ar
+unfolding sound nested filled entries
+sound-of st ar b e =
+    let n : length st - 0 ≡ length st = omega arith in
     record {
-      records = rw one (read-rendered w es (head-of k w h) n (rw one at f) (omega (arith, rw one at a)));
-      tokens = same-tokens [] (entry k w ∷ es);
+      filling = filled-by ar (rw n at (standing-all st 0 b (omega arith))) 0 (and-r (nested (entries st)) _ e);
+      nesting = and-l (nested (entries st)) _ e;
+    }
+
+records : List ℕ → List ℕ → List Rec
+records st ar = recsAt 0 (linesFor ar (entries st))
+
+-- THE RENDERING IS READ, and its records say what the store's say
+record Back (st ar : List ℕ) : Type 0 where
+  read : outline (rendering st ar) ≡ done (records st ar)
+  same : map (told (rendering st ar)) (records st ar) ≡ sayings st ar
+  store : storeSize (records st ar) ≡ length st
+  area : areaSize (records st ar) ≡ length ar
+
+back : (st ar : List ℕ) → Bytes st → sound st ar ≡ true → length (rendering st ar) ≤ limit → Back st ar
+unfolding rendering outline decided tokens records sayings
+back st ar b e l =
+    let s = sound-of st ar b e in
+    let t = render-lines ar (entries st) in
+    let a : span isAscii (linesOf ar (entries st)) ≡ length (linesOf ar (entries st)) = all-span isAscii (linesOf ar (entries st)) (lines-ascii ar (s .filling)) in
+    record {
+      read = rw (le-ltb limit _ l, le-ltb (span isAscii (linesOf ar (entries st))) (length (linesOf ar (entries st))) (omega arith), t) (lines-read ar (s .filling) (s .nesting));
+      same = rw t (all-same ar (s .filling) [] 0 refl);
+      store = store-same ar (s .filling) 0;
+      area = omega (arith, area-same ar (s .filling) 0);
+    }
+
+-- Render's bytes
+renders : (st ar text : List ℕ) → sound st ar ≡ true → length (rendering st ar) ≤ limit → length (rendering st ar) ≤ length text
+    → (renderAnswer st ar (length text) ≡ success (length (rendering st ar)) 0) × (renderedBytes st ar text ≡ rendering st ar)
+unfolding renderedBytes renderAnswer renderRoom renderOut success front limit renderLimit
+renders st ar text e l m =
+    let p = le-ltb 16777216 (length (rendering st ar)) l in
+    let q = le-ltb (length text) (length (rendering st ar)) m in
+    (rw (e, p, q), rw (e, p, q) (take-append-seam (rendering st ar) _))
+
+-- THE ROUND TRIP: Render to the lent text, then Read of what it wrote, to the lent store and area
+pub record RoundTrip (st ar text store area : List ℕ) : Type 0 where
+  pub rendered : renderAnswer st ar (length text) ≡ success (length (rendering st ar)) 0
+  pub read : readAnswer (renderedBytes st ar text) (length store) (length area) ≡ success (length st) (length ar)
+  pub same : SaySame (storeBytes (renderedBytes st ar text) store area) (areaBytes (renderedBytes st ar text) store area) st ar
+
+pub round-trip : (st ar text store area : List ℕ) → Bytes st → sound st ar ≡ true → length (rendering st ar) ≤ 16777216
+    → length (rendering st ar) ≤ length text → length st ≤ length store → length ar ≤ length area → RoundTrip st ar text store area
+unfolding limit SaySame
+round-trip st ar text store area b e l room₁ room₂ room₃ =
+    let t = rendering st ar in
+    let x = back st ar b e l in
+    let w = renders st ar text e l room₁ in
+    let r = reads t store area (records st ar) (x .read) (rw (x .store) room₂) (rw (x .area) room₃) in
+    record {
+      rendered = w .0;
+      read = rw (w .1) (r .answer ∙ rw (x .store, x .area));
+      same = rw (w .1, r .stored, r .contents) (sayings-told t (records st ar) (outline-taken t (records st ar) (x .read)) ∙ x .same);
     }

@@ -1,4 +1,4 @@
--- Entries that are nested are rendered and read back. Proved: from each state in which the machine may stand before them, it reads the rendering of nested entries to
+-- Lines that are nested are rendered and read back. Proved: from each state in which the machine may stand before them, it reads the rendering of nested lines to
 -- their records (trip). Assumes nothing.
 use Prim.Native.Nat.{ℕ, suc, _+_, _%_}
 use mathlib.Core.Bool.{Bool, true, false}
@@ -12,25 +12,25 @@ use Rattle.values.specs.Values.{Class, loop, save, tag, value, nothing, atEnd, 
 use Rattle.items.specs.Tokens.{inBlock, inFrame, lexIn, lex, after, Tok, tok, tokensFrom}
 use Rattle.items.specs.Machine.{Rec, done, State, items, names, values, wants, config, rec, loopEnd, atItem, loopEnds, atValue, noMoreNames, atName, atWant, move, follow, run}
 use Rattle.items.proofs.Advance.{Whole, advance}
-use Rattle.promises.specs.Entries.{Entry, entry, ending, render, recsAt, modeOf, reads, Where, at-items, at-names, at-values, at-value}
+use Rattle.promises.proofs.Lines.{Line, line, ending, render, recsAt, modeOf, Where, at-items, at-names, at-values, at-value}
 
 -- w alone is read whole, as a token of this class
 unfoldable pub Reads : Bool → List ℕ → Class → Type 0
 Reads f w c = Whole (modeOf f) w (lexed c (length w))
 
--- entries nested, as `nest` tests it, in a form to go through
-pub data Nested : Bool → Where → List Entry → Type 0 where
+-- lines nested, in a form to go through
+pub data Nested : Bool → Where → List Line → Type 0 where
   over : (e : Bool) → Nested false (at-items e) []
-  tagged : {f : Bool} {es : List Entry} (w : List ℕ) → Reads f w tag → Nested f at-value es → Nested f (at-items false) (entry 4 w ∷ es)
-  valued : {f : Bool} {es : List Entry} (k : ℕ) (w : List ℕ) → Reads f w (value k) → Nested f (at-items false) es → Nested f at-value (entry k w ∷ es)
-  looped : {f : Bool} {es : List Entry} (e : Bool) (w : List ℕ) → Reads f w loop → Nested f (at-names 0) es → Nested f (at-items e) (entry 5 w ∷ es)
-  named : {f : Bool} {es : List Entry} (n : ℕ) (w : List ℕ) → Reads f w tag → Nested f (at-names (suc n)) es → Nested f (at-names n) (entry 6 w ∷ es)
-  first-value : {f : Bool} {es : List Entry} (n k : ℕ) (w : List ℕ) → Reads f w (value k) → Nested f (at-values (suc n) 1) es → Nested f (at-names (suc n)) (entry k w ∷ es)
-  no-rows : {f : Bool} {es : List Entry} (n : ℕ) → Nested f (at-items true) es → Nested f (at-names (suc n)) (ending ∷ es)
-  next-value : {f : Bool} {es : List Entry} (n j k : ℕ) (w : List ℕ) → Reads f w (value k) → Nested f (at-values n (suc j)) es → Nested f (at-values n j) (entry k w ∷ es)
-  rows : {f : Bool} {es : List Entry} (n j : ℕ) → j % n ≡ 0 → Nested f (at-items false) es → Nested f (at-values n j) (ending ∷ es)
-  opened : {es : List Entry} (e : Bool) (w : List ℕ) → Reads false w save → Nested true (at-items false) es → Nested false (at-items e) (entry 2 w ∷ es)
-  shut : {es : List Entry} (e : Bool) (w : List ℕ) → Reads true w save → Nested false (at-items false) es → Nested true (at-items e) (entry 3 w ∷ es)
+  tagged : {f : Bool} {es : List Line} (w : List ℕ) → Reads f w tag → Nested f at-value es → Nested f (at-items false) (line 4 w ∷ es)
+  valued : {f : Bool} {es : List Line} (k : ℕ) (w : List ℕ) → Reads f w (value k) → Nested f (at-items false) es → Nested f at-value (line k w ∷ es)
+  looped : {f : Bool} {es : List Line} (e : Bool) (w : List ℕ) → Reads f w loop → Nested f (at-names 0) es → Nested f (at-items e) (line 5 w ∷ es)
+  named : {f : Bool} {es : List Line} (n : ℕ) (w : List ℕ) → Reads f w tag → Nested f (at-names (suc n)) es → Nested f (at-names n) (line 6 w ∷ es)
+  first-value : {f : Bool} {es : List Line} (n k : ℕ) (w : List ℕ) → Reads f w (value k) → Nested f (at-values (suc n) 1) es → Nested f (at-names (suc n)) (line k w ∷ es)
+  no-rows : {f : Bool} {es : List Line} (n : ℕ) → Nested f (at-items true) es → Nested f (at-names (suc n)) (ending ∷ es)
+  next-value : {f : Bool} {es : List Line} (n j k : ℕ) (w : List ℕ) → Reads f w (value k) → Nested f (at-values n (suc j)) es → Nested f (at-values n j) (line k w ∷ es)
+  rows : {f : Bool} {es : List Line} (n j : ℕ) → j % n ≡ 0 → Nested f (at-items false) es → Nested f (at-values n j) (ending ∷ es)
+  opened : {es : List Line} (e : Bool) (w : List ℕ) → Reads false w save → Nested true (at-items false) es → Nested false (at-items e) (line 2 w ∷ es)
+  shut : {es : List Line} (e : Bool) (w : List ℕ) → Reads true w save → Nested false (at-items false) es → Nested true (at-items e) (line 3 w ∷ es)
 
 -- a token, an LF and the rest
 pass : (f : Bool) (w t : List ℕ) (c : Class) (o : ℕ) → Reads f w c → tokensFrom (w ++ 10 ∷ t) 0 (modeOf f) o ≡ tok (lexed c (length w)) o ∷ tokensFrom t 0 (after c (modeOf f)) (suc (o + length w))
@@ -62,13 +62,13 @@ data Begins : Bool → Class → Type 0 where
   by-save : (e : Bool) → Begins e save
   by-end : (e : Bool) → Begins e (nothing atEnd)
 
-record First (f e : Bool) (es : List Entry) (o : ℕ) : Type 0 where
+record First (f e : Bool) (es : List Line) (o : ℕ) : Type 0 where
   t : Tok
   ts : List Tok
   reads : tokensFrom (render es) 0 (modeOf f) o ≡ t ∷ ts
   begins : Begins e (t .class)
 
-first-token : {f e : Bool} {es : List Entry} → Nested f (at-items e) es → (o : ℕ) → First f e es o
+first-token : {f e : Bool} {es : List Line} → Nested f (at-items e) es → (o : ℕ) → First f e es o
 unfolding render tokensFrom modeOf lex lexIn lexed tok
 first-token (over e) o = record { t = tok (lex inBlock []) o; ts = []; reads = refl; begins = by-end e }
 first-token (tagged {f} {es} w r n) o = record { t = _; ts = _; reads = pass f w (render es) tag o r; begins = by-tag }
@@ -94,21 +94,21 @@ names-end a n fr out held t (by-loop e) q = ap (λ c. atValue a (suc n) 0 fr out
 names-end a n fr out held t (by-save e) q = ap (λ c. atValue a (suc n) 0 fr out held c t) q ∙ values-end a (suc n) 0 fr out held t (by-save e) (zero-mod (suc n))
 names-end a n fr out held t (by-end e) q = ap (λ c. atValue a (suc n) 0 fr out held c t) q ∙ values-end a (suc n) 0 fr out held t (by-end e) (zero-mod (suc n))
 
-values-wait : {f e : Bool} {es : List Entry} → Nested f (at-items e) es → (o a n j : ℕ) (fr : Option ℕ) (out held : List Rec) → j % n ≡ 0
+values-wait : {f e : Bool} {es : List Line} → Nested f (at-items e) es → (o a n j : ℕ) (fr : Option ℕ) (out held : List Rec) → j % n ≡ 0
     → run (tokensFrom (render es) 0 (modeOf f) o) (config (values a n j) fr out held) ≡ run (tokensFrom (render es) 0 (modeOf f) o) (config items fr (out ++ held ++ (loopEnd ∷ [])) [])
 unfolding run move config
 values-wait d o a n j fr out held z =
     let x = first-token d o in
     rw (x .reads) (ap (λ m. follow m (λ c. run (x .ts) c)) (values-end a n j fr out held (x .t) (x .begins) z))
 
-names-wait : {f : Bool} {es : List Entry} → Nested f (at-items true) es → (o a n : ℕ) (fr : Option ℕ) (out held : List Rec)
+names-wait : {f : Bool} {es : List Line} → Nested f (at-items true) es → (o a n : ℕ) (fr : Option ℕ) (out held : List Rec)
     → run (tokensFrom (render es) 0 (modeOf f) o) (config (names a (suc n)) fr out held) ≡ run (tokensFrom (render es) 0 (modeOf f) o) (config items fr (out ++ held ++ (loopEnd ∷ [])) [])
 unfolding run move config
 names-wait d o a n fr out held =
     let x = first-token d o in
     rw (x .reads) (ap (λ m. follow m (λ c. run (x .ts) c)) (names-end a n fr out held (x .t) (x .begins) refl))
 
-pub trip : {f : Bool} {w : Where} {es : List Entry} → Nested f w es → (o a fo : ℕ) (out held : List Rec) → Held w held
+pub trip : {f : Bool} {w : Where} {es : List Line} → Nested f w es → (o a fo : ℕ) (out held : List Rec) → Held w held
     → run (tokensFrom (render es) 0 (modeOf f) o) (config (stateOf w a) (frameOf f fo) out held) ≡ done (out ++ held ++ recsAt o es)
 unfolding run follow config stateOf frameOf render recsAt move Held tok lexed rec atItem atWant atName atValue noMoreNames after tokensFrom lex lexIn modeOf
 trip (over e) o a fo out held h = rw h (ap done (simp append-nil))

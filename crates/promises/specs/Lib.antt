@@ -1,3 +1,4 @@
 pub mod Differences
-pub mod Entries
 pub mod Readings
+pub mod Results
+pub mod Sayings

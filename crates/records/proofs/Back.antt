@@ -1,7 +1,7 @@
 -- What is written is read: each record form, at any offset of any bytes, gives back its kind, token, number and decimal parts. Assumes nothing.
 use Prim.Native.Nat.{ℕ, _+_, _-_, _*_, _%_, _/_, _≤_, _<_}
-use mathlib.Core.Path.{_≡_, refl, sym, ap, _∙_}
-use mathlib.Core.Bool.{Bool, true, false, cond}
+use mathlib.Core.Path.{_≡_, refl, _∙_}
+use mathlib.Core.Bool.{true, cond}
 use mathlib.Core.List.{List, [], _∷_, _++_, append-assoc}
 use native.Mathlib.Omega.{arith}
 use borrow.Author.Tests.{le-leb}
@@ -15,7 +15,7 @@ use Rattle.records.specs.declared.Shape.the-variants.{Empty, Place, Cont
 use Rattle.records.specs.declared.Token.{Token}
 use Rattle.records.specs.declared.Entry.the-variants.{Record}
 use Rattle.records.specs.Kinds.{kindOf, shapeOf, shapeLength, bodyLength}
-use Rattle.records.specs.Bytes.{le32, le64, signed32, flag}
+use Rattle.records.specs.Bytes.{le32, le64, signed32}
 use Rattle.records.specs.Records.{tokenBytes, decimalBytes, endRecord, placeRecord, contentRecord, loopRecord, numberRecord, uncertainRecord}
 use Rattle.records.proofs.Forms.{length-token, length-decimal}
 use Rattle.records.specs.Entries.{de32, de64, tokenOf, partsOf, stored, noParts, noFields, plainFields, partsFields, fieldsOf, isKind, entryOf, entryAt}

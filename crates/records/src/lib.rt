@@ -61,6 +61,7 @@ impl Kind {
     // Sign, integer, fraction, fraction digits and exponent.
     pub const PARTS: usize = 18;
 
+    // What kind 15 has besides.
     pub const UNCERTAINTY: usize = 4;
 
     // `data_` and `save_`.
@@ -69,9 +70,10 @@ impl Kind {
     // `_`.
     pub const TAG_MARKS: usize = 1;
 
-    // Two marks around a content, one of them before it.
+    // Two marks around a content.
     pub const QUOTE_MARKS: usize = 2;
 
+    // One of them before it.
     pub const QUOTE_OPENING: usize = 1;
 
     // The kind of a number.
@@ -188,11 +190,10 @@ pub fn body_length(kind: u8) -> usize
 pub fn outline_length(kind: u8) -> usize
     ensures { λ r. ⌜ r ≡ outlineLength kind ⌝ }
 {
-    let shape = Kind::of(kind).shape();
-    match shape {
-        Shape::Empty => 0,
-        _ => Kind::PLACE,
+    if body_length(kind) == 0 {
+        return 0;
     }
+    Kind::PLACE
 }
 
 // Where a record's body goes on behind P, and behind the decimal parts.
@@ -200,6 +201,7 @@ const BEHIND_PLACE: usize = 1 + Kind::PLACE;
 
 const BEHIND_PARTS: usize = 1 + Kind::PLACE + Kind::PARTS;
 
+// One byte at an offset.
 fn put_u8(store: &mut [u8], at: usize, v: u8)
     requires { ⌜ at < length (now store) ⌝ }
     ensures { λ r. ⌜ now (store .exit) ≡ put at (v ∷ []) (now (store .entry)) ⌝ }
@@ -207,6 +209,7 @@ fn put_u8(store: &mut [u8], at: usize, v: u8)
     store[at] = v;
 }
 
+// Four bytes from an offset on, the lowest first.
 fn put_u32(store: &mut [u8], at: usize, v: u32)
     requires { ⌜ at + 4 ≤ length (now store) ⌝ }
     ensures { λ r. ⌜ now (store .exit) ≡ put at (le32 v) (now (store .entry)) ⌝ }
@@ -217,6 +220,7 @@ fn put_u32(store: &mut [u8], at: usize, v: u32)
     store[at + 3] = (v / 16777216 % 256) as u8;
 }
 
+// Eight bytes from an offset on.
 fn put_u64(store: &mut [u8], at: usize, v: u64)
     requires { ⌜ at + 8 ≤ length (now store) ⌝ }
     ensures { λ r. ⌜ now (store .exit) ≡ put at (le64 v) (now (store .entry)) ⌝ }
@@ -225,6 +229,7 @@ fn put_u64(store: &mut [u8], at: usize, v: u64)
     put_u32(store, at + 4, (v / 4294967296) as u32);
 }
 
+// P from an offset on.
 fn put_token(store: &mut [u8], at: usize, t: Token)
     requires { ⌜ at + 16 ≤ length (now store) ⌝ }
     ensures { λ r. ⌜ now (store .exit) ≡ put at (tokenBytes t) (now (store .entry)) ⌝ }
@@ -258,6 +263,7 @@ fn signed(minus: bool, size: u32) -> u32
     size
 }
 
+// Decimal parts from an offset on, without the uncertainty.
 fn put_decimal(store: &mut [u8], at: usize, d: Decimal)
     requires { ⌜ (at + 18 ≤ length (now store)) × (d .places < 256) ⌝ }
     ensures { λ r. ⌜ now (store .exit) ≡ put at (decimalBytes d) (now (store .entry)) ⌝ }
@@ -357,6 +363,7 @@ fn joined(a: u8, b: u8, c: u8, d: u8) -> u32
     a as u32 + b as u32 * 256 + c as u32 * 65536 + d as u32 * 16777216
 }
 
+// The number that four bytes give.
 fn u32_at(store: &[u8], at: usize) -> u32
     requires { ⌜ at + 4 ≤ length (now store) ⌝ }
     ensures { λ r. ⌜ r ≡ de32 (drop at (now (store .entry))) ⌝ }
@@ -364,6 +371,7 @@ fn u32_at(store: &[u8], at: usize) -> u32
     joined(store[at], store[at + 1], store[at + 2], store[at + 3])
 }
 
+// The number that eight bytes give.
 fn u64_at(store: &[u8], at: usize) -> u64
     requires { ⌜ at + 8 ≤ length (now store) ⌝ }
     ensures { λ r. ⌜ r ≡ de64 (drop at (now (store .entry))) ⌝ }
@@ -373,6 +381,7 @@ fn u64_at(store: &[u8], at: usize) -> u64
     low as u64 + high as u64 * 4294967296
 }
 
+// P at an offset.
 fn token_at(store: &[u8], at: usize) -> Token
     requires { ⌜ at + 16 ≤ length (now store) ⌝ }
     ensures { λ r. ⌜ r ≡ tokenOf (drop at (now (store .entry))) ⌝ }
@@ -385,6 +394,7 @@ fn token_at(store: &[u8], at: usize) -> Token
     }
 }
 
+// Decimal parts at an offset, with an uncertainty that was read.
 fn parts_at(store: &[u8], at: usize, uncertainty: u32) -> Parts
     requires { ⌜ at + 18 ≤ length (now store) ⌝ }
     ensures { λ r. ⌜ r ≡ partsOf (drop at (now (store .entry))) uncertainty ⌝ }
@@ -399,7 +409,7 @@ fn parts_at(store: &[u8], at: usize, uncertainty: u32) -> Parts
     }
 }
 
-// What a body holds that has no decimal parts, and one that is empty.
+// The parts of a body that has none.
 fn no_parts() -> Parts
     ensures { λ r. ⌜ r ≡ noParts ⌝ }
 {
@@ -413,6 +423,7 @@ fn no_parts() -> Parts
     }
 }
 
+// What an empty body holds.
 fn no_fields() -> Fields
     ensures { λ r. ⌜ r ≡ noFields ⌝ }
 {
@@ -464,7 +475,11 @@ fn fields_at(store: &[u8], at: usize, shape: Shape) -> Fields
         Shape::Content => plain_fields(store, at, u32_at(store, at + Kind::PLACE)),
         Shape::Count => plain_fields(store, at, u32_at(store, at + Kind::PLACE)),
         Shape::Parts => parts_fields(store, at, 0),
-        Shape::PartsUncertain => parts_fields(store, at, u32_at(store, at + (Kind::PLACE + Kind::PARTS))),
+        Shape::PartsUncertain => parts_fields(
+            store,
+            at,
+            u32_at(store, at + (Kind::PLACE + Kind::PARTS)),
+        ),
     }
 }
 

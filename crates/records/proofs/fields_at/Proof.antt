@@ -1,3 +1,4 @@
+-- `records::fields_at`: each arm by its shape. Assumes nothing.
 use borrow.Author.Needs.{needs}
 use native.Mathlib.Omega.{arith}
 use lib.Seq.{drop-drop}

@@ -1,3 +1,4 @@
+-- `records::no_fields`: by its call. Assumes nothing.
 use borrow.Author.Needs.{needs}
 use Rattle.records.proofs.no_fields.Statement.{statement}
 use Rattle.records.proofs.no_fields.Tie as tie

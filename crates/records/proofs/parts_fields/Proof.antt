@@ -1,3 +1,4 @@
+-- `records::parts_fields`: by its calls. Assumes nothing.
 use borrow.Author.Needs.{needs}
 use lib.Seq.{drop-drop}
 use Rattle.records.specs.Entries.{partsFields}

@@ -1,3 +1,4 @@
+-- `records::plain_fields`: by its calls. Assumes nothing.
 use borrow.Author.Needs.{needs}
 use Rattle.records.specs.Entries.{plainFields}
 use Rattle.records.proofs.plain_fields.Statement.{statement}

@@ -1,3 +1,4 @@
+-- `records::write_loop`: as a content record. Assumes nothing.
 use borrow.Author.Needs.{needs}
 use Rattle.records.specs.Records.{loopRecord, contentRecord}
 use Rattle.records.proofs.write_loop.Statement.{statement}

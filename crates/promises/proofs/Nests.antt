@@ -1,0 +1,274 @@
+-- A sound store as lines. Proved: its rendering is theirs (render-lines) and ASCII (lines-ascii), and they are nested as the machine reads them (nested-lines).
+-- Assumes nothing.
+use Prim.Native.Nat.{ℕ, zero, suc, _+_, _-_, _*_, _%_, _≤_, _<_}
+use mathlib.Core.Bool.{true≢false, false≢true, Bool, true, false, cond, _&&_}
+use mathlib.Core.Path.{_≡_, refl, sym, ap, _∙_}
+use mathlib.Core.List.{List, [], _∷_, _++_, append-assoc}
+use native.Mathlib.Omega.{arith}
+use borrow.Author.Tests.{eqb-true, leb-true, ne-eqb}
+use lib.Dec.{eqb, leb}
+use lib.ListN.{length, drop, getD}
+use lib.Seq.{getD-drop}
+use Rattle.text.specs.Bytes.{isAscii}
+use Rattle.text.proofs.Bools.{and-l, and-r}
+use Rattle.numbers.proofs.Made.{all}
+use Rattle.records.specs.declared.Entry.{Entry}
+use Rattle.records.specs.declared.Entry.the-variants.{Record, Nothing}
+use Rattle.records.specs.declared.Fields.{Fields}
+use Rattle.records.specs.declared.Kind.{Kind}
+use Rattle.records.specs.declared.Kind.the-variants.{NoKind, Block, FrameOpen, FrameClose, Tag, Loop, LoopTag, LoopEnd, Inapplicable, Unknown, Bare, SingleQuoted, DoubleQuoted, Multiline, Number, Uncertain}
+use Rattle.records.specs.declared.Shape.{Shape}
+use Rattle.records.specs.declared.Shape.the-variants.{Empty, Place, Content, Count, Parts as PartsShape, PartsUncertain}
+use Rattle.records.specs.Kinds.{kindOf, numberOf, shapeOf, shapeLength, bodyLength, isContent}
+use Rattle.records.specs.Entries.{de32, partsOf, noParts, fieldsOf, isKind, entryOf, entryAt}
+use Rattle.values.specs.Values.{tag, loop, save, value}
+use Rattle.stores.specs.Walk.{onward, entriesFrom, entries}
+use Rattle.stores.specs.Nesting.{Where, start, items, names, values, wants, Stand, stands, falls, isValueKind, opensLoop, atItems, afterName, atNames, atValues, standing, ended, follow, nestedFrom}
+use Rattle.stores.specs.Contents.{readableBy, readable, contentBytes, ownRule, takes, filledFrom}
+use Rattle.rendering.specs.Rendering.{tokenText, isEnd, lineOf, linesOf}
+use Rattle.promises.specs.Sayings.{Bytes}
+use Rattle.promises.proofs.Lines.{Line, line, ending, render, Where as Spot, at-items, at-names, at-values, at-value}
+use Rattle.promises.proofs.Trip.{Nested, over, tagged, valued, looped, named, first-value, no-rows, next-value, rows, opened, shut}
+use Rattle.promises.proofs.Alone.{hasParts, Stored, Fine, fine, reads-tag, reads-loop, reads-shut, reads-open, wordFor, by-kind, reads-value, all-append, token-ascii}
+
+-- What stands in a store of bytes: whole records, so many bytes in all, or nothing from some place on
+
+pub data Standing : ℕ → List Entry → Type 0 where
+  over-all : Standing 0 []
+  no-record : (n : ℕ) → Standing n (Nothing ∷ [])
+  and-then : {n : ℕ} {es : List Entry} {k : Kind} {f : Fields} (next : ℕ) → Stored k f → next ≡ suc (shapeLength (shapeOf k)) → Standing n es → Standing (next + n) (Record k f next ∷ es)
+
+drop-bytes : (s : List ℕ) (n : ℕ) → Bytes s → Bytes (drop n s)
+unfolding Bytes
+drop-bytes s n h i = rw (getD-drop n s i 0) (h (n + i))
+
+de32-small : (s : List ℕ) → Bytes s → de32 s < 4294967296
+unfolding de32 Bytes
+de32-small s h = omega (arith, h 0, h 1, h 2, h 3)
+
+fields-stored : (k : Kind) (x : Shape) (b : List ℕ) → shapeOf k ≡ x → isKind k ≡ true → Bytes b → Stored k (fieldsOf x b)
+unfolding fieldsOf hasParts partsOf shapeOf
+fields-stored k Empty b e y h = record { known = y; exponent = omega arith; certain = λ _. refl; none = λ _. refl }
+fields-stored k Place b e y h = record { known = y; exponent = omega arith; certain = λ _. refl; none = λ _. refl }
+fields-stored k Content b e y h = record { known = y; exponent = omega arith; certain = λ _. refl; none = λ _. refl }
+fields-stored k Count b e y h = record { known = y; exponent = omega arith; certain = λ _. refl; none = λ _. refl }
+fields-stored k PartsShape b e y h = record { known = y; exponent = de32-small _ (drop-bytes _ 14 (drop-bytes b 16 h)); certain = λ _. refl; none = λ z. absurd (true≢false (sym (ap hasParts e) ∙ z)) }
+fields-stored k PartsUncertain b e y h =
+    record {
+      known = y;
+      exponent = de32-small _ (drop-bytes _ 14 (drop-bytes b 16 h));
+      certain = λ q. let z : PartsShape ≡ PartsUncertain = sym (ap shapeOf q) ∙ e in let x : _≡_ {A = ℕ} 0 1 = cc in absurd (omega arith);
+      none = λ z. absurd (true≢false (sym (ap hasParts e) ∙ z));
+    }
+
+-- the record at the front
+front-standing : (b : ℕ) (s : List ℕ) → Bytes (b ∷ s) → ((k : ℕ) → k ≤ length s → Standing (length s - k) (entriesFrom s k)) → Standing (suc (length s)) (onward (entryOf 0 (b ∷ s)) (λ k. entriesFrom s k))
+unfolding entryOf onward Bytes
+front-standing b s h more = by (isKind (kindOf b) && leb (bodyLength b) (length s)) refl
+  where
+    by : (t : Bool) → (isKind (kindOf b) && leb (bodyLength b) (length s)) ≡ t → Standing (suc (length s)) (onward (cond t (Record (kindOf b) (fieldsOf (shapeOf (kindOf b)) s) (0 + 1 + bodyLength b)) Nothing) (λ k. entriesFrom s k))
+    by false q = no-record (suc (length s))
+    by true q =
+        let body = bodyLength b in
+        let l : body ≤ length s = leb-true (bodyLength b) (length s) (and-r (isKind (kindOf b)) _ q) in
+        let fits : suc (length s) ≡ 1 + body + (length s - (1 + body - 1)) = omega arith in
+        rw fits (and-then (1 + body) (fields-stored (kindOf b) (shapeOf (kindOf b)) s refl (and-l (isKind (kindOf b)) _ q) (λ i. h (suc i))) (unfold bodyLength in omega arith) (more (1 + body - 1) (omega arith)))
+
+pub standing-all : (s : List ℕ) (k : ℕ) → Bytes s → k ≤ length s → Standing (length s - k) (entriesFrom s k)
+unfolding entriesFrom entryAt Bytes
+standing-all [] k h l = let z : 0 - k ≡ 0 = omega arith in rw z over-all
+standing-all (b ∷ s) zero h l = let z : suc (length s) - 0 ≡ suc (length s) = omega arith in rw z (front-standing b s h (λ k. standing-all s k (λ i. h (suc i))))
+standing-all (b ∷ s) (suc k) h l = let z : suc (length s) - suc k ≡ length s - k = omega arith in rw z (standing-all s k (λ i. h (suc i)) (omega arith))
+
+-- A store that is filled: each record keeps its own rule, its content starting at area offset a
+
+pub data Filled (ar : List ℕ) : ℕ → ℕ → List Entry → Type 0 where
+  full : {a : ℕ} → a ≡ length ar → Filled ar a 0 []
+  more : {a n : ℕ} {es : List Entry} {k : Kind} {f : Fields} {next : ℕ} → Fine ar k f → next ≡ suc (shapeLength (shapeOf k)) → Filled ar (a + takes k f) n es → Filled ar a (next + n) (Record k f next ∷ es)
+
+pub filled-by : (ar : List ℕ) {n : ℕ} {es : List Entry} → Standing n es → (a : ℕ) → filledFrom es ar a ≡ true → Filled ar a n es
+unfolding filledFrom
+filled-by ar over-all a e = full (eqb-true a (length ar) e)
+filled-by ar (no-record n) a e = absurd (false≢true e)
+filled-by ar (and-then {es = es} {k = k} {f = f} next g z h) a e =
+    more (fine ar a k f (and-l (ownRule ar a k f) _ e) g) z (filled-by ar h (a + takes k f) (and-r (ownRule ar a k f) _ e))
+
+-- The lines
+
+unfoldable pub lineFor : List ℕ → Entry → Line
+lineFor ar Nothing = ending
+lineFor ar (Record k f next) = cond (isEnd k) ending (line (numberOf k) (wordFor ar k f))
+
+unfoldable pub linesFor : List ℕ → List Entry → List Line
+linesFor ar [] = []
+linesFor ar (e ∷ es) = lineFor ar e ∷ linesFor ar es
+
+pub render-lines : (ar : List ℕ) (es : List Entry) → linesOf ar es ≡ render (linesFor ar es)
+unfolding linesOf linesFor render lineOf lineFor wordFor
+render-lines ar [] = refl
+render-lines ar (Nothing ∷ es) = render-lines ar es
+render-lines ar (Record k f next ∷ es) = by (isEnd k) (render-lines ar es)
+  where
+    by : (t : Bool) → linesOf ar es ≡ render (linesFor ar es) → cond t [] (wordFor ar k f ++ (10 ∷ [])) ++ linesOf ar es ≡ render (cond t ending (line (numberOf k) (wordFor ar k f)) ∷ linesFor ar es)
+    by true e = e
+    by false e = append-assoc (wordFor ar k f) (10 ∷ []) (linesOf ar es) ∙ ap (λ (r : List ℕ). wordFor ar k f ++ 10 ∷ r) e
+
+pub lines-ascii : (ar : List ℕ) {a n : ℕ} {es : List Entry} → Filled ar a n es → all isAscii (linesOf ar es) ≡ true
+unfolding linesOf lineOf all wordFor isAscii
+lines-ascii ar (full e) = refl
+lines-ascii ar (more {es = es} {k = k} {f = f} h z g) = all-append isAscii (cond (isEnd k) [] (wordFor ar k f ++ (10 ∷ []))) (linesOf ar es) (by (isEnd k)) (lines-ascii ar g)
+  where
+    by : (t : Bool) → all isAscii (cond t [] (wordFor ar k f ++ (10 ∷ []))) ≡ true
+    by true = refl
+    by false = all-append isAscii (wordFor ar k f) (10 ∷ []) (token-ascii ar f k h) refl
+
+-- a kind is told by its number
+pub number-kind : (k : Kind) → kindOf (numberOf k) ≡ k
+unfolding kindOf
+number-kind NoKind = refl
+number-kind Block = refl
+number-kind FrameOpen = refl
+number-kind FrameClose = refl
+number-kind Tag = refl
+number-kind Loop = refl
+number-kind LoopTag = refl
+number-kind LoopEnd = refl
+number-kind Inapplicable = refl
+number-kind Unknown = refl
+number-kind Bare = refl
+number-kind SingleQuoted = refl
+number-kind DoubleQuoted = refl
+number-kind Multiline = refl
+number-kind Number = refl
+number-kind Uncertain = refl
+
+pub of-number : (k : Kind) (j : ℕ) → eqb (numberOf k) j ≡ true → k ≡ kindOf j
+of-number k j e = sym (number-kind k) ∙ ap kindOf (eqb-true (numberOf k) j e)
+
+value-line : (k : Kind) → isValueKind (numberOf k) ≡ true → isEnd k ≡ false
+unfolding isValueKind isEnd
+value-line NoKind e = absurd (false≢true e)
+value-line Block e = refl
+value-line FrameOpen e = refl
+value-line FrameClose e = refl
+value-line Tag e = refl
+value-line Loop e = refl
+value-line LoopTag e = refl
+value-line LoopEnd e = absurd (false≢true e)
+value-line Inapplicable e = refl
+value-line Unknown e = refl
+value-line Bare e = refl
+value-line SingleQuoted e = refl
+value-line DoubleQuoted e = refl
+value-line Multiline e = refl
+value-line Number e = refl
+value-line Uncertain e = refl
+
+-- where the store's walk stands, and where the machine's
+data Meets : Where → Spot → Type 0 where
+  meet-items : (e : Bool) → Meets (items e) (at-items e)
+  meet-names : (total n left : ℕ) → total ≡ n + suc left → Meets (names total (suc left)) (at-names n)
+  meet-none : (n : ℕ) → Meets (values (suc n) 0) (at-names (suc n))
+  meet-values : (total j : ℕ) → Meets (values total (suc j)) (at-values total (suc j))
+  meet-wants : Meets wants at-value
+
+-- the way that a test leads to
+follow-cond : {A : Type 0} (t : Bool) (x y : Stand) (go : Bool → Where → Bool) → (t ≡ true → follow x go ≡ true → A) → (t ≡ false → follow y go ≡ true → A) → follow (cond t x y) go ≡ true → A
+follow-cond true x y go p q e = p refl e
+follow-cond false x y go p q e = q refl e
+
+follow-falls : {A : Type 0} (go : Bool → Where → Bool) → follow falls go ≡ true → A
+unfolding follow
+follow-falls go e = absurd (false≢true e)
+
+-- one record, and what follows it
+module _ (ar : List ℕ) (es : List Entry) (then : (f : Bool) (w : Where) (x : Spot) → Meets w x → nestedFrom es f w ≡ true → Nested f x (linesFor ar es)) (k : Kind) (r : Fields) (next : ℕ) (h : Fine ar k r) where
+  onto : Bool → Where → Bool
+  onto f w = nestedFrom es f w
+
+  Here : Bool → Spot → Type 0
+  Here f x = Nested f x (lineFor ar (Record k r next) ∷ linesFor ar es)
+
+  want : (f : Bool) → follow (cond (isValueKind (numberOf k)) (stands f (items false)) falls) onto ≡ true → Here f at-value
+  unfolding follow onto Here lineFor
+  want f =
+      follow-cond (isValueKind (numberOf k)) _ _ onto
+      (λ t e. rw (value-line k t) (valued (numberOf k) (wordFor ar k r) (reads-value ar f r k t h) (then f (items false) (at-items false) (meet-items false) e)))
+      (λ t. follow-falls onto)
+
+  -- a name of a loop
+  name : (f : Bool) (total n left : ℕ) → total ≡ n + suc left → follow (atNames f total (suc left) (numberOf k)) onto ≡ true → Here f (at-names n)
+  unfolding follow onto Here lineFor atNames kindOf isEnd wordFor tokenText shapeOf isContent readableBy
+  name f total n left q =
+      follow-cond (eqb (numberOf k) 6) _ _ onto
+      (λ t e. let z : k ≡ LoopTag = of-number k 6 t in rw z (named n (95 ∷ contentBytes ar LoopTag r) (reads-tag f (contentBytes ar LoopTag r) (by-kind ar r LoopTag refl (rw z at h))) (by left q e)))
+      (λ t. follow-falls onto)
+    where
+      by : (left : ℕ) → total ≡ n + suc left → follow (afterName f total left) onto ≡ true → Nested f (at-names (suc n)) (linesFor ar es)
+      by zero q e = unfold afterName in let z : total ≡ suc n = omega arith in then f (values total 0) (at-names (suc n)) (rw z (meet-none n)) e
+      by (suc l) q e = unfold afterName in then f (names total (suc l)) (at-names (suc n)) (meet-names total (suc n) l (omega arith)) e
+
+  -- the first value of a loop, or its end
+  first : (f : Bool) (n : ℕ) → follow (atValues f (suc n) 0 (numberOf k)) onto ≡ true → Here f (at-names (suc n))
+  unfolding follow onto Here lineFor atValues kindOf isEnd
+  first f n =
+      follow-cond (eqb (numberOf k) 7) _ _ onto
+      (λ t. let z : k ≡ LoopEnd = of-number k 7 t in follow-cond (eqb (0 % suc n) 0) _ _ onto (λ u e. rw z (no-rows n (then f (items true) (at-items true) (meet-items true) e))) (λ u. follow-falls onto))
+      (λ t. follow-cond (isValueKind (numberOf k)) _ _ onto
+      (λ u e. rw (value-line k u) (first-value n (numberOf k) (wordFor ar k r) (reads-value ar f r k u h) (then f (values (suc n) 1) (at-values (suc n) 1) (meet-values (suc n) 0) e)))
+      (λ u. follow-falls onto))
+
+  -- a further value, or the end
+  further : (f : Bool) (total j : ℕ) → follow (atValues f total (suc j) (numberOf k)) onto ≡ true → Here f (at-values total (suc j))
+  unfolding follow onto Here lineFor atValues kindOf isEnd
+  further f total j =
+      follow-cond (eqb (numberOf k) 7) _ _ onto
+      (λ t. let z : k ≡ LoopEnd = of-number k 7 t in follow-cond (eqb (suc j % total) 0) _ _ onto
+      (λ u e. rw z (rows total (suc j) (eqb-true (suc j % total) 0 u) (then f (items false) (at-items false) (meet-items false) (rw (ne-eqb (suc j) 0 (λ y. omega arith)) at e))))
+      (λ u. follow-falls onto))
+      (λ t. follow-cond (isValueKind (numberOf k)) _ _ onto
+      (λ u e. rw (value-line k u) (next-value total (suc j) (numberOf k) (wordFor ar k r) (reads-value ar f r k u h) (then f (values total (suc (suc j))) (at-values total (suc (suc j))) (meet-values total (suc j)) e)))
+      (λ u. follow-falls onto))
+
+  -- an item, a frame or a frame's end
+  item : (f e : Bool) → follow (atItems f e (numberOf k) (r .number)) onto ≡ true → Here f (at-items e)
+  unfolding follow onto Here lineFor atItems kindOf isEnd wordFor tokenText shapeOf isContent readableBy
+  item f e =
+      follow-cond (eqb (numberOf k) 4) _ _ onto (λ t. let z : k ≡ Tag = of-number k 4 t in by-tag z e)
+      (λ _. follow-cond (eqb (numberOf k) 5) _ _ onto (λ t. let z : k ≡ Loop = of-number k 5 t in by-loop z (r .number))
+      (λ _. follow-cond (eqb (numberOf k) 2) _ _ onto (λ t. let z : k ≡ FrameOpen = of-number k 2 t in by-open z f)
+      (λ _. follow-cond (eqb (numberOf k) 3) _ _ onto (λ t. let z : k ≡ FrameClose = of-number k 3 t in by-shut z f) (λ _. follow-falls onto))))
+    where
+      by-tag : k ≡ Tag → (e : Bool) → follow (cond e falls (stands f wants)) onto ≡ true → Here f (at-items e)
+      by-tag z true q = follow-falls onto q
+      by-tag z false q = rw z (tagged (95 ∷ contentBytes ar Tag r) (reads-tag f (contentBytes ar Tag r) (by-kind ar r Tag refl (rw z at h))) (then f wants at-value meet-wants q))
+
+      by-loop : k ≡ Loop → (n : ℕ) → follow (opensLoop f n) onto ≡ true → Here f (at-items e)
+      by-loop z zero q = unfold opensLoop in follow-falls onto q
+      by-loop z (suc n) q = unfold opensLoop in rw z (looped e _ (reads-loop f) (then f (names (suc n) (suc n)) (at-names 0) (meet-names (suc n) 0 n (omega arith)) q))
+
+      by-open : k ≡ FrameOpen → (f : Bool) → follow (cond f falls (stands true (items false))) onto ≡ true → Here f (at-items e)
+      by-open z true q = follow-falls onto q
+      by-open z false q = rw z (opened e _ (reads-open (contentBytes ar FrameOpen r) (by-kind ar r FrameOpen refl (rw z at h))) (then true (items false) (at-items false) (meet-items false) q))
+
+      by-shut : k ≡ FrameClose → (f : Bool) → follow (cond f (stands false (items false)) falls) onto ≡ true → Here f (at-items e)
+      by-shut z true q = rw z (shut e _ reads-shut (then false (items false) (at-items false) (meet-items false) q))
+      by-shut z false q = follow-falls onto q
+
+nested-from : (ar : List ℕ) {a n : ℕ} {es : List Entry} → Filled ar a n es → (f : Bool) (w : Where) (x : Spot) → Meets w x → nestedFrom es f w ≡ true → Nested f x (linesFor ar es)
+unfolding nestedFrom linesFor standing ended Here onto
+nested-from ar (full e) true w x (meet-items i) q = absurd (false≢true q)
+nested-from ar (full e) false w x (meet-items i) q = over i
+nested-from ar (full e) f w x (meet-names total n left z) q = absurd (false≢true q)
+nested-from ar (full e) f w x (meet-none n) q = absurd (false≢true q)
+nested-from ar (full e) f w x (meet-values total j) q = absurd (false≢true q)
+nested-from ar (full e) f w x meet-wants q = absurd (false≢true q)
+nested-from ar (more {es = es} {k = k} {f = r} {next = next} h z g) f w x (meet-items i) q = item ar es (λ f w x m q. nested-from ar g f w x m q) k r next h f i q
+nested-from ar (more {es = es} {k = k} {f = r} {next = next} h z g) f w x (meet-names total n left y) q = name ar es (λ f w x m q. nested-from ar g f w x m q) k r next h f total n left y q
+nested-from ar (more {es = es} {k = k} {f = r} {next = next} h z g) f w x (meet-none n) q = first ar es (λ f w x m q. nested-from ar g f w x m q) k r next h f n q
+nested-from ar (more {es = es} {k = k} {f = r} {next = next} h z g) f w x (meet-values total j) q = further ar es (λ f w x m q. nested-from ar g f w x m q) k r next h f total j q
+nested-from ar (more {es = es} {k = k} {f = r} {next = next} h z g) f w x meet-wants q = want ar es (λ f w x m q. nested-from ar g f w x m q) k r next h f q
+
+-- NESTED AS A STORE, nested as the machine reads
+pub nested-lines : (ar : List ℕ) {a n : ℕ} {es : List Entry} → Filled ar a n es → nestedFrom es false (items false) ≡ true → Nested false (at-items false) (linesFor ar es)
+nested-lines ar h q = nested-from ar h false (items false) (at-items false) (meet-items false) q

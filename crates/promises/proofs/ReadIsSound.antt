@@ -1,0 +1,109 @@
+-- READING IS SOUND (document 01). Proved: of a text that is read, the store and the area that its records are written as are sound together (records-sound). So what
+-- Read writes on success, the first bytes of the lent store and area by the lengths that it answers, is a sound store with its area (read-is-sound). Assumes nothing.
+use Prim.Native.Nat.{ℕ, suc, _+_, _-_, _≤_, _<_}
+use mathlib.Core.Bool.{true≢false, Bool, true, false, cond, _&&_}
+use mathlib.Core.Path.{_≡_, refl, sym, ap, _∙_}
+use mathlib.Core.List.{List, [], _∷_, _++_, append-assoc, append-nil}
+use native.Mathlib.Omega.{arith}
+use borrow.Author.Tests.{eq-eqb, le-leb, ltb-false}
+use lib.Dec.{eqb, leb, ltb}
+use lib.ListN.{length, take, drop, length-append}
+use lib.Seq.{drop-at, take-at}
+use Rattle.text.specs.Bytes.{isAscii}
+use Rattle.text.specs.Runs.{span}
+use Rattle.text.proofs.Bools.{and-l, and-r}
+use Rattle.text.specs.Reports.{success, refusedAt, refusedBare, noRoom}
+use Rattle.records.specs.declared.Kind.{Kind}
+use Rattle.records.specs.declared.Shape.{Shape}
+use Rattle.records.specs.declared.Shape.the-variants.{Empty, Place, Content as ContentShape, Count, Parts, PartsUncertain}
+use Rattle.records.specs.Kinds.{kindOf, shapeOf, marksOf, isContent, hasContent}
+use Rattle.records.specs.Entries.{stored}
+use Rattle.items.specs.Machine.{Rec, Answer, refused, done}
+use Rattle.items.specs.Reading.{outline}
+use Rattle.items.specs.Sizes.{contentSize, storeSize, areaSize}
+use Rattle.writing.specs.Writing.{tokenOf, contentOf, decimalOf, tagsOf, storeOf, areaOf}
+use Rattle.reading.specs.Services.{refusal, readRoom, readBy, readAnswer}
+use Rattle.stores.specs.Walk.{entries}
+use Rattle.stores.specs.Nesting.{nested}
+use Rattle.stores.specs.Contents.{readable, exponentKept, partsKept, contentLength, contentKept, ownRule, takes, filledFrom, filled}
+use Rattle.stores.specs.Soundness.{sound}
+use Rattle.promises.specs.Results.{storeBytes, areaBytes}
+use Rattle.promises.proofs.Taken.{Read, Outline, outline-taken}
+use Rattle.promises.proofs.Sources.{Each, none, also, sources, Source, Facts, facts}
+use Rattle.promises.proofs.Written.{fieldsIn, entryOf, written, Only, only-kind, bounded, written-back}
+use Rattle.promises.proofs.Told.{content-length}
+use Rattle.promises.proofs.Reading.{Reads, reads}
+use Rattle.promises.proofs.Refusals.{Done, read-done}
+use Rattle.promises.proofs.Walks.{nested-written}
+use Rattle.promises.proofs.Contents.{Content, content-read, parts-kept}
+
+-- One record: its own rule, its content starting at area offset a
+
+module _ (s : List ℕ) (fits : length s ≤ 16777216) (ascii : length s ≤ span isAscii s) (r : Rec) (h : Source s r) (before rest : List ℕ) (a n : ℕ) (at : length before ≡ a) where
+  area : List ℕ
+  area = before ++ (contentOf s r ++ rest)
+
+  content-kept : shapeOf (kindOf (r .kind)) ≡ ContentShape → contentKept area a (kindOf (r .kind)) (fieldsIn ContentShape s a n r) ≡ true
+  unfolding contentKept contentLength fieldsIn tokenOf area isContent
+  content-kept e =
+      let k = kindOf (r .kind) in
+      let c : Content s r = content-read s r ascii h (rw e) in
+      let l : length (contentOf s r) ≡ r .size - marksOf k = content-length s r (facts h) ∙ c .size in
+      let room : r .size - marksOf k ≤ length (before ++ (contentOf s r ++ rest)) - a = simp length-append (omega arith) in
+      let part : take (r .size - marksOf k) (drop a (before ++ (contentOf s r ++ rest))) ≡ contentOf s r = rw (drop-at before (contentOf s r ++ rest) a at) (take-at (contentOf s r) rest (r .size - marksOf k) l) in
+      rw (le-leb (marksOf k) (r .size) (c .marked), eq-eqb a a refl, le-leb (r .size - marksOf k) _ room, part) (c .readable)
+
+  number-kept : 14 ≤ r .kind → partsKept (stored (decimalOf s r) 0) && partsKept (stored (decimalOf s r) (decimalOf s r .uncertainty)) ≡ true
+  number-kept l =
+      let d = decimalOf s r in
+      let b = bounded s fits r (facts h) l in
+      rw (parts-kept d 0 b (omega arith)) (parts-kept d (d .uncertainty) b (b .uncertainty))
+
+  own-rule : ownRule area a (kindOf (r .kind)) (fieldsIn (shapeOf (kindOf (r .kind))) s a n r) ≡ true
+  unfolding ownRule isContent fieldsIn partsKept exponentKept Only
+  own-rule = by (shapeOf (kindOf (r .kind))) refl (only-kind s r (facts h))
+    where
+      by : (x : Shape) → shapeOf (kindOf (r .kind)) ≡ x → Only x (r .kind) → cond (isContent x) (contentKept area a (kindOf (r .kind)) (fieldsIn x s a n r)) (partsKept (fieldsIn x s a n r .parts)) ≡ true
+      by Empty e o = refl
+      by Place e o = refl
+      by ContentShape e o = content-kept e
+      by Count e o = refl
+      by Parts e o = and-l (partsKept (stored (decimalOf s r) 0)) _ (number-kept (omega arith))
+      by PartsUncertain e o = and-r (partsKept (stored (decimalOf s r) 0)) _ (number-kept (omega arith))
+
+  takes-same : takes (kindOf (r .kind)) (fieldsIn (shapeOf (kindOf (r .kind))) s a n r) ≡ contentSize (r .kind) (r .size)
+  unfolding takes contentSize hasContent isContent contentLength fieldsIn tokenOf
+  takes-same = by (shapeOf (kindOf (r .kind)))
+    where
+      by : (x : Shape) → cond (isContent x) (contentLength (kindOf (r .kind)) (fieldsIn x s a n r)) 0 ≡ cond (isContent x) (r .size - marksOf (kindOf (r .kind))) 0
+      by Empty = refl
+      by Place = refl
+      by ContentShape = refl
+      by Count = refl
+      by Parts = refl
+      by PartsUncertain = refl
+
+-- All records
+
+filled-written : (s : List ℕ) → length s ≤ 16777216 → length s ≤ span isAscii s → {rs : List Rec} → Each (Source s) rs → (before : List ℕ) (a : ℕ) → length before ≡ a → filledFrom (written s a rs) (before ++ areaOf s rs) a ≡ true
+unfolding filledFrom written areaOf entryOf area
+filled-written s fits ascii none before a e = eq-eqb a (length (before ++ [])) (sym (ap length (append-nil before) ∙ e))
+filled-written s fits ascii (also {r = r} {rs = rs} p h) before a e =
+    let b = a + contentSize (r .kind) (r .size) in
+    let l : length (before ++ contentOf s r) ≡ b = simp length-append (omega (arith, content-length s r (facts p))) in
+    rw (own-rule s fits ascii r p before (areaOf s rs) a (tagsOf rs) e, takes-same s fits ascii r p before (areaOf s rs) a (tagsOf rs) e, ← append-assoc before (contentOf s r) (areaOf s rs))
+    (filled-written s fits ascii h (before ++ contentOf s r) b l)
+
+-- THE RECORDS OF A TEXT THAT IS READ, as store and area, are sound
+pub records-sound : (s : List ℕ) (rs : List Rec) → outline s ≡ done rs → sound (storeOf true s 0 rs) (areaOf s rs) ≡ true
+unfolding sound filled
+records-sound s rs e =
+    let h = outline-taken s rs e in
+    rw (written-back s rs h, nested-written s rs h) (filled-written s (h .fits) (h .ascii) (sources (h .read .taken)) [] 0 refl)
+
+-- WHAT READ WRITES IS SOUND
+pub read-is-sound : (s store area : List ℕ) → readAnswer s (length store) (length area) .number ≡ 0 → sound (storeBytes s store area) (areaBytes s store area) ≡ true
+read-is-sound s store area e =
+    let d = read-done s (length store) (length area) e in
+    let r = reads s store area (d .records) (d .read) (d .store) (d .area) in
+    rw (r .stored, r .contents) (records-sound s (d .records) (d .read))

@@ -1,0 +1,166 @@
+-- Proved: no refusal of a text has the number 0 (outline-refuses), so Read answers 0 just where the text has records and they have room (read-done). Assumes nothing.
+use Prim.Native.Nat.{ℕ, zero, suc, _%_, _≤_}
+use mathlib.Core.Bool.{Bool, true, false, cond}
+use mathlib.Core.Path.{_≡_, refl, sym, ap, _∙_}
+use mathlib.Core.List.{List, [], _∷_, _++_}
+use mathlib.Core.Option.{Option, none, some}
+use native.Mathlib.Omega.{arith}
+use borrow.Author.Tests.{ltb-false}
+use lib.Dec.{ltb, eqb}
+use lib.ListN.{length}
+use Rattle.text.specs.Bytes.{isAscii}
+use Rattle.text.specs.Runs.{span}
+use Rattle.text.specs.Places.{placeAt}
+use Rattle.text.specs.Reports.{success, refusedAt, refusedBare, noRoom}
+use Rattle.values.specs.Values.{Class, block, loop, save, tag, value, overLimit, nothing, atEnd, reservedWord, noStart, openQuote, openField}
+use Rattle.items.specs.Tokens.{Tok, tokens}
+use Rattle.items.specs.Machine.{Rec, Answer, refused, done, State, start, items, names, values, wants, Config, config, Outcome, go, stop, rec, loopEnd, closes, fails, atItem, loopEnds, atValue, noMoreNames, atName, atWant, atStart, move, follow, run}
+use Rattle.items.specs.Reading.{limit, decided, outline}
+use Rattle.items.specs.Sizes.{storeSize, areaSize}
+use Rattle.reading.specs.Services.{refusal, readRoom, readBy, readAnswer}
+use Rattle.promises.proofs.Lexing.{never}
+
+Numbered : Answer → Type 0
+Numbered (refused n o d) = 1 ≤ n
+Numbered (done rs) = Unit {0}
+
+Ok : Outcome → Type 0
+Ok (go c) = Unit {0}
+Ok (stop a) = Numbered a
+
+module _ (t : Tok) where
+  closes-ok : (f : ℕ) (out : List Rec) (c : Class) → Ok (closes f out c t)
+  unfolding Ok Numbered closes
+  closes-ok f out save = tt
+  closes-ok f out block = omega arith
+  closes-ok f out loop = omega arith
+  closes-ok f out tag = omega arith
+  closes-ok f out (value k) = omega arith
+  closes-ok f out overLimit = omega arith
+  closes-ok f out (nothing w) = omega arith
+
+  fails-ok : (n o d : ℕ) (f : Option ℕ) (out : List Rec) → 1 ≤ n → Ok (fails (refused n o d) f out t)
+  unfolding Ok Numbered fails
+  fails-ok n o d none out h = h
+  fails-ok n o d (some f) out h = closes-ok f out (t .class)
+
+  item-ok : (f : Option ℕ) (out : List Rec) (c : Class) → Ok (atItem f out c t)
+  unfolding Ok Numbered atItem
+  item-ok f out loop = tt
+  item-ok f out tag = tt
+  item-ok none out save = tt
+  item-ok (some f) out save = tt
+  item-ok none out (nothing atEnd) = tt
+  item-ok (some f) out (nothing atEnd) = omega arith
+  item-ok f out (nothing reservedWord) = fails-ok 7 (t .at) 0 f out (omega arith)
+  item-ok f out (nothing noStart) = fails-ok 7 (t .at) 0 f out (omega arith)
+  item-ok f out (nothing openQuote) = fails-ok 7 (t .at) 0 f out (omega arith)
+  item-ok f out (nothing openField) = fails-ok 7 (t .at) 0 f out (omega arith)
+  item-ok f out block = fails-ok 7 (t .at) 0 f out (omega arith)
+  item-ok f out (value k) = fails-ok 7 (t .at) 0 f out (omega arith)
+  item-ok f out overLimit = fails-ok 7 (t .at) 0 f out (omega arith)
+
+  ends-ok : (a n k : ℕ) (f : Option ℕ) (out held : List Rec) → Ok (loopEnds a n k f out held t)
+  unfolding loopEnds
+  ends-ok a n k f out held = by (eqb (k % n) 0)
+    where
+      by : (b : Bool) → Ok (cond b (atItem f (out ++ held ++ (loopEnd ∷ [])) (t .class) t) (fails (refused 5 a (k % n)) f out t))
+      by true = item-ok f (out ++ held ++ (loopEnd ∷ [])) (t .class)
+      by false = fails-ok 5 a (k % n) f out (omega arith)
+
+  value-ok : (a n k : ℕ) (f : Option ℕ) (out held : List Rec) (c : Class) → Ok (atValue a n k f out held c t)
+  unfolding Ok Numbered atValue
+  value-ok a n k f out held (value kind) = tt
+  value-ok a n k f out held overLimit = omega arith
+  value-ok a n k f out held block = ends-ok a n k f out held
+  value-ok a n k f out held loop = ends-ok a n k f out held
+  value-ok a n k f out held save = ends-ok a n k f out held
+  value-ok a n k f out held tag = ends-ok a n k f out held
+  value-ok a n k f out held (nothing w) = ends-ok a n k f out held
+
+  more-ok : (a n : ℕ) (f : Option ℕ) (out held : List Rec) → Ok (noMoreNames a n f out held t)
+  unfolding Ok Numbered noMoreNames
+  more-ok a zero f out held = omega arith
+  more-ok a (suc n) f out held = value-ok a (suc n) 0 f out held (t .class)
+
+  name-ok : (a n : ℕ) (f : Option ℕ) (out held : List Rec) (c : Class) → Ok (atName a n f out held c t)
+  unfolding Ok atName
+  name-ok a n f out held tag = tt
+  name-ok a n f out held block = more-ok a n f out held
+  name-ok a n f out held loop = more-ok a n f out held
+  name-ok a n f out held save = more-ok a n f out held
+  name-ok a n f out held (value k) = more-ok a n f out held
+  name-ok a n f out held overLimit = more-ok a n f out held
+  name-ok a n f out held (nothing w) = more-ok a n f out held
+
+  want-ok : (a : ℕ) (f : Option ℕ) (out held : List Rec) (c : Class) → Ok (atWant a f out held c t)
+  unfolding Ok Numbered atWant
+  want-ok a f out held (value kind) = tt
+  want-ok a f out held overLimit = omega arith
+  want-ok a f out held block = fails-ok 6 a 0 f out (omega arith)
+  want-ok a f out held loop = fails-ok 6 a 0 f out (omega arith)
+  want-ok a f out held save = fails-ok 6 a 0 f out (omega arith)
+  want-ok a f out held tag = fails-ok 6 a 0 f out (omega arith)
+  want-ok a f out held (nothing w) = fails-ok 6 a 0 f out (omega arith)
+
+  start-ok : (c : Class) → Ok (atStart c t)
+  unfolding Ok Numbered atStart
+  start-ok block = tt
+  start-ok loop = omega arith
+  start-ok save = omega arith
+  start-ok tag = omega arith
+  start-ok (value k) = omega arith
+  start-ok overLimit = omega arith
+  start-ok (nothing w) = omega arith
+
+  move-ok : (s : State) (f : Option ℕ) (out held : List Rec) → Ok (move s f out held t)
+  unfolding move
+  move-ok start f out held = start-ok (t .class)
+  move-ok items f out held = item-ok f out (t .class)
+  move-ok (names a n) f out held = name-ok a n f out held (t .class)
+  move-ok (values a n k) f out held = value-ok a n k f out held (t .class)
+  move-ok (wants a) f out held = want-ok a f out held (t .class)
+
+run-ok : (ts : List Tok) (c : Config) → Numbered (run ts c)
+unfolding run Numbered
+run-ok [] c = omega arith
+run-ok (t ∷ ts) c = by (move (c .state) (c .frame) (c .out) (c .held) t) (move-ok t (c .state) (c .frame) (c .out) (c .held)) (run-ok ts)
+  where
+    by : (x : Outcome) → Ok x → ((c : Config) → Numbered (run ts c)) → Numbered (follow x (λ c. run ts c))
+    by (go c) h f = unfold follow in f c
+    by (stop a) h f = unfold follow Ok in h
+
+-- A REFUSAL HAS A NUMBER
+outline-refuses : (s : List ℕ) → Numbered (outline s)
+unfolding outline decided Numbered
+outline-refuses s = by (ltb limit (length s)) (ltb (span isAscii s) (length s))
+  where
+    by : (t u : Bool) → Numbered (cond t (refused 1 0 0) (cond u (refused 2 (span isAscii s) 0) (decided s)))
+    by true u = omega arith
+    by false true = omega arith
+    by false false = run-ok (tokens s) (config start none [] [])
+
+-- Read is done: the text's records, and room for them
+pub record Done (s : List ℕ) (m k : ℕ) : Type 0 where
+  pub records : List Rec
+  pub read : outline s ≡ done records
+  pub store : storeSize records ≤ m
+  pub area : areaSize records ≤ k
+
+pub read-done : (s : List ℕ) (m k : ℕ) → readAnswer s m k .number ≡ 0 → Done s m k
+unfolding readAnswer
+read-done s m k e = by (outline s) refl (outline-refuses s) e
+  where
+    room : (rs : List Rec) → outline s ≡ done rs → (x : Bool) → ltb m (storeSize rs) ≡ x → (y : Bool) → ltb k (areaSize rs) ≡ y
+        → cond x (noRoom 10 (storeSize rs) (areaSize rs)) (cond y (noRoom 11 (storeSize rs) (areaSize rs)) (success (storeSize rs) (areaSize rs))) .number ≡ 0 → Done s m k
+    room rs q true p y r e = absurd (unfold noRoom in omega arith)
+    room rs q false p true r e = absurd (unfold noRoom in omega arith)
+    room rs q false p false r e = record { records = rs; read = q; store = ltb-false m (storeSize rs) p; area = ltb-false k (areaSize rs) r }
+
+    number : (n o d : ℕ) (x : Bool) → 1 ≤ n → cond x (refusedBare 1) (refusedAt n (placeAt s o) d) .number ≡ 0 → ⊥
+    number n o d true h e = unfold refusedBare in omega arith
+    number n o d false h e = unfold refusedAt in omega arith
+
+    by : (x : Answer) → outline s ≡ x → Numbered x → readBy s m k x .number ≡ 0 → Done s m k
+    by (refused n o d) q h e = absurd (number n o d (eqb n 1) (unfold Numbered in h) (unfold readBy refusal in e))
+    by (done rs) q h e = room rs q (ltb m (storeSize rs)) refl (ltb k (areaSize rs)) refl (unfold readBy readRoom in e)
