@@ -37,7 +37,7 @@ use Rattle.items.proofs.Room.{sizes-append, sizes-one, added-none, upto
 unfoldable pub closing : ℕ → List Rec → List Tok → Answer
 closing a out ts = failedRun (refused 7 0 0) (some a) out ts
 
-failed-closing : (x : Answer) (a : ℕ) (out : List Rec) (ts : List Tok) → failedRun x (some a) out ts ≡ closing a out ts
+pub failed-closing : (x : Answer) (a : ℕ) (out : List Rec) (ts : List Tok) → failedRun x (some a) out ts ≡ closing a out ts
 unfolding closing failedRun fails
 failed-closing x a out [] = refl
 failed-closing x a out (t ∷ ts) = refl
@@ -55,13 +55,13 @@ PassedInside s a o (Dropped p) = DroppedAt s a o p
 PassedInside s a o (RefusedInside d) = (out : List Rec) → told d ≡ tells (left (some a) s o out)
 
 -- the machine at an item
-frame-item : (s : List ℕ) (a o : ℕ) (out : List Rec) → gap (drop o s) ≡ 0 → left (some a) s o out ≡ itemRun (some a) out (item (tokensAt inFrame s o))
+pub frame-item : (s : List ℕ) (a o : ℕ) (out : List Rec) → gap (drop o s) ≡ 0 → left (some a) s o out ≡ itemRun (some a) out (item (tokensAt inFrame s o))
 unfolding left modeOf
 frame-item s a o out g =
     let f = first s o g inFrame in
     rw (f .1) (item-in-frame (tok (lex inFrame (drop o s)) o) (f .0) a out (rw (f .1) at (tokens-ends inFrame s o)))
 
-block-item : (s : List ℕ) (o : ℕ) (out : List Rec) → gap (drop o s) ≡ 0 → isPlain (lexIn inBlock (drop o s) .class) ≡ true → left none s o out ≡ itemRun none out (item (tokensAt inBlock s o))
+pub block-item : (s : List ℕ) (o : ℕ) (out : List Rec) → gap (drop o s) ≡ 0 → isPlain (lexIn inBlock (drop o s) .class) ≡ true → left none s o out ≡ itemRun none out (item (tokensAt inBlock s o))
 unfolding left modeOf lex tok
 block-item s o out g e =
     let f = first s o g inBlock in
@@ -90,7 +90,7 @@ dropped-at s a o x p r =
       bare = p .bare;
     }
 
-left-from : (f : Option ℕ) (s : List ℕ) (p : ℕ) (us : List Tok) (out : List Rec) → us ≡ tokensAt (modeOf f) s p → run us (config items f out []) ≡ left f s p out
+pub left-from : (f : Option ℕ) (s : List ℕ) (p : ℕ) (us : List Tok) (out : List Rec) → us ≡ tokensAt (modeOf f) s p → run us (config items f out []) ≡ left f s p out
 unfolding left
 left-from f s p us out e = ap (λ (x : List Tok). run x (config items f out [])) e
 
@@ -112,7 +112,7 @@ unfolding itemAt
 item-inside s a o h g = inside a (item-alike (both s o h)) (λ out. frame-item s a o out g)
 
 -- in the block a failed item is the answer
-failed-stops : {s : List ℕ} {o : ℕ} {ts us : List Tok} → Both s o ts us → (x : Answer) (out : List Rec) → failedRun x none out ts ≡ x
+pub failed-stops : {s : List ℕ} {o : ℕ} {ts us : List Tok} → Both s o ts us → (x : Answer) (out : List Rec) → failedRun x none out ts ≡ x
 unfolding failedRun fails follow
 failed-stops (both-last h w e) x out = refl
 failed-stops (both-save h a e f) x out = refl
@@ -131,7 +131,7 @@ stepped (alike-absent e b) r = λ out. rw (r out, failed-stops b)
 stepped alike-unnamed r = λ out. rw (r out)
 stepped alike-over r = λ out. rw (r out)
 
-plain : (u : List ℕ) → 0 < length u → starts keySave u ≡ false → isPlain (lexIn inBlock u .class) ≡ true
+pub plain : (u : List ℕ) → 0 < length u → starts keySave u ≡ false → isPlain (lexIn inBlock u .class) ≡ true
 plain [] h e = absurd (omega arith)
 plain (b ∷ s) h e = lex-plain inBlock b s e
 
@@ -155,11 +155,11 @@ passed-then s f g h o p q z y a b =
     }
 
 -- a frame opens
-open-reads : (s : List ℕ) (o w : ℕ) (out : List Rec) → Met inBlock s o (lexed save w) → left none s o out ≡ left (some o) s (o + w) (out ++ (rec 2 (tok (lexed save w) o) ∷ []))
+pub open-reads : (s : List ℕ) (o w : ℕ) (out : List Rec) → Met inBlock s o (lexed save w) → left none s o out ≡ left (some o) s (o + w) (out ++ (rec 2 (tok (lexed save w) o) ∷ []))
 unfolding left modeOf run move config atItem follow lexed tok after
 open-reads s o w out m = rw (m .next)
 
-left-gap : (f : Option ℕ) (s : List ℕ) (o : ℕ) (out : List Rec) → left f s (gapEnd s o) out ≡ left f s o out
+pub left-gap : (f : Option ℕ) (s : List ℕ) (o : ℕ) (out : List Rec) → left f s (gapEnd s o) out ≡ left f s o out
 unfolding left
 left-gap f s o out = rw (tokens-gap (modeOf f) s o)
 
@@ -219,14 +219,14 @@ no-save : (u : List ℕ) → starts keySave u ≡ false → isSave (lexIn inFram
 no-save [] e = unfold lexIn lexed isSave in refl
 no-save (b ∷ s) e = plain-save (lexIn inFrame (b ∷ s) .class) (lex-plain inFrame b s e)
 
-open-answer : (s : List ℕ) (a p : ℕ) (out : List Rec) → gap (drop p s) ≡ 0 → startsAt keySave s p ≡ false → closing a out (tokensAt inFrame s p) ≡ refused 4 a 0
+pub open-answer : (s : List ℕ) (a p : ℕ) (out : List Rec) → gap (drop p s) ≡ 0 → startsAt keySave s p ≡ false → closing a out (tokensAt inFrame s p) ≡ refused 4 a 0
 unfolding closing failedRun fails follow startsAt tok lex
 open-answer s a p out g e =
     let x = lexIn inFrame (drop p s) in
     let f = first s p g inFrame in
     rw (f .1, no-close (x .class) a out (tok x p) (no-save (drop p s) e))
 
-close-answer : (s : List ℕ) (a p : ℕ) (out : List Rec) → Met inFrame s p (lexed save 5) → closing a out (tokensAt inFrame s p) ≡ left none s (p + 5) (out ++ (rec 3 (tok (lexed save 5) p) ∷ []))
+pub close-answer : (s : List ℕ) (a p : ℕ) (out : List Rec) → Met inFrame s p (lexed save 5) → closing a out (tokensAt inFrame s p) ≡ left none s (p + 5) (out ++ (rec 3 (tok (lexed save 5) p) ∷ []))
 unfolding closing failedRun fails closes follow left modeOf lexed tok after
 close-answer s a p out m = rw (m .next)
 
@@ -269,7 +269,7 @@ pub record Begun (s : List ℕ) (o p : ℕ) (z : Sizes) : Type 0 where
   pub bare : gap (drop p s) ≡ 0
   pub fits : Upto p z
 
-begin-reads : (s : List ℕ) (o w : ℕ) → Met before s o (lexed block w) → blockAt s o ≡ left none s (o + w) (rec 1 (tok (lexed block w) o) ∷ [])
+pub begin-reads : (s : List ℕ) (o w : ℕ) → Met before s o (lexed block w) → blockAt s o ≡ left none s (o + w) (rec 1 (tok (lexed block w) o) ∷ [])
 unfolding blockAt left modeOf run move config atStart follow lexed tok after
 begin-reads s o w m = rw (m .next)
 
@@ -303,7 +303,7 @@ block-goes-on s o p q z y a b =
     }
 
 -- at the text's end all records are kept
-end-answer : (s : List ℕ) (p : ℕ) (out : List Rec) → length s ≤ p → left none s p out ≡ done out
+pub end-answer : (s : List ℕ) (p : ℕ) (out : List Rec) → length s ≤ p → left none s p out ≡ done out
 unfolding left modeOf tokensAt tokensFrom run move config lex lexIn lexed tok atItem follow
 end-answer s p out h = rw (drop-of-length-le s h)
 

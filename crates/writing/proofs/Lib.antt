@@ -10,3 +10,6 @@ pub mod Values
 pub mod SoFar
 pub mod Lists
 pub mod Items
+pub mod Prefix
+pub mod Rest
+pub mod Frames

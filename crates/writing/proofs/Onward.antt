@@ -53,9 +53,10 @@ module _ (full : Bool) (s : List ℕ) where
       by true h = length-put a (areaOf s xs) l (omega (arith, h refl))
       by false h = ap length (put-none a l)
 
-  -- records that are written, before others that do not start with a loop's tag
-  pub wrote-onward : (xs ys : List Rec) (o : ℕ) (d e : Desk) → tagsOf ys ≡ 0 → Room full (xs ++ ys) d → Wrote full s xs o d e → Onward full s (xs ++ ys) d ys e
-  wrote-onward xs ys o d e t r w =
+  -- records that are written, before others: their bytes are those of both, one after the other
+  pub wrote-before : (xs ys : List Rec) (o : ℕ) (d e : Desk) → storeOf full s (d .cursor .area) (xs ++ ys) ≡ storeOf full s (d .cursor .area) xs ++ storeOf full s (d .cursor .area + areaSize xs) ys
+      → Room full (xs ++ ys) d → Wrote full s xs o d e → Onward full s (xs ++ ys) d ys e
+  wrote-before xs ys o d e t r w =
       let m = store-length-append full xs ys in
       let n = area-size-append xs ys in
       record {
@@ -64,9 +65,13 @@ module _ (full : Bool) (s : List ℕ) where
         filled = λ h. rw (area-append, length-append, w .filled, h, n) refl;
         store-length = rw (w .store) (length-put (d .cursor .at) _ (d .store) (omega (arith, r .store, store-length full s (d .cursor .area) xs, m)));
         area-length = rw (w .area) (area-kept (d .cursor .area) xs (d .area) (w .filled) (λ f. omega (arith, r .area f, n)));
-        store = rw (w .store, w .at, w .behind, store-append full s (d .cursor .area) xs ys t, ← store-length full s (d .cursor .area) xs) (put-more (d .cursor .at) (storeOf full s (d .cursor .area) xs) (storeOf full s (d .cursor .area + areaSize xs) ys) (d .store) (omega (arith, r .store)));
+        store = rw (w .store, w .at, w .behind, t, ← store-length full s (d .cursor .area) xs) (put-more (d .cursor .at) (storeOf full s (d .cursor .area) xs) (storeOf full s (d .cursor .area + areaSize xs) ys) (d .store) (omega (arith, r .store)));
         area = rw (w .area, w .behind) (area-then (d .cursor .area) xs ys (d .area) (w .filled) (λ f. omega (arith, r .area f)));
       }
+
+  -- so where the others do not start with a loop's tag
+  pub wrote-onward : (xs ys : List Rec) (o : ℕ) (d e : Desk) → tagsOf ys ≡ 0 → Room full (xs ++ ys) d → Wrote full s xs o d e → Onward full s (xs ++ ys) d ys e
+  wrote-onward xs ys o d e t r w = wrote-before xs ys o d e (store-append full s (d .cursor .area) xs ys t) r w
 
   content-then : (a : ℕ) (r : Rec) (rs : List Rec) (l : List ℕ) → length (contentOf s r) ≡ contentSize (r .kind) (r .size) → (full ≡ true → a ≤ length l) →
       put (a + contentSize (r .kind) (r .size)) (areaIn full s rs) (put a (cond full (contentOf s r) []) l) ≡ put a (areaIn full s (r ∷ rs)) l

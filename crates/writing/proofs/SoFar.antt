@@ -48,7 +48,7 @@ outline-free Count = refl
 outline-free Parts = refl
 outline-free PartsUncertain = refl
 
-bytes-free : (full : Bool) (s : List ℕ) (a m n : ℕ) (r : Rec) → isCount (shapeOf (kindOf (r .kind))) ≡ false → recordBytes full s a m r ≡ recordBytes full s a n r
+pub bytes-free : (full : Bool) (s : List ℕ) (a m n : ℕ) (r : Rec) → isCount (shapeOf (kindOf (r .kind))) ≡ false → recordBytes full s a m r ≡ recordBytes full s a n r
 unfolding recordBytes shapeIn
 bytes-free true s a m n r e = shaped-free (shapeOf (kindOf (r .kind))) s a m n r e
 bytes-free false s a m n r e = shaped-free (outlineShape (shapeOf (kindOf (r .kind)))) s a m n r (outline-free (shapeOf (kindOf (r .kind))))

@@ -4,23 +4,30 @@ use Prim.Native.Nat.{ℕ, suc, _+_, _≤_, _<_}
 use mathlib.Core.Path.{_≡_}
 use mathlib.Core.Bool.{Bool, true, false, cond}
 use mathlib.Core.List.{List, [], _∷_}
+use mathlib.Core.Option.{Option, none, some}
 use lib.Dec.{eqb}
 use lib.ListN.{length, drop, getD}
 use Rattle.text.specs.Bytes.{isEol}
 use Rattle.text.specs.Gaps.{gap, gapEnd}
 use Rattle.text.specs.Places.{placeAt, IsPlace}
+use Rattle.words.specs.Keywords.{startsAt, keySave}
 use Rattle.records.specs.Kinds.{kindOf, shapeLength, marksOf}
 use Rattle.records.specs.Put.{put}
 use Rattle.items.specs.declared.Found.the-variants.{Value}
 use Rattle.items.specs.Answers.{foundAt}
 use Rattle.items.specs.Tokens.{Tok, inBlock}
-use Rattle.items.specs.Machine.{Rec}
+use Rattle.items.specs.Machine.{Rec, Answer, refused, done}
+use Rattle.items.specs.Frames.{left}
+use Rattle.items.specs.declared.Item.{Item as Answered}
+use Rattle.items.specs.declared.Item.the-variants.{Loop, Single, Ragged, NoValue as NoValue′, NoItem, NoNames, Over}
 use Rattle.items.specs.Descent.{Item, taken, failed, broken, item}
 use Rattle.items.specs.Decisions.{tokensAt, headAt}
 use Rattle.items.specs.Sizes.{contentSize, storeSize, outlineSize, areaSize}
 use Rattle.writing.specs.declared.Cursor.{Cursor}
 use Rattle.writing.specs.declared.Written.{Written}
 use Rattle.writing.specs.declared.Written.the-variants.{Value as Value′, Ended}
+use Rattle.writing.specs.declared.Next.{Next}
+use Rattle.writing.specs.declared.Next.the-variants.{Item as Item′, Stop}
 use Rattle.writing.specs.Writing.{shapeIn, recordBytes, storeOf, contentOf, areaOf, areaIn}
 
 -- the store's bytes that records take
@@ -149,3 +156,52 @@ pub record Onward (full : Bool) (s : List ℕ) (rs : List Rec) (d : Desk) (left 
   pub area-length : length (e .area) ≡ length (d .area)
   pub store : put (e .cursor .at) (storeOf full s (e .cursor .area) left) (e .store) ≡ put (d .cursor .at) (storeOf full s (d .cursor .area) rs) (d .store)
   pub area : put (e .cursor .area) (areaIn full s left) (e .area) ≡ put (d .cursor .area) (areaIn full s rs) (d .area)
+
+-- the records of an answer, and whether it has them
+unfoldable pub answerRecs : Answer → List Rec
+answerRecs (done rs) = rs
+answerRecs (refused n o d) = []
+
+unfoldable pub isDone : Answer → Bool
+isDone (done rs) = true
+isDone (refused n o d) = false
+
+-- the records from an offset on, in the block or in the frame that opened at an offset
+abbrev pub recsLeft : Option ℕ → List ℕ → ℕ → List Rec
+recsLeft f s o = answerRecs (left f s o [])
+
+-- from the cursor on, where no space stands, all is read, and there is room for it
+pub record Ahead (full : Bool) (s : List ℕ) (f : Option ℕ) (d : Desk) : Type 0 where
+  pub going : Going s (d .cursor)
+  pub bare : gap (drop (d .cursor .place .offset) s) ≡ 0
+  pub reads : isDone (left f s (d .cursor .place .offset) []) ≡ true
+  pub room : Room full (recsLeft f s (d .cursor .place .offset)) d
+
+-- from the desk d in f to the desk e in g: what is left there is what was left here, less what is written
+pub record Moved (full : Bool) (s : List ℕ) (f : Option ℕ) (d : Desk) (g : Option ℕ) (e : Desk) : Type 0 where
+  pub ahead : Ahead full s g e
+  pub onward : Onward full s (recsLeft f s (d .cursor .place .offset)) d (recsLeft g s (e .cursor .place .offset)) e
+  pub further : d .cursor .place .offset < e .cursor .place .offset
+
+-- a frame closes where its items stopped, behind the cursor at o
+pub record Closing (s : List ℕ) (o stop : ℕ) : Type 0 where
+  pub onward : o ≤ stop
+  pub within : stop ≤ length s
+  pub bare : gap (drop stop s) ≡ 0
+  pub key : startsAt keySave s stop ≡ true
+
+-- its record is written, and the cursor stands behind the space that follows
+pub record Closed (full : Bool) (s : List ℕ) (stop : ℕ) (d e : Desk) : Type 0 where
+  pub behind : Desk
+  pub wrote : WroteOne full s 0 (recAt 3 stop 5) (stop + 5) d behind
+  pub trim : e ≡ desk (behindGap s (behind .cursor)) (behind .store) (behind .area)
+
+-- what stands next in a frame: an item that is read, or where the last one stopped
+unfoldable pub nextOf : Answered → Next
+nextOf (Loop n z w) = Item′
+nextOf (Single n z) = Item′
+nextOf (Ragged o d p) = Stop p
+nextOf (NoValue′ o p w) = Stop p
+nextOf (NoItem o) = Stop o
+nextOf (NoNames o) = Stop o
+nextOf (Over o) = Stop o

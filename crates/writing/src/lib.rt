@@ -6,17 +6,22 @@ ghost use Prim.Native.Nat.{ℕ, _+_, _≤_, _<_, _^_};
 ghost use lib.Dec.{eqb};
 ghost use lib.ListN.{length, take, drop};
 ghost use Rattle.text.specs.Places.{IsPlace, placeAt};
-ghost use Rattle.words.specs.Keywords.{startsAt, keyLoop};
+ghost use Rattle.words.specs.Keywords.{startsAt, keyLoop, keySave};
 ghost use Rattle.records.specs.Kinds.{kindOf, shapeOf};
 ghost use Rattle.records.specs.declared.Shape.the-variants.{Content, Place as PlaceAlone};
-ghost use Rattle.records.specs.Put.{put};
+ghost use Rattle.items.specs.Sizes.{areaSize};
+ghost use Rattle.records.specs.Put.{front, put};
 ghost use Rattle.items.specs.Machine.{loopEnd};
-ghost use Rattle.items.specs.Answers.{kindOfNumber, tagAt};
+ghost use mathlib.Core.Option.{none, some};
+ghost use Rattle.items.specs.Answers.{kindOfNumber, tagAt, Here, itemAt};
+ghost use Rattle.items.specs.Reading.{limit, decided};
+ghost use Rattle.items.specs.Frames.{left};
 ghost use Rattle.items.specs.Tokens.{inBlock};
 ghost use Rattle.items.specs.Decisions.{tokensAt, headAt};
 ghost use Rattle.items.specs.Descent.{nameRecs, afterNames, valueRecs, afterValues};
-ghost use Rattle.writing.specs.Writing.{tokenAt, decimalOf, contentBytes, loopBytes, numberBytes};
-ghost use Rattle.writing.specs.Walk.{storeLength, recordLength, Going, Room, IsToken, recAt, WroteOne, Wrote, behindGap, ValueRoom, ValueDone, ItemHere, WroteItem, desk};
+ghost use Rattle.writing.specs.Writing.{storeOf, areaIn, tokenAt, decimalOf, contentBytes, loopBytes, numberBytes};
+ghost use Rattle.writing.specs.Walk.{storeLength, recordLength, Going, Room, IsToken, recAt, WroteOne, Wrote, behindGap, ValueRoom, ValueDone, ItemHere, WroteItem, nextOf, Closing, Closed, Ahead, Moved, recsLeft, isDone, answerRecs, desk};
+use items::Item;
 use numbers::Decimal;
 use records::{Kind, Token};
 use text::Place;
@@ -33,6 +38,12 @@ pub struct Cursor {
 pub enum Written {
     Value { next: Cursor },
     Ended,
+}
+
+// What stands next in a frame: an item that is read, or where the last one stopped.
+pub enum Next {
+    Item,
+    Stop { at: usize },
 }
 
 // Read copies a part of the text into the area, Outline does not.
@@ -360,4 +371,107 @@ fn write_item(s: &[u8], full: bool, store: &mut [u8], area: &mut [u8], c: Cursor
         return write_loop_item(s, full, store, area, c);
     }
     write_tag_item(s, full, store, area, c)
+}
+
+// What stands next in a frame: the item there is decided before it is written, so that one that fails leaves no trace.
+fn next_in_frame(s: &[u8], at: usize) -> Next
+    requires { ⌜ Here (now s) at ⌝ }
+    ensures { λ r. ⌜ r ≡ nextOf (itemAt (now (s .entry)) at) ⌝ }
+{
+    let item = items::parse_data_item(s, at);
+    match item {
+        Item::Loop { next: _, sizes: _, why: _ } => Next::Item,
+        Item::Single { next: _, sizes: _ } => Next::Item,
+        Item::Ragged { at: _, remainder: _, stop } => Next::Stop { at: stop },
+        Item::NoValue { at: _, stop, why: _ } => Next::Stop { at: stop },
+        Item::NoItem { at: here } => Next::Stop { at: here },
+        Item::NoNames { at: here } => Next::Stop { at: here },
+        Item::Over { at: here } => Next::Stop { at: here },
+    }
+}
+
+// The `save_` that closes a frame, where its items stopped.
+fn close_frame(s: &[u8], full: bool, store: &mut [u8], c: Cursor, stop: usize) -> Cursor
+    requires { ⌜ Going (now s) c × Closing (now s) (c .place .offset) stop × (c .at + storeLength full (recAt 3 stop 5 ∷ []) ≤ length (now store)) ⌝ }
+    ensures { λ r. ⌜ ((a : List ℕ) → Closed full (now (s .entry)) stop (desk c (now (store .entry)) a) (desk r (now (store .exit)) a)) ⌝ }
+{
+    let place = c.place;
+    let at = c.at;
+    let area = c.area;
+    let here = Cursor {
+        place: text::advance(s, place, stop),
+        at,
+        area,
+    };
+    trimmed(s, write_mark(s, full, store, here, 3, 5))
+}
+
+// A frame: its heading, its items, its end.
+fn write_frame(s: &[u8], full: bool, store: &mut [u8], area: &mut [u8], c: Cursor) -> Cursor
+    requires { ⌜ Ahead full (now s) none (desk c (now store) (now area)) × (startsAt keySave (now s) (c .place .offset) ≡ true) ⌝ }
+    ensures { λ r. ⌜ Moved full (now (s .entry)) none (desk c (now (store .entry)) (now (area .entry))) none (desk r (now (store .exit)) (now (area .exit))) ⌝ }
+{
+    let place = c.place;
+    let start = place.offset;
+    let end = words::parse_identifier(s, start);
+    let mut here = trimmed(s, write_text(s, full, store, area, c, 2, end - start));
+    loop {
+        let spot = here.place;
+        let offset = spot.offset;
+        if let Next::Stop { at } = next_in_frame(s, offset) {
+            return close_frame(s, full, store, here, at);
+        }
+        here = write_item(s, full, store, area, here);
+    }
+}
+
+// The item or the frame at the cursor.
+fn write_item_or_frame(s: &[u8], full: bool, store: &mut [u8], area: &mut [u8], c: Cursor) -> Cursor
+    requires { ⌜ Ahead full (now s) none (desk c (now store) (now area)) × (c .place .offset < length (now s)) ⌝ }
+    ensures { λ r. ⌜ Moved full (now (s .entry)) none (desk c (now (store .entry)) (now (area .entry))) none (desk r (now (store .exit)) (now (area .exit))) ⌝ }
+{
+    let place = c.place;
+    let offset = place.offset;
+    if words::at_save(s, offset) {
+        return write_frame(s, full, store, area, c);
+    }
+    write_item(s, full, store, area, c)
+}
+
+// Items and frames, to the end of the text.
+fn write_items(s: &[u8], full: bool, store: &mut [u8], area: &mut [u8], c: Cursor) -> Cursor
+    requires { ⌜ Ahead full (now s) none (desk c (now store) (now area)) ⌝ }
+    ensures { λ r. ⌜ Wrote full (now (s .entry)) (recsLeft none (now (s .entry)) (c .place .offset)) (length (now (s .entry))) (desk c (now (store .entry)) (now (area .entry))) (desk r (now (store .exit)) (now (area .exit))) ⌝ }
+{
+    let mut here = c;
+    loop {
+        let place = here.place;
+        let offset = place.offset;
+        if s.len() <= offset {
+            return here;
+        }
+        here = write_item_or_frame(s, full, store, area, here);
+    }
+}
+
+// The whole text: its heading, then its items and frames. Read copies contents (`full`), Outline does not.
+pub fn write_block(s: &[u8], full: bool, store: &mut [u8], area: &mut [u8])
+    requires { ⌜ (length (now s) ≤ limit) × (isDone (decided (now s)) ≡ true) × (storeLength full (answerRecs (decided (now s))) ≤ length (now store)) × (full ≡ true → areaSize (answerRecs (decided (now s))) ≤ length (now area)) ⌝ }
+    ensures { λ r. ⌜ (now (store .exit) ≡ front (storeOf full (now (s .entry)) 0 (answerRecs (decided (now (s .entry))))) (now (store .entry))) × (now (area .exit) ≡ front (areaIn full (now (s .entry)) (answerRecs (decided (now (s .entry))))) (now (area .entry))) ⌝ }
+{
+    let start = Cursor {
+        place: Place {
+            offset: 0,
+            line: 1,
+            column: 1,
+        },
+        at: 0,
+        area: 0,
+    };
+    let here = trimmed(s, start);
+    let place = here.place;
+    let offset = place.offset;
+    let end = words::parse_identifier(s, offset);
+    let named = write_text(s, full, store, area, here, 1, end - offset);
+    write_items(s, full, store, area, trimmed(s, named));
 }

@@ -1,0 +1,285 @@
+-- Writing items, frames and the block: the cursor moves on, and what is left stays the same. Assumes nothing.
+use Prim.Native.Nat.{ℕ, zero, suc, _+_, _-_, _≤_, _<_}
+use mathlib.Core.Path.{_≡_, refl, sym, ap, _∙_}
+use mathlib.Core.Bool.{Bool, true, false, cond}
+use mathlib.Core.List.{List, [], _∷_, _++_, append-assoc, append-nil}
+use mathlib.Core.Option.{Option, none, some}
+use native.Mathlib.Omega.{arith}
+use borrow.Author.Tests.{ne-eqb}
+use lib.Dec.{eqb}
+use lib.ListN.{length, drop}
+use Rattle.text.specs.Gaps.{gap, gapEnd}
+use Rattle.text.specs.Places.{placeAt, Whole, IsPlace}
+use Rattle.text.proofs.Gaps.{gap-from, gap-within, gap-none}
+use Rattle.text.proofs.Places.{place-offset, place-own, gap-whole}
+use Rattle.text.specs.declared.Place.{Place}
+use Rattle.text.proofs.Ranges.{allBelow, fails}
+use Rattle.words.specs.Words.{word, wordEnd}
+use Rattle.words.specs.Keywords.{startsAt, keyLoop, keySave, keyData}
+use Rattle.words.proofs.Keywords.{save-word}
+use Rattle.words.proofs.Words.{word-end}
+use Rattle.records.specs.Kinds.{kindOf, shapeOf, marksOf}
+use Rattle.items.specs.Machine.{Rec, loopEnd}
+use Rattle.items.specs.Sizes.{contentSize, areaSize}
+use Rattle.items.specs.Decisions.{headAt}
+use Rattle.items.specs.Answers.{itemAt}
+use Rattle.items.specs.Frames.{left}
+use Rattle.writing.specs.declared.Cursor.{Cursor}
+use Rattle.writing.specs.declared.Next.the-variants.{Item as Item′, Stop}
+use Rattle.writing.specs.Writing.{recordBytes, tagsOf, storeOf}
+use Rattle.writing.specs.Walk.{Desk, desk, Going, Room, IsToken, recAt, WroteOne, Wrote, Onward, behindGap, itemRecs, itemRest, isTaken, itemOf, ItemHere, WroteItem, recsLeft, isDone, Ahead, Moved, Closing, Closed, nextOf}
+use Rattle.writing.proofs.Bytes.{store-append, area-size-append}
+use Rattle.writing.proofs.Items.{loop-parts, tag-parts, tag-here, room-prefix}
+use Rattle.writing.proofs.Lines.{part-token}
+use Rattle.writing.proofs.Lists.{namesFrom, behindNames, valuesFrom}
+use Rattle.writing.proofs.Onward.{onward-here, onward-then, room-onward, wrote-before, one-onward, onward-wrote}
+use Rattle.writing.proofs.Rest.{Steps, item-passes, frame-item-steps, block-item-steps, open-steps, close-steps, next-item, next-stop, end-none}
+use Rattle.writing.proofs.SoFar.{isCount, bytes-free, any-count, room-first}
+use Rattle.writing.proofs.Turns.{value-turn}
+use Rattle.writing.proofs.Values.{trim-at, trim-area, trim-offset, trim-going}
+
+-- records whose last is neither a loop nor a loop's tag: what follows does not change their bytes
+record Shut (xs : List Rec) : Type 0 where
+  init : List Rec
+  last : Rec
+  same : xs ≡ init ++ (last ∷ [])
+  tag : eqb (last .kind) 6 ≡ false
+  count : isCount (shapeOf (kindOf (last .kind))) ≡ false
+
+last-then : (full : Bool) (s : List ℕ) (b : ℕ) (r : Rec) (ys : List Rec) → isCount (shapeOf (kindOf (r .kind))) ≡ false → storeOf full s b (r ∷ ys) ≡ storeOf full s b (r ∷ []) ++ storeOf full s (b + areaSize (r ∷ [])) ys
+unfolding storeOf areaSize tagsOf
+last-then full s b r ys c =
+    let z : contentSize (r .kind) (r .size) + 0 ≡ contentSize (r .kind) (r .size) = omega arith in
+    rw (bytes-free full s b (tagsOf ys) 0 r c, append-nil, z)
+
+no-tag : (r : Rec) (qs : List Rec) → eqb (r .kind) 6 ≡ false → tagsOf (r ∷ qs) ≡ 0
+unfolding tagsOf
+no-tag r qs t = rw t
+
+shut-append : (full : Bool) (s : List ℕ) (a : ℕ) (zs : List Rec) (r : Rec) (ys : List Rec) → eqb (r .kind) 6 ≡ false → isCount (shapeOf (kindOf (r .kind))) ≡ false
+    → storeOf full s a ((zs ++ (r ∷ [])) ++ ys) ≡ storeOf full s a (zs ++ (r ∷ [])) ++ storeOf full s (a + areaSize (zs ++ (r ∷ []))) ys
+shut-append full s a zs r ys t c =
+    let z : a + areaSize zs + areaSize (r ∷ []) ≡ a + areaSize (zs ++ (r ∷ [])) = omega (arith, area-size-append zs (r ∷ [])) in
+    rw append-assoc
+    (store-append full s a zs (r ∷ ys) (no-tag r ys t) ∙ ap (λ (x : List ℕ). storeOf full s a zs ++ x) (last-then full s (a + areaSize zs) r ys c)
+    ∙ rw (store-append full s a zs (r ∷ []) (no-tag r [] t), append-assoc, z))
+
+shut-store : (full : Bool) (s : List ℕ) (a : ℕ) (xs ys : List Rec) → Shut xs → storeOf full s a (xs ++ ys) ≡ storeOf full s a xs ++ storeOf full s (a + areaSize xs) ys
+shut-store full s a xs ys h = rw (h .same) (shut-append full s a (h .init) (h .last) ys (h .tag) (h .count))
+
+-- an item's records are such
+value-last : (k : ℕ) → 8 ≤ k → k ≤ 15 → (eqb k 6 ≡ false) × (isCount (shapeOf (kindOf k)) ≡ false)
+unfolding isCount kindOf shapeOf allBelow
+value-last k l h = (ne-eqb k 6 (λ e. omega arith), fails (λ j. isCount (shapeOf (kindOf j))) 8 8 refl k l (omega arith))
+
+item-shut : (s : List ℕ) (o : ℕ) → o ≤ length s → gap (drop o s) ≡ 0 → isTaken (itemOf s o) ≡ true → Shut (itemRecs (itemOf s o))
+item-shut s o h g t = by (startsAt keyLoop s o) refl
+  where
+    by : (b : Bool) → startsAt keyLoop s o ≡ b → Shut (itemRecs (itemOf s o))
+    by true e =
+        let p = loop-parts s o h g e t in
+        let ns = namesFrom s (o + 5) in
+        let vs = valuesFrom s (headAt (behindNames s (o + 5))) in
+        record {
+          init = recAt 5 o 5 ∷ (ns ++ vs);
+          last = loopEnd;
+          same = p .recs ∙ ap (λ (x : List Rec). recAt 5 o 5 ∷ x) (sym (append-assoc ns vs (loopEnd ∷ [])));
+          tag = unfold loopEnd in refl;
+          count = unfold loopEnd isCount kindOf shapeOf in refl;
+        }
+    by false e =
+        let w = wordEnd s o - o in
+        let p = tag-parts s o w (gapEnd s (o + w)) h g (tag-here s o g e t) t refl refl in
+        let v = value-turn s (o + w) (gapEnd s (o + w)) (p .kind) (p .size) refl (p .found) in
+        let k = value-last (p .kind) (v .least) (v .most) in
+        record { init = recAt 4 o w ∷ []; last = recAt (p .kind) (gapEnd s (o + w)) (p .size); same = p .recs; tag = k .0; count = k .1 }
+
+-- the cursor behind space and comments writes on as before
+onward-trim : (full : Bool) (s : List ℕ) (rs ls : List Rec) (d : Desk) (c h : Cursor) (l a : List ℕ) → h ≡ behindGap s c → Onward full s rs d ls (desk c l a) → Onward full s rs d ls (desk h l a)
+onward-trim full s rs ls d c h l a q o =
+    record {
+      at = rw (trim-at s c h q) (o .at);
+      behind = rw (trim-area s c h q) (o .behind);
+      filled = o .filled;
+      store-length = o .store-length;
+      area-length = o .area-length;
+      store = rw (trim-at s c h q, trim-area s c h q) (o .store);
+      area = rw (trim-area s c h q) (o .area);
+    }
+
+pub moved-then : (full : Bool) (s : List ℕ) (f g h : Option ℕ) (d e k : Desk) → Moved full s f d g e → Moved full s g e h k → Moved full s f d h k
+moved-then full s f g h d e k a b =
+    record {
+      ahead = b .ahead;
+      onward = onward-then full s _ _ _ d e k (a .onward) (b .onward);
+      further = omega (arith, a .further, b .further);
+    }
+
+-- one record, and the space behind it
+one-moved : (full : Bool) (s : List ℕ) (f g : Option ℕ) (d e : Desk) (h : Cursor) (r : Rec) (q : ℕ) → Ahead full s f d → d .cursor .place .offset < q → Steps s f (d .cursor .place .offset) g (gapEnd s q) (r ∷ [])
+    → isCount (shapeOf (kindOf (r .kind))) ≡ false → WroteOne full s 0 r q d e → h ≡ behindGap s (e .cursor) → Moved full s f d g (desk h (e .store) (e .area))
+one-moved full s f g d e h r q a l t c w z =
+    let o = d .cursor .place .offset in
+    let ls = recsLeft g s (gapEnd s q) in
+    let x : e .cursor .place .offset ≡ q = place-offset s (e .cursor .place) q (w .place) in
+    let y : h .place .offset ≡ gapEnd s q = trim-offset s (e .cursor) h z ∙ ap (gapEnd s) x in
+    let room : Room full (r ∷ ls) d = rw (t .recs) at (a .room) in
+    let one : Onward full s (r ∷ ls) d ls e = one-onward full s r ls q d e room (any-count full s 0 (tagsOf ls) r q d e c w) in
+    let all : Onward full s (recsLeft f s o) d ls (desk h (e .store) (e .area)) = rw (t .recs) (onward-trim full s (r ∷ ls) ls d (e .cursor) h (e .store) (e .area) z one) in
+    let same : recsLeft g s (h .place .offset) ≡ ls = ap (recsLeft g s) y in
+    record {
+      ahead =
+        record {
+          going = trim-going s (e .cursor) h z (w .going);
+          bare = rw y (gap-none s q);
+          reads = ap (λ (p : ℕ). isDone (left g s p [])) y ∙ t .reads;
+          room = rw same (room-onward full s (recsLeft f s o) ls d (desk h (e .store) (e .area)) (a .room) all);
+        };
+      onward = rw same all;
+      further = omega (arith, gap-from s q);
+    }
+
+-- an item
+item-moved : (full : Bool) (s : List ℕ) (f : Option ℕ) (d e : Desk) → Ahead full s f d → isTaken (itemOf s (d .cursor .place .offset)) ≡ true
+    → Steps s f (d .cursor .place .offset) f (headAt (itemRest (itemOf s (d .cursor .place .offset)))) (itemRecs (itemOf s (d .cursor .place .offset))) → WroteItem full s d e → Moved full s f d f e
+item-moved full s f d e a r t w =
+    let o = d .cursor .place .offset in
+    let p = headAt (itemRest (itemOf s o)) in
+    let xs = itemRecs (itemOf s o) in
+    let ls = recsLeft f s p in
+    let i = item-passes s o (a .going .place .within) r in
+    let y : e .cursor .place .offset ≡ p = place-offset s (e .cursor .place) p (w .place) in
+    let all : Onward full s (recsLeft f s o) d ls e =
+    rw (t .recs) (wrote-before full s xs ls p d e (shut-store full s (d .cursor .area) xs ls (item-shut s o (a .going .place .within) (a .bare) r)) (rw (t .recs) at (a .room)) w) in
+    let same : recsLeft f s (e .cursor .place .offset) ≡ ls = ap (recsLeft f s) y in
+    record {
+      ahead =
+        record {
+          going = w .going;
+          bare = rw y (i .bare);
+          reads = ap (λ (q : ℕ). isDone (left f s q [])) y ∙ t .reads;
+          room = rw same (room-onward full s (recsLeft f s o) ls d e (a .room) all);
+        };
+      onward = rw same all;
+      further = omega (arith, i .onward);
+    }
+
+-- A frame's heading
+
+module _ (full : Bool) (s : List ℕ) (d : Desk) (a : Ahead full s none d) (k : startsAt keySave s (d .cursor .place .offset) ≡ true) (w : ℕ) (q : w ≡ wordEnd s (d .cursor .place .offset) - d .cursor .place .offset) where
+  abbrev opening : ℕ
+  opening = d .cursor .place .offset
+
+  size : w ≡ word (drop opening s)
+  size = omega (arith, word-end s opening)
+
+  opened : Steps s none opening (some opening) (gapEnd s (opening + w)) (recAt 2 opening w ∷ [])
+  opened = open-steps s opening w (a .bare) k (a .reads) size
+
+  pub heading-token : IsToken s 2 opening w
+  unfolding kindOf marksOf
+  heading-token =
+      let five = save-word s opening k in
+      part-token s 2 opening w (a .going .place .within) (omega (arith, size)) (omega (arith, size)) (omega (arith, size))
+
+  pub heading-room : Room full (recAt 2 opening w ∷ []) d
+  heading-room = room-first full (recAt 2 opening w) (recsLeft (some opening) s (gapEnd s (opening + w))) d (rw (opened .recs) at (a .room))
+
+  pub heading-moved : (e : Desk) (h : Cursor) → WroteOne full s 0 (recAt 2 opening w) (opening + w) d e → h ≡ behindGap s (e .cursor) → Moved full s none d (some opening) (desk h (e .store) (e .area))
+  unfolding isCount kindOf shapeOf
+  heading-moved e h x z = one-moved full s none (some opening) d e h (recAt 2 opening w) (opening + w) a (omega (arith, heading-token .some)) opened refl x z
+
+-- Its items
+
+module _ (full : Bool) (s : List ℕ) (b : ℕ) (d : Desk) (a : Ahead full s (some b) d) where
+  abbrev here : ℕ
+  here = d .cursor .place .offset
+
+  pub frame-item-here : nextOf (itemAt s here) ≡ Item′ → ItemHere full s d
+  frame-item-here e =
+      let r : isTaken (itemOf s here) ≡ true = next-item (itemOf s here) (unfold itemAt in e) in
+      let t = frame-item-steps s b here (a .going .place .within) (a .bare) (a .reads) r in
+      record { going = a .going; bare = a .bare; read = r; room = room-prefix full _ _ d (rw (t .recs) at (a .room)) }
+
+  pub frame-item-moved : (e : Desk) → nextOf (itemAt s here) ≡ Item′ → WroteItem full s d e → Moved full s (some b) d (some b) e
+  frame-item-moved e n w =
+      let r : isTaken (itemOf s here) ≡ true = next-item (itemOf s here) (unfold itemAt in n) in
+      item-moved full s (some b) d e a r (frame-item-steps s b here (a .going .place .within) (a .bare) (a .reads) r) w
+
+  -- Its end
+
+  pub frame-closing : (p : ℕ) → nextOf (itemAt s here) ≡ Stop p → Closing s here p × Room full (recAt 3 p 5 ∷ []) d
+  frame-closing p n =
+      let h = next-stop s b here p (a .going .place .within) (a .bare) (a .reads) n in
+      let c = close-steps s b here p h (a .reads) in
+      (record { onward = h .onward; within = h .within; bare = h .bare; key = c .0 },
+      room-first full (recAt 3 p 5) (recsLeft none s (gapEnd s (p + 5))) d (rw (c .1 .recs) at (a .room)))
+
+  pub frame-closed : (e : Desk) (p : ℕ) → nextOf (itemAt s here) ≡ Stop p → Closed full s p d e → Moved full s (some b) d none e
+  unfolding isCount kindOf shapeOf
+  frame-closed e p n w =
+      let h = next-stop s b here p (a .going .place .within) (a .bare) (a .reads) n in
+      let c = close-steps s b here p h (a .reads) in
+      rw (w .trim) (one-moved full s (some b) none d (w .behind) _ (recAt 3 p 5) (p + 5) a (omega (arith, h .onward)) (c .1) refl (w .wrote) refl)
+
+-- Items of the block
+
+module _ (full : Bool) (s : List ℕ) (d : Desk) (a : Ahead full s none d) (l : d .cursor .place .offset < length s) (k : startsAt keySave s (d .cursor .place .offset) ≡ false) where
+  block-steps : (isTaken (itemOf s (d .cursor .place .offset)) ≡ true) × Steps s none (d .cursor .place .offset) none (headAt (itemRest (itemOf s (d .cursor .place .offset)))) (itemRecs (itemOf s (d .cursor .place .offset)))
+  block-steps = block-item-steps s (d .cursor .place .offset) l (a .bare) k (a .reads)
+
+  pub block-item-here : ItemHere full s d
+  block-item-here =
+      record { going = a .going; bare = a .bare; read = block-steps .0; room = room-prefix full _ _ d (rw (block-steps .1 .recs) at (a .room)) }
+
+  pub block-item-moved : (e : Desk) → WroteItem full s d e → Moved full s none d none e
+  block-item-moved e w = item-moved full s none d e a (block-steps .0) (block-steps .1) w
+
+-- The end of the text
+pub block-ended : (full : Bool) (s : List ℕ) (rs : List Rec) (d₀ d : Desk) → Ahead full s none d → length s ≤ d .cursor .place .offset → Onward full s rs d₀ (recsLeft none s (d .cursor .place .offset)) d → Wrote full s rs (length s) d₀ d
+block-ended full s rs d₀ d a l o =
+    let e : d .cursor .place .offset ≡ length s = omega (arith, a .going .place .within) in
+    onward-wrote full s rs (length s) d₀ d (rw (end-none s (d .cursor .place .offset) l) at o) (a .going) (a .going .place .at ∙ ap (placeAt s) e)
+
+-- The code's steps at a frame's end
+
+-- where no space stands no line end is parted
+whole-bare : (s : List ℕ) (o : ℕ) → gap (drop o s) ≡ 0 → Whole s o
+whole-bare s o e =
+    let z : gapEnd s o ≡ o = unfold gapEnd in omega (arith, e) in
+    rw z at (gap-whole s o)
+
+-- the cursor is moved to where the items stopped
+pub closing-place : (s : List ℕ) (c : Cursor) (stop : ℕ) (p : Place) → Going s c → Closing s (c .place .offset) stop → p ≡ placeAt s stop → Going s (record { place = p; at = c .at; area = c .area }) × (p .offset ≡ stop)
+closing-place s c stop p g k e =
+    let o : p .offset ≡ stop = place-offset s p stop e in
+    (record {
+      place = record { at = place-own s p stop e; whole = rw o (whole-bare s stop (k .bare)); within = rw o (k .within) };
+      short = g .short;
+      behind = omega (arith, g .behind, k .onward);
+    }, o)
+
+pub closing-token : (s : List ℕ) (o stop : ℕ) → Closing s o stop → IsToken s 3 stop 5
+unfolding kindOf marksOf
+closing-token s o stop k = part-token s 3 stop 5 (k .within) (omega arith) (save-word s stop (k .key)) (omega arith)
+
+pub closed : (full : Bool) (s : List ℕ) (stop : ℕ) (c h b r : Cursor) (l m a : List ℕ) → h .place .offset ≡ stop → h .at ≡ c .at → h .area ≡ c .area
+    → WroteOne full s 0 (recAt 3 (h .place .offset) 5) (h .place .offset + 5) (desk h l a) (desk b m a) → r ≡ behindGap s b → Closed full s stop (desk c l a) (desk r m a)
+closed full s stop c h b r l m a o t u w q =
+    record {
+      behind = desk b m a;
+      wrote = rw o at
+        (from (record {
+          going = w .going;
+          place = w .place;
+          at = rw t at (w .at);
+          behind = rw u at (w .behind);
+          filled = w .filled;
+          store = rw (t, u) at (w .store);
+          area = rw u at (w .area);
+        }));
+      trim = ap (λ (x : Cursor). desk x m a) q;
+    }
+  where
+    from : WroteOne full s 0 (recAt 3 (h .place .offset) 5) (h .place .offset + 5) (desk c l a) (desk b m a) → WroteOne full s 0 (recAt 3 (h .place .offset) 5) (h .place .offset + 5) (desk c l a) (desk b m a)
+    from x = x

@@ -1,0 +1,212 @@
+-- What is left to read and to write from an offset on, in the block and in a frame: an item, a frame's heading and its end take their records off it.
+-- Assumes nothing.
+use Prim.Native.Nat.{ℕ, zero, suc, _+_, _-_, _≤_, _<_}
+use mathlib.Core.Path.{_≡_, refl, sym, ap, _∙_}
+use mathlib.Core.Bool.{Bool, true, false, cond, true≢false, false≢true}
+use mathlib.Core.List.{List, [], _∷_, _++_, append-assoc, append-nil}
+use mathlib.Core.Option.{Option, none, some}
+use native.Mathlib.Omega.{arith}
+use borrow.Author.Tests.{ne-eqb}
+use lib.Dec.{eqb}
+use lib.ListN.{length, drop, length-drop}
+use Rattle.text.specs.Gaps.{gap, gapEnd}
+use Rattle.text.proofs.Gaps.{gap-from, gap-within, gap-none}
+use Rattle.words.specs.Words.{word, wordEnd}
+use Rattle.words.specs.Keywords.{starts, startsAt, keyLoop, keySave, keyData}
+use Rattle.words.proofs.Words.{word-end}
+use Rattle.values.specs.Values.{Lexed, lexed, save, block}
+use Rattle.records.specs.Kinds.{kindOf, shapeOf}
+use Rattle.items.specs.declared.Item.{Item as Answered}
+use Rattle.items.specs.declared.Item.the-variants.{Loop, Single, Ragged, NoValue, NoItem, NoNames, Over}
+use Rattle.items.specs.Tokens.{Mode, before, inBlock, inFrame, lexIn, Tok, tok}
+use Rattle.items.specs.Machine.{Rec, rec, loopEnd, Answer, refused, done, run, config, items}
+use Rattle.items.specs.Descent.{Item, taken, failed, broken, item}
+use Rattle.items.specs.Decisions.{tokensAt, headAt, headWhy, Told, told, tells, refusal, room}
+use Rattle.items.specs.Answers.{itemAnswer, itemAt}
+use Rattle.items.specs.Frames.{left, modeOf, blockAt, inFrameOf}
+use Rattle.items.specs.Reading.{decided}
+use Rattle.items.proofs.Descent.{itemRun, failedRun}
+use Rattle.items.proofs.Offsets.{Met, met-open, met-close, met-data, Both, both, both-spot}
+use Rattle.items.proofs.Passes.{AlikeItem, alike-taken, alike-ragged, alike-alone, alike-absent, alike-unnamed, alike-over, item-alike}
+use Rattle.items.proofs.Onward.{closing, DroppedAt, PassedInside, item-inside, frame-item, block-item, left-from, plain, open-reads, left-gap, open-answer, close-answer, begin-reads, end-answer, failed-stops, no-data, decided-from}
+use Rattle.writing.specs.declared.Next.{Next}
+use Rattle.writing.specs.declared.Next.the-variants.{Item as Item′, Stop}
+use Rattle.writing.specs.Walk.{recAt, itemRecs, itemRest, isTaken, itemOf, answerRecs, isDone, recsLeft, nextOf}
+use Rattle.writing.proofs.Prefix.{prefixed, started, run-after}
+
+-- what is kept already comes before the rest
+pub left-prefix : (f : Option ℕ) (s : List ℕ) (o : ℕ) (out : List Rec) → left f s o out ≡ prefixed out (left f s o [])
+unfolding left started
+left-prefix f s o out = ap (λ (x : List Rec). run (tokensAt (modeOf f) s o) (config items f x [])) (sym (append-nil out)) ∙ run-after out (tokensAt (modeOf f) s o) items f [] [] refl
+
+-- from o in f to p in g these records are kept
+pub record Steps (s : List ℕ) (f : Option ℕ) (o : ℕ) (g : Option ℕ) (p : ℕ) (rs : List Rec) : Type 0 where
+  pub recs : recsLeft f s o ≡ rs ++ recsLeft g s p
+  pub reads : isDone (left g s p []) ≡ true
+
+pub steps : (s : List ℕ) (f : Option ℕ) (o : ℕ) (g : Option ℕ) (p : ℕ) (rs : List Rec) → isDone (left f s o []) ≡ true → left f s o [] ≡ left g s p rs → Steps s f o g p rs
+steps s f o g p rs d e = by (left g s p []) refl (e ∙ left-prefix g s p rs)
+  where
+    by : (a : Answer) → left g s p [] ≡ a → left f s o [] ≡ prefixed rs a → Steps s f o g p rs
+    by (done qs) q h = unfold prefixed answerRecs isDone in record { recs = rw (h, q); reads = rw q }
+    by (refused n x y) q h =
+        let z : isDone (left f s o []) ≡ false = unfold prefixed isDone in rw h in
+        absurd (false≢true (sym z ∙ d))
+
+-- An item
+
+-- where an item that is read stands between
+pub record ItemPassed (s : List ℕ) (o : ℕ) (x y : Item) : Type 0 where
+  pub onward : o < headAt (itemRest x)
+  pub within : headAt (itemRest x) ≤ length s
+  pub bare : gap (drop (headAt (itemRest x)) s) ≡ 0
+  pub inBlock : (out : List Rec) → itemRun none out x ≡ left none s (headAt (itemRest x)) (out ++ itemRecs x)
+  pub inFrame : (a : ℕ) (out : List Rec) → itemRun (some a) out y ≡ left (some a) s (headAt (itemRest x)) (out ++ itemRecs x)
+
+item-passed : {s : List ℕ} {o : ℕ} {x y : Item} → AlikeItem s o x y → isTaken x ≡ true → ItemPassed s o x y
+unfolding isTaken itemRest itemRecs itemRun modeOf
+item-passed {s = s} {o = o} (alike-taken {rs = rs} {ts = ts} {us = us} to l b h) e =
+    let p = both-spot b in
+    record {
+      onward = omega (arith, p .onward);
+      within = p .within;
+      bare = p .bare;
+      inBlock = λ out. left-from none s (headAt ts) ts (out ++ rs) (p .inBlock);
+      inFrame = λ a out. left-from (some a) s (headAt ts) us (out ++ rs) (p .inFrame);
+    }
+item-passed (alike-ragged b) e = absurd (false≢true e)
+item-passed (alike-alone b) e = absurd (false≢true e)
+item-passed (alike-absent q b) e = absurd (false≢true e)
+item-passed alike-unnamed e = absurd (false≢true e)
+item-passed alike-over e = absurd (false≢true e)
+
+pub item-passes : (s : List ℕ) (o : ℕ) → o ≤ length s → isTaken (itemOf s o) ≡ true → ItemPassed s o (itemOf s o) (item (tokensAt inFrame s o))
+item-passes s o h e = item-passed (item-alike (both s o h)) e
+
+-- in a frame
+pub frame-item-steps : (s : List ℕ) (a o : ℕ) → o ≤ length s → gap (drop o s) ≡ 0 → isDone (left (some a) s o []) ≡ true → isTaken (itemOf s o) ≡ true
+    → Steps s (some a) o (some a) (headAt (itemRest (itemOf s o))) (itemRecs (itemOf s o))
+frame-item-steps s a o h g d e =
+    steps s (some a) o (some a) _ _ d (frame-item s a o [] g ∙ item-passes s o h e .inFrame a [])
+
+-- in the block
+refused-not : (x : Answer) (n o d : ℕ) → x ≡ refused n o d → isDone x ≡ true → ⊥
+unfolding isDone
+refused-not x n o d e h = false≢true (rw e at h)
+
+block-taken : {s : List ℕ} {o : ℕ} {x y : Item} → AlikeItem s o x y → isDone (itemRun none [] x) ≡ true → isTaken x ≡ true
+unfolding isTaken itemRun isDone
+block-taken (alike-taken to l b h) e = refl
+block-taken (alike-ragged {a = a} {d = d} b) e = absurd (refused-not _ 5 a d (failed-stops b (refused 5 a d) []) e)
+block-taken (alike-alone {a = a} b) e = absurd (refused-not _ 6 a 0 (failed-stops b (refused 6 a 0) []) e)
+block-taken (alike-absent {a = a} q b) e = absurd (refused-not _ 7 a 0 (failed-stops b (refused 7 a 0) []) e)
+block-taken alike-unnamed e = absurd (false≢true e)
+block-taken alike-over e = absurd (false≢true e)
+
+pub block-item-steps : (s : List ℕ) (o : ℕ) → o < length s → gap (drop o s) ≡ 0 → startsAt keySave s o ≡ false → isDone (left none s o []) ≡ true
+    → (isTaken (itemOf s o) ≡ true) × Steps s none o none (headAt (itemRest (itemOf s o))) (itemRecs (itemOf s o))
+unfolding startsAt
+block-item-steps s o h g e d =
+    let i : left none s o [] ≡ itemRun none [] (itemOf s o) = block-item s o [] g (plain (drop o s) (omega (arith, length-drop o s)) e) in
+    let t : isTaken (itemOf s o) ≡ true = block-taken (item-alike (both s o (omega arith))) (rw i at d) in
+    (t, steps s none o none _ _ d (i ∙ item-passes s o (omega arith) t .inBlock []))
+
+-- A frame
+
+-- its heading
+pub open-steps : (s : List ℕ) (o w : ℕ) → gap (drop o s) ≡ 0 → startsAt keySave s o ≡ true → isDone (left none s o []) ≡ true → w ≡ word (drop o s)
+    → Steps s none o (some o) (gapEnd s (o + w)) (recAt 2 o w ∷ [])
+unfolding lexed tok rec
+open-steps s o w g e d q =
+    let m : Met inBlock s o (lexed save w) = rw q (met-open s o g e) in
+    steps s none o (some o) (gapEnd s (o + w)) _ d (open-reads s o w [] m ∙ sym (left-gap (some o) s (o + w) (recAt 2 o w ∷ [])))
+
+-- its end
+pub close-steps : (s : List ℕ) (a o p : ℕ) → DroppedAt s a o p → isDone (left (some a) s o []) ≡ true
+    → (startsAt keySave s p ≡ true) × Steps s (some a) o none (gapEnd s (p + 5)) (recAt 3 p 5 ∷ [])
+unfolding lexed tok rec
+close-steps s a o p h d = by (startsAt keySave s p) refl
+  where
+    by : (t : Bool) → startsAt keySave s p ≡ t → (t ≡ true) × Steps s (some a) o none (gapEnd s (p + 5)) (recAt 3 p 5 ∷ [])
+    by true e =
+        let m = met-close s p (h .bare) e in
+        (refl, steps s (some a) o none (gapEnd s (p + 5)) _ d (h .reads [] ∙ close-answer s a p [] m ∙ sym (left-gap none s (p + 5) (recAt 3 p 5 ∷ []))))
+    by false e = absurd (refused-not (left (some a) s o []) 4 a 0 (h .reads [] ∙ open-answer s a p [] (h .bare) e) d)
+
+-- What stands next in a frame
+
+never : (p : ℕ) → Stop p ≡ Item′ → ⊥
+never p e = let z : _≡_ {A = ℕ} 0 1 = cc in omega arith
+
+pub next-item : (x : Item) → nextOf (itemAnswer x) ≡ Item′ → isTaken x ≡ true
+unfolding itemAnswer nextOf isTaken
+next-item (taken b rs rest) e = refl
+next-item (failed n o d rest) e = by (eqb n 5) (eqb n 6) e
+  where
+    by : (a b : Bool) → nextOf (cond a (Ragged o d (headAt rest)) (cond b (NoValue o (headAt rest) (headWhy rest)) (NoItem o))) ≡ Item′ → false ≡ true
+    by true b e = absurd (never (headAt rest) e)
+    by false true e = absurd (never (headAt rest) e)
+    by false false e = absurd (never o e)
+next-item (broken n o) e = by (eqb n 8) e
+  where
+    by : (a : Bool) → nextOf (cond a (NoNames o) (Over o)) ≡ Item′ → false ≡ true
+    by true e = absurd (never o e)
+    by false e = absurd (never o e)
+
+-- an answer that is told with a number is no success
+told-not : (x : Answer) (n o d : ℕ) → refusal (suc n) o d ≡ tells x → isDone x ≡ true → ⊥
+unfolding refusal tells room isDone
+told-not (done rs) n o d e h = let z : suc n ≡ 0 = ap (λ (y : Told). y .number) e in omega arith
+told-not (refused m x y) n o d e h = false≢true h
+
+stop-is : (p q : ℕ) → Stop p ≡ Stop q → p ≡ q
+stop-is p q e = cc
+
+pub next-stop : (s : List ℕ) (a o p : ℕ) → o ≤ length s → gap (drop o s) ≡ 0 → isDone (left (some a) s o []) ≡ true → nextOf (itemAt s o) ≡ Stop p → DroppedAt s a o p
+unfolding PassedInside nextOf told
+next-stop s a o p h g d e = by (itemAt s o) (item-inside s a o h g) e
+  where
+    by : (i : Answered) → PassedInside s a o (inFrameOf i) → nextOf i ≡ Stop p → DroppedAt s a o p
+    by (Loop n z w) x e = absurd (never p (sym e))
+    by (Single n z) x e = absurd (never p (sym e))
+    by (Ragged m k q) x e = rw (stop-is q p e) at x
+    by (NoValue m q w) x e = rw (stop-is q p e) at x
+    by (NoItem q) x e = rw (stop-is q p e) at x
+    by (NoNames q) x e = absurd (told-not (left (some a) s o []) 7 q 0 (x []) d)
+    by (Over q) x e = absurd (told-not (left (some a) s o []) 8 q 0 (x []) d)
+
+-- The block
+
+pub end-none : (s : List ℕ) (o : ℕ) → length s ≤ o → recsLeft none s o ≡ []
+unfolding answerRecs
+end-none s o h = rw (end-answer s o [] h)
+
+-- its heading
+pub heading : (s : List ℕ) (o w : ℕ) → o ≡ gapEnd s 0 → w ≡ word (drop o s) → isDone (decided s) ≡ true
+    → (startsAt keyData s o ≡ true) × (answerRecs (decided s) ≡ recAt 1 o w ∷ recsLeft none s (gapEnd s (o + w))) × (isDone (left none s (gapEnd s (o + w)) []) ≡ true)
+heading s o w q z d = by (startsAt keyData s o) refl
+  where
+    g : gap (drop o s) ≡ 0
+    g = rw q (gap-none s 0)
+
+    from : decided s ≡ blockAt s o
+    from = rw q (decided-from s)
+
+    read : startsAt keyData s o ≡ true → decided s ≡ prefixed (recAt 1 o w ∷ []) (left none s (gapEnd s (o + w)) [])
+    read e =
+        let m : Met before s o (lexed block w) = rw z (met-data s o g e) in
+        from ∙ begun m ∙ sym (left-gap none s (o + w) (recAt 1 o w ∷ [])) ∙ left-prefix none s (gapEnd s (o + w)) (recAt 1 o w ∷ [])
+      where
+        begun : Met before s o (lexed block w) → blockAt s o ≡ left none s (o + w) (recAt 1 o w ∷ [])
+        begun m = unfold lexed tok rec in begin-reads s o w m
+
+    rest : (a : Answer) → left none s (gapEnd s (o + w)) [] ≡ a → decided s ≡ prefixed (recAt 1 o w ∷ []) a
+        → (answerRecs (decided s) ≡ recAt 1 o w ∷ recsLeft none s (gapEnd s (o + w))) × (isDone (left none s (gapEnd s (o + w)) []) ≡ true)
+    rest (done rs) e h = unfold prefixed answerRecs isDone in (rw (h, e), rw e)
+    rest (refused n x y) e h =
+        let f : isDone (decided s) ≡ false = unfold prefixed isDone in rw h in
+        absurd (false≢true (sym f ∙ d))
+
+    by : (t : Bool) → startsAt keyData s o ≡ t → (t ≡ true) × (answerRecs (decided s) ≡ recAt 1 o w ∷ recsLeft none s (gapEnd s (o + w))) × (isDone (left none s (gapEnd s (o + w)) []) ≡ true)
+    by true e = let r = rest (left none s (gapEnd s (o + w)) []) refl (read e) in (refl, r .0, r .1)
+    by false e = absurd (told-not (decided s) 2 o 0 (rw from (unfold told in no-data s o g e)) d)
