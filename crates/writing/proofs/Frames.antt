@@ -95,7 +95,7 @@ item-shut s o h g t = by (startsAt keyLoop s o) refl
         record { init = recAt 4 o w ∷ []; last = recAt (p .kind) (gapEnd s (o + w)) (p .size); same = p .recs; tag = k .0; count = k .1 }
 
 -- the cursor behind space and comments writes on as before
-onward-trim : (full : Bool) (s : List ℕ) (rs ls : List Rec) (d : Desk) (c h : Cursor) (l a : List ℕ) → h ≡ behindGap s c → Onward full s rs d ls (desk c l a) → Onward full s rs d ls (desk h l a)
+pub onward-trim : (full : Bool) (s : List ℕ) (rs ls : List Rec) (d : Desk) (c h : Cursor) (l a : List ℕ) → h ≡ behindGap s c → Onward full s rs d ls (desk c l a) → Onward full s rs d ls (desk h l a)
 onward-trim full s rs ls d c h l a q o =
     record {
       at = rw (trim-at s c h q) (o .at);
@@ -222,6 +222,26 @@ module _ (full : Bool) (s : List ℕ) (b : ℕ) (d : Desk) (a : Ahead full s (so
       let c = close-steps s b here p h (a .reads) in
       rw (w .trim) (one-moved full s (some b) none d (w .behind) _ (recAt 3 p 5) (p + 5) a (omega (arith, h .onward)) (c .1) refl (w .wrote) refl)
 
+-- In a frame that opened at b: from its heading, at the desk d₁, on
+pub record Inside (full : Bool) (s : List ℕ) (b : ℕ) (d₁ d : Desk) : Type 0 where
+  pub ahead : Ahead full s (some b) d
+  pub onward : Onward full s (recsLeft (some b) s (d₁ .cursor .place .offset)) d₁ (recsLeft (some b) s (d .cursor .place .offset)) d
+  pub further : d₁ .cursor .place .offset ≤ d .cursor .place .offset
+
+pub inside-start : (full : Bool) (s : List ℕ) (b : ℕ) (d : Desk) → Ahead full s (some b) d → Inside full s b d d
+inside-start full s b d a = record { ahead = a; onward = onward-here full s _ d; further = omega arith }
+
+pub inside-next : (full : Bool) (s : List ℕ) (b : ℕ) (d₁ d e : Desk) → Inside full s b d₁ d → Moved full s (some b) d (some b) e → Inside full s b d₁ e
+inside-next full s b d₁ d e i m = record { ahead = m .ahead; onward = onward-then full s _ _ _ d₁ d e (i .onward) (m .onward); further = omega (arith, i .further, m .further) }
+
+pub frame-all : (full : Bool) (s : List ℕ) (b : ℕ) (d₀ d₁ d e : Desk) → Moved full s none d₀ (some b) d₁ → Inside full s b d₁ d → Moved full s (some b) d none e → Moved full s none d₀ none e
+frame-all full s b d₀ d₁ d e h i m =
+    record {
+      ahead = m .ahead;
+      onward = onward-then full s _ _ _ d₀ d₁ e (h .onward) (onward-then full s _ _ _ d₁ d e (i .onward) (m .onward));
+      further = omega (arith, h .further, i .further, m .further);
+    }
+
 -- Items of the block
 
 module _ (full : Bool) (s : List ℕ) (d : Desk) (a : Ahead full s none d) (l : d .cursor .place .offset < length s) (k : startsAt keySave s (d .cursor .place .offset) ≡ false) where
@@ -234,6 +254,17 @@ module _ (full : Bool) (s : List ℕ) (d : Desk) (a : Ahead full s none d) (l : 
 
   pub block-item-moved : (e : Desk) → WroteItem full s d e → Moved full s none d none e
   block-item-moved e w = item-moved full s none d e a (block-steps .0) (block-steps .1) w
+
+-- From the desk d₀ on
+pub record InBlock (full : Bool) (s : List ℕ) (d₀ d : Desk) : Type 0 where
+  pub ahead : Ahead full s none d
+  pub onward : Onward full s (recsLeft none s (d₀ .cursor .place .offset)) d₀ (recsLeft none s (d .cursor .place .offset)) d
+
+pub block-start : (full : Bool) (s : List ℕ) (d : Desk) → Ahead full s none d → InBlock full s d d
+block-start full s d a = record { ahead = a; onward = onward-here full s _ d }
+
+pub block-next : (full : Bool) (s : List ℕ) (d₀ d e : Desk) → InBlock full s d₀ d → Moved full s none d none e → InBlock full s d₀ e
+block-next full s d₀ d e i m = record { ahead = m .ahead; onward = onward-then full s _ _ _ d₀ d e (i .onward) (m .onward) }
 
 -- The end of the text
 pub block-ended : (full : Bool) (s : List ℕ) (rs : List Rec) (d₀ d : Desk) → Ahead full s none d → length s ≤ d .cursor .place .offset → Onward full s rs d₀ (recsLeft none s (d .cursor .place .offset)) d → Wrote full s rs (length s) d₀ d

@@ -13,3 +13,4 @@ pub mod Items
 pub mod Prefix
 pub mod Rest
 pub mod Frames
+pub mod Block

@@ -1,3 +1,13 @@
+use borrow.Author.Needs.{needs}
+use Prim.Native.Nat.{_-_}
+use mathlib.Core.Path.{_≡_, refl, sym, ap, _∙_}
+use native.Mathlib.Omega.{arith}
+use lib.ListN.{length}
+use Rattle.words.proofs.Words.{word-from}
+use Rattle.records.specs.Kinds.{kindOf, shapeOf}
+use Rattle.items.specs.Reading.{limit}
+use Rattle.writing.specs.Walk.{desk}
+use Rattle.writing.proofs.Frames.{Inside, inside-start, inside-next, frame-all, heading-token, heading-room, heading-moved, frame-item-here, frame-item-moved, frame-closing, frame-closed}
 use Rattle.writing.proofs.write_frame.Statement.{statement}
 use Rattle.writing.proofs.write_frame.Tie as tie
 use Rattle.writing.proofs.write_frame.Reads as reads
@@ -10,69 +20,158 @@ use Rattle.writing.proofs.write_item.Reads as write-item-reads
 use Rattle.writing.proofs.write_text.Reads as write-text-reads
 
 abbrev Inv-loop : tie.InvT-loop
-Inv-loop s full store₀ area₀ start end here₀ store area here = ?
+Inv-loop s full store₀ area₀ start end here₀ store area here = Inside full s start (desk here₀ store₀ area₀) (desk here store area)
 
 abbrev μ-loop : tie.MeasureT-loop
-μ-loop s full store₀ area₀ start end here₀ store area here = ?
+μ-loop s full store₀ area₀ start end here₀ store area here = length s - here .place .offset
 
--- src/lib.rt:416:9
 parse-identifier-requires : tie.Need-parse-identifier-requires Inv-loop μ-loop
-parse-identifier-requires c κs = ?
+parse-identifier-requires c κs = tt
 
--- src/lib.rt:417:70
 sub-write-text : tie.Need-sub-write-text Inv-loop μ-loop
-sub-write-text c = ?
+sub-write-text c = omega (arith, c .before .before .parse-identifier .ensures, word-from (c .before .before .before .before .before .before .before .args .s .now) (c .before .before .before .before .before .before .before .args .c .place .offset))
 
--- src/lib.rt:417:31
 write-text-requires : tie.Need-write-text-requires Inv-loop μ-loop
-write-text-requires c κs = ?
+write-text-requires c κs =
+    let a = c .before .before .before .before .before .before .before .args in
+    let s = a .s .now in
+    let f = a .full in
+    let d₀ = desk (a .c) (a .store .now) (a .area .now) in
+    let p = c .before .before .before .before .before .before .before .pre in
+    let q = ap (λ x. x - a .c .place .offset) (c .before .before .parse-identifier .ensures) in
+    (p .0 .going, heading-token f s d₀ (p .0) (p .1) _ q, unfold kindOf shapeOf in refl, heading-room f s d₀ (p .0) (p .1) _ q)
 
--- src/lib.rt:417:9
 trimmed-requires : tie.Need-trimmed-requires Inv-loop μ-loop
-trimmed-requires c κs = ?
+trimmed-requires c κs = c .before .before .before .before .write-text .ensures .going .place
 
--- src/lib.rt:418:5
 loop-holds : tie.Need-loop-holds Inv-loop μ-loop
-loop-holds c = ?
+loop-holds c =
+    let a = c .before .before .before .before .before .before .before .before .before .before .before .before .before .args in
+    let s = a .s .now in
+    let f = a .full in
+    let d₀ = desk (a .c) (a .store .now) (a .area .now) in
+    let p = c .before .before .before .before .before .before .before .before .before .before .before .before .before .pre in
+    let q = ap (λ x. x - a .c .place .offset) (c .before .before .before .before .before .before .before .before .parse-identifier .ensures) in
+    inside-start f s _ _ (heading-moved f s d₀ (p .0) (p .1) _ q _ _ (c .before .before .before .before .before .write-text .ensures) (c .trimmed .ensures) .ahead)
 
--- src/lib.rt:421:36
 next-in-frame-requires : tie.Need-next-in-frame-requires Inv-loop μ-loop
-next-in-frame-requires c κs = ?
+next-in-frame-requires c κs =
+    let a = c .before .before .before .before .before .before .before .before .before .before .before .before .before .before .before .args in
+    let s = a .s .now in
+    let f = a .full in
+    let d₀ = desk (a .c) (a .store .now) (a .area .now) in
+    let p = c .before .before .before .before .before .before .before .before .before .before .before .before .before .before .before .pre in
+    let l = c .before .loop in
+    let b = a .c .place .offset in
+    let d = desk (l .here) (l .store) (l .area) in
+    let h = l .inv .ahead in
+    unfold limit in record { within = h .going .place .within; small = h .going .short; none = h .bare }
 
--- src/lib.rt:421:29
 enum-known-at : tie.Need-enum-known-at Inv-loop μ-loop
-enum-known-at c = ?
+enum-known-at c = c .match .keys1
 
--- src/lib.rt:422:13
 close-frame-requires : tie.Need-close-frame-requires Inv-loop μ-loop
-close-frame-requires c κs = ?
+close-frame-requires c κs =
+    let a = c .before .before .before .before .before .before .before .before .before .before .before .before .before .before .before .before .before .before .before .before .args in
+    let s = a .s .now in
+    let f = a .full in
+    let d₀ = desk (a .c) (a .store .now) (a .area .now) in
+    let p = c .before .before .before .before .before .before .before .before .before .before .before .before .before .before .before .before .before .before .before .before .pre in
+    let l = c .before .before .before .before .before .before .loop in
+    let b = a .c .place .offset in
+    let d = desk (l .here) (l .store) (l .area) in
+    let h = l .inv .ahead in
+    let n = sym (c .before .before .before .before .next-in-frame .ensures) ∙ c .before .before .at .given .1 in
+    let k = frame-closing f s b d h _ n in
+    (h .going, k .0, k .1 .store)
 
--- src/lib.rt:422:13
 same-length : tie.Need-same-length Inv-loop μ-loop
-same-length c = ?
+same-length c =
+    let a = c .before .before .before .before .before .before .before .before .before .before .before .before .before .before .before .before .before .before .before .before .before .before .before .args in
+    let s = a .s .now in
+    let f = a .full in
+    let d₀ = desk (a .c) (a .store .now) (a .area .now) in
+    let p = c .before .before .before .before .before .before .before .before .before .before .before .before .before .before .before .before .before .before .before .before .before .before .before .pre in
+    let q = ap (λ x. x - a .c .place .offset) (c .before .before .before .before .before .before .before .before .before .before .before .before .before .before .before .before .before .before .parse-identifier .ensures) in
+    let l = c .before .before .before .before .before .before .before .before .before .loop in
+    let b = a .c .place .offset in
+    let d = desk (l .here) (l .store) (l .area) in
+    let h = l .inv .ahead in
+    let n = sym (c .before .before .before .before .before .before .before .next-in-frame .ensures) ∙ c .before .before .before .before .before .at .given .1 in
+    frame-all f s b d₀ _ d _ (heading-moved f s d₀ (p .0) (p .1) _ q _ _ (c .before .before .before .before .before .before .before .before .before .before .before .before .before .before .before .write-text .ensures) (c .before .before .before .before .before .before .before .before .before .before .trimmed .ensures)) (l .inv) (frame-closed f s b d h _ _ n (c .before .before .close-frame .ensures (l .area))) .onward .store-length
 
--- src/lib.rt:422:13
 same-length-2 : tie.Need-same-length-2 Inv-loop μ-loop
-same-length-2 c = ?
+same-length-2 c =
+    let a = c .before .before .before .before .before .before .before .before .before .before .before .before .before .before .before .before .before .before .before .before .before .before .before .args in
+    let s = a .s .now in
+    let f = a .full in
+    let d₀ = desk (a .c) (a .store .now) (a .area .now) in
+    let p = c .before .before .before .before .before .before .before .before .before .before .before .before .before .before .before .before .before .before .before .before .before .before .before .pre in
+    let q = ap (λ x. x - a .c .place .offset) (c .before .before .before .before .before .before .before .before .before .before .before .before .before .before .before .before .before .before .parse-identifier .ensures) in
+    let l = c .before .before .before .before .before .before .before .before .before .loop in
+    let b = a .c .place .offset in
+    let d = desk (l .here) (l .store) (l .area) in
+    let h = l .inv .ahead in
+    let n = sym (c .before .before .before .before .before .before .before .next-in-frame .ensures) ∙ c .before .before .before .before .before .at .given .1 in
+    frame-all f s b d₀ _ d _ (heading-moved f s d₀ (p .0) (p .1) _ q _ _ (c .before .before .before .before .before .before .before .before .before .before .before .before .before .before .before .write-text .ensures) (c .before .before .before .before .before .before .before .before .before .before .trimmed .ensures)) (l .inv) (frame-closed f s b d h _ _ n (c .before .before .close-frame .ensures (l .area))) .onward .area-length
 
--- src/lib.rt:422:13
 returns : tie.Need-returns Inv-loop μ-loop
-returns c = ?
+returns c =
+    let a = c .before .before .before .before .before .before .before .before .before .before .before .before .before .before .before .before .before .before .before .before .before .before .before .args in
+    let s = a .s .now in
+    let f = a .full in
+    let d₀ = desk (a .c) (a .store .now) (a .area .now) in
+    let p = c .before .before .before .before .before .before .before .before .before .before .before .before .before .before .before .before .before .before .before .before .before .before .before .pre in
+    let q = ap (λ x. x - a .c .place .offset) (c .before .before .before .before .before .before .before .before .before .before .before .before .before .before .before .before .before .before .parse-identifier .ensures) in
+    let l = c .before .before .before .before .before .before .before .before .before .loop in
+    let b = a .c .place .offset in
+    let d = desk (l .here) (l .store) (l .area) in
+    let h = l .inv .ahead in
+    let n = sym (c .before .before .before .before .before .before .before .next-in-frame .ensures) ∙ c .before .before .before .before .before .at .given .1 in
+    frame-all f s b d₀ _ d _ (heading-moved f s d₀ (p .0) (p .1) _ q _ _ (c .before .before .before .before .before .before .before .before .before .before .before .before .before .before .before .write-text .ensures) (c .before .before .before .before .before .before .before .before .before .before .trimmed .ensures)) (l .inv) (frame-closed f s b d h _ _ n (c .before .before .close-frame .ensures (l .area)))
 
 enum-told : tie.Need-enum-told Inv-loop μ-loop
-enum-told c = ?
+enum-told c = search needs
 
--- src/lib.rt:424:9
 write-item-requires : tie.Need-write-item-requires Inv-loop μ-loop
-write-item-requires c κs = ?
+write-item-requires c κs =
+    let a = c .before .before .before .before .before .before .before .before .before .before .before .before .before .before .before .before .before .before .before .before .args in
+    let s = a .s .now in
+    let f = a .full in
+    let d₀ = desk (a .c) (a .store .now) (a .area .now) in
+    let p = c .before .before .before .before .before .before .before .before .before .before .before .before .before .before .before .before .before .before .before .before .pre in
+    let l = c .before .before .before .before .before .before .loop in
+    let b = a .c .place .offset in
+    let d = desk (l .here) (l .store) (l .area) in
+    let h = l .inv .ahead in
+    frame-item-here f s b d h (sym (c .before .before .before .before .next-in-frame .ensures) ∙ c .before .before .enum-told .given .1)
 
--- src/lib.rt:418:5
 loop-less : tie.Need-loop-less Inv-loop μ-loop
-loop-less c = ?
+loop-less c =
+    let a = c .before .before .before .before .before .before .before .before .before .before .before .before .before .before .before .before .before .before .before .before .before .before .before .before .before .args in
+    let s = a .s .now in
+    let f = a .full in
+    let d₀ = desk (a .c) (a .store .now) (a .area .now) in
+    let p = c .before .before .before .before .before .before .before .before .before .before .before .before .before .before .before .before .before .before .before .before .before .before .before .before .before .pre in
+    let l = c .before .before .before .before .before .before .before .before .before .before .before .loop in
+    let b = a .c .place .offset in
+    let d = desk (l .here) (l .store) (l .area) in
+    let h = l .inv .ahead in
+    let m = frame-item-moved f s b d h _ (sym (c .before .before .before .before .before .before .before .before .before .next-in-frame .ensures) ∙ c .before .before .before .before .before .before .before .enum-told .given .1) (c .before .before .before .before .write-item .ensures) in
+    omega (arith, m .further, m .ahead .going .place .within)
 
--- src/lib.rt:418:5
 loop-again : tie.Need-loop-again Inv-loop μ-loop
-loop-again c = ?
+loop-again c =
+    let a = c .before .before .before .before .before .before .before .before .before .before .before .before .before .before .before .before .before .before .before .before .before .before .before .before .before .args in
+    let s = a .s .now in
+    let f = a .full in
+    let d₀ = desk (a .c) (a .store .now) (a .area .now) in
+    let p = c .before .before .before .before .before .before .before .before .before .before .before .before .before .before .before .before .before .before .before .before .before .before .before .before .before .pre in
+    let l = c .before .before .before .before .before .before .before .before .before .before .before .loop in
+    let b = a .c .place .offset in
+    let d = desk (l .here) (l .store) (l .area) in
+    let h = l .inv .ahead in
+    inside-next f s b _ d _ (l .inv) (frame-item-moved f s b d h _ (sym (c .before .before .before .before .before .before .before .before .before .next-in-frame .ensures) ∙ c .before .before .before .before .before .before .before .enum-told .given .1) (c .before .before .before .before .write-item .ensures))
 
 pub write-frame-spec : {M : Type 1} → statement M
 write-frame-spec =
