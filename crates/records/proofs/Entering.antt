@@ -1,13 +1,13 @@
 -- Laws of the record at an offset: nothing past the end, at a byte that is no kind, and where the body does not fit; else the record. Assumes nothing.
-use Prim.Native.Nat.{ℕ, suc, _+_, _-_, _≤_, _<_}
-use mathlib.Core.Path.{_≡_, refl, sym, ap, _∙_}
+use Prim.Native.Nat.{ℕ, _+_, _-_, _≤_, _<_}
+use mathlib.Core.Path.{_≡_, refl, ap, _∙_}
 use mathlib.Core.Bool.{Bool, true, false, cond, _&&_}
 use mathlib.Core.List.{List, [], _∷_}
 use native.Mathlib.Omega.{arith}
 use native.Mathlib.Nat.{add-zero}
 use native.Mathlib.Numerals.{add-one}
-use borrow.Author.Tests.{lt-ltb, le-ltb, le-leb, lt-leb, leb-true}
-use lib.Dec.{leb, ltb}
+use borrow.Author.Tests.{lt-ltb, le-leb, lt-leb, leb-true}
+use lib.Dec.{leb}
 use lib.ListN.{length, drop, getD, length-drop, drop-of-length-le}
 use lib.Seq.{drop-cons, getD-drop}
 use Rattle.text.proofs.Bools.{and-l, and-r}

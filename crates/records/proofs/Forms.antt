@@ -1,6 +1,6 @@
 -- Laws of the records' bytes: their lengths, and how they come about field by field. Assumes nothing.
-use Prim.Native.Nat.{ℕ, _+_, _-_, _%_, _/_, _≤_, _<_}
-use mathlib.Core.Path.{_≡_, refl, ap, _∙_}
+use Prim.Native.Nat.{ℕ, _+_, _%_, _/_, _≤_, _<_}
+use mathlib.Core.Path.{_≡_, refl, _∙_}
 use mathlib.Core.List.{List, [], _∷_, _++_, append-assoc}
 use native.Mathlib.Omega.{arith}
 use lib.ListN.{length}
@@ -68,18 +68,27 @@ unfolding bodyLength kindOf shapeOf shapeLength
 uncertain-whole t d = length-uncertain t d
 
 -- in the outline every record but kind 7 is its kind's byte and P
-outlined : (s : Shape) → 0 < shapeLength s → shapeLength (outlineShape s) ≡ 16
+pub outline-none : (s : Shape) → shapeLength s ≡ 0 → shapeLength (outlineShape s) ≡ 0
 unfolding shapeLength outlineShape
-outlined Empty h = absurd (omega arith)
-outlined Place h = refl
-outlined Content h = refl
-outlined Count h = refl
-outlined Parts h = refl
-outlined PartsUncertain h = refl
+outline-none Empty e = refl
+outline-none Place e = e
+outline-none Content e = absurd (omega arith)
+outline-none Count e = absurd (omega arith)
+outline-none Parts e = absurd (omega arith)
+outline-none PartsUncertain e = absurd (omega arith)
+
+pub outline-place : (s : Shape) → 0 < shapeLength s → shapeLength (outlineShape s) ≡ 16
+unfolding shapeLength outlineShape
+outline-place Empty h = absurd (omega arith)
+outline-place Place h = refl
+outline-place Content h = refl
+outline-place Count h = refl
+outline-place Parts h = refl
+outline-place PartsUncertain h = refl
 
 pub outline-whole : (k : ℕ) (t : Token) → 0 < bodyLength k → length (placeRecord k t) ≡ 1 + outlineLength k
 unfolding bodyLength outlineLength
-outline-whole k t h = rw (outlined (shapeOf (kindOf k)) h) (length-place k t)
+outline-whole k t h = rw (outline-place (shapeOf (kindOf k)) h) (length-place k t)
 
 -- eight bytes by two fours
 pub long-put : (at v : ℕ) (l : List ℕ) → at + 8 ≤ length l → put (at + 4) (le32 (v / 4294967296)) (put at (le32 (v % 4294967296)) l) ≡ put at (le64 v) l

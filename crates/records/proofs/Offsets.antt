@@ -1,12 +1,10 @@
 -- What bytes give from an offset on, by the bytes of the whole. Assumes nothing.
 use Prim.Native.Nat.{ℕ, _+_, _*_}
-use mathlib.Core.Path.{_≡_, refl}
+use mathlib.Core.Path.{_≡_}
 use mathlib.Core.List.{List}
 use native.Mathlib.Nat.{add-zero}
 use lib.ListN.{drop, getD}
 use lib.Seq.{getD-drop, drop-drop}
-use Rattle.records.specs.declared.Token.{Token}
-use Rattle.records.specs.declared.Parts.{Parts}
 use Rattle.records.specs.Entries.{de32, de64, tokenOf, partsOf}
 
 pub de32-at : (s : List ℕ) (at : ℕ) → de32 (drop at s) ≡ getD s at 0 + getD s (at + 1) 0 * 256 + getD s (at + 2) 0 * 65536 + getD s (at + 3) 0 * 16777216

@@ -1,5 +1,5 @@
 -- Little-endian numbers. Assumes nothing.
-use Prim.Native.Nat.{ℕ, _+_, _-_, _*_, _%_, _/_, _^_}
+use Prim.Native.Nat.{ℕ, _-_, _%_, _/_}
 use mathlib.Core.Bool.{Bool, cond}
 use mathlib.Core.List.{List, [], _∷_, _++_}
 

@@ -7,7 +7,7 @@ ghost use Rattle.records.specs.Kinds.{kindOf, numberOf, shapeOf, shapeLe
 ghost use Rattle.records.specs.Bytes.{le32, le64, signed32, flag};
 ghost use Rattle.records.specs.Put.{front, put};
 ghost use Rattle.records.specs.Records.{tokenBytes, decimalBytes, endRecord, placeRecord, contentRecord, loopRecord, numberRecord, uncertainRecord};
-ghost use Rattle.records.specs.Entries.{de32, de64, tokenOf, partsOf, noToken, noParts, fieldsOf, entryAt};
+ghost use Rattle.records.specs.Entries.{de32, de64, tokenOf, partsOf, noParts, noFields, plainFields, partsFields, fieldsOf, entryAt};
 use numbers::Decimal;
 
 // The kinds of records, as document 01 numbers them; `NoKind` stands for every other number.
@@ -61,6 +61,7 @@ impl Kind {
     // Sign, integer, fraction, fraction digits and exponent.
     pub const PARTS: usize = 18;
 
+    // What kind 15 has besides.
     pub const UNCERTAINTY: usize = 4;
 
     // `data_` and `save_`.
@@ -69,9 +70,10 @@ impl Kind {
     // `_`.
     pub const TAG_MARKS: usize = 1;
 
-    // Two marks around a content, one of them before it.
+    // Two marks around a content.
     pub const QUOTE_MARKS: usize = 2;
 
+    // One of them before it.
     pub const QUOTE_OPENING: usize = 1;
 
     // The kind of a number.
@@ -188,11 +190,10 @@ pub fn body_length(kind: u8) -> usize
 pub fn outline_length(kind: u8) -> usize
     ensures { λ r. ⌜ r ≡ outlineLength kind ⌝ }
 {
-    let shape = Kind::of(kind).shape();
-    match shape {
-        Shape::Empty => 0,
-        _ => Kind::PLACE,
+    if body_length(kind) == 0 {
+        return 0;
     }
+    Kind::PLACE
 }
 
 // Where a record's body goes on behind P, and behind the decimal parts.
@@ -200,6 +201,7 @@ const BEHIND_PLACE: usize = 1 + Kind::PLACE;
 
 const BEHIND_PARTS: usize = 1 + Kind::PLACE + Kind::PARTS;
 
+// One byte at an offset.
 fn put_u8(store: &mut [u8], at: usize, v: u8)
     requires { ⌜ at < length (now store) ⌝ }
     ensures { λ r. ⌜ now (store .exit) ≡ put at (v ∷ []) (now (store .entry)) ⌝ }
@@ -207,6 +209,7 @@ fn put_u8(store: &mut [u8], at: usize, v: u8)
     store[at] = v;
 }
 
+// Four bytes from an offset on, the lowest first.
 fn put_u32(store: &mut [u8], at: usize, v: u32)
     requires { ⌜ at + 4 ≤ length (now store) ⌝ }
     ensures { λ r. ⌜ now (store .exit) ≡ put at (le32 v) (now (store .entry)) ⌝ }
@@ -217,6 +220,7 @@ fn put_u32(store: &mut [u8], at: usize, v: u32)
     store[at + 3] = (v / 16777216 % 256) as u8;
 }
 
+// Eight bytes from an offset on.
 fn put_u64(store: &mut [u8], at: usize, v: u64)
     requires { ⌜ at + 8 ≤ length (now store) ⌝ }
     ensures { λ r. ⌜ now (store .exit) ≡ put at (le64 v) (now (store .entry)) ⌝ }
@@ -225,6 +229,7 @@ fn put_u64(store: &mut [u8], at: usize, v: u64)
     put_u32(store, at + 4, (v / 4294967296) as u32);
 }
 
+// P from an offset on.
 fn put_token(store: &mut [u8], at: usize, t: Token)
     requires { ⌜ at + 16 ≤ length (now store) ⌝ }
     ensures { λ r. ⌜ now (store .exit) ≡ put at (tokenBytes t) (now (store .entry)) ⌝ }
@@ -258,6 +263,7 @@ fn signed(minus: bool, size: u32) -> u32
     size
 }
 
+// Decimal parts from an offset on, without the uncertainty.
 fn put_decimal(store: &mut [u8], at: usize, d: Decimal)
     requires { ⌜ (at + 18 ≤ length (now store)) × (d .places < 256) ⌝ }
     ensures { λ r. ⌜ now (store .exit) ≡ put at (decimalBytes d) (now (store .entry)) ⌝ }
@@ -300,8 +306,7 @@ pub fn write_loop(rest: &mut [u8], t: Token, tags: u32)
     requires { ⌜ 21 ≤ length (now rest) ⌝ }
     ensures { λ r. ⌜ now (rest .exit) ≡ front (loopRecord t tags) (now (rest .entry)) ⌝ }
 {
-    write_place(rest, 5, t);
-    put_u32(rest, BEHIND_PLACE, tags);
+    write_content(rest, 5, t, tags);
 }
 
 // A number: P and decimal parts.
@@ -358,6 +363,7 @@ fn joined(a: u8, b: u8, c: u8, d: u8) -> u32
     a as u32 + b as u32 * 256 + c as u32 * 65536 + d as u32 * 16777216
 }
 
+// The number that four bytes give.
 fn u32_at(store: &[u8], at: usize) -> u32
     requires { ⌜ at + 4 ≤ length (now store) ⌝ }
     ensures { λ r. ⌜ r ≡ de32 (drop at (now (store .entry))) ⌝ }
@@ -365,6 +371,7 @@ fn u32_at(store: &[u8], at: usize) -> u32
     joined(store[at], store[at + 1], store[at + 2], store[at + 3])
 }
 
+// The number that eight bytes give.
 fn u64_at(store: &[u8], at: usize) -> u64
     requires { ⌜ at + 8 ≤ length (now store) ⌝ }
     ensures { λ r. ⌜ r ≡ de64 (drop at (now (store .entry))) ⌝ }
@@ -374,6 +381,7 @@ fn u64_at(store: &[u8], at: usize) -> u64
     low as u64 + high as u64 * 4294967296
 }
 
+// P at an offset.
 fn token_at(store: &[u8], at: usize) -> Token
     requires { ⌜ at + 16 ≤ length (now store) ⌝ }
     ensures { λ r. ⌜ r ≡ tokenOf (drop at (now (store .entry))) ⌝ }
@@ -386,6 +394,7 @@ fn token_at(store: &[u8], at: usize) -> Token
     }
 }
 
+// Decimal parts at an offset, with an uncertainty that was read.
 fn parts_at(store: &[u8], at: usize, uncertainty: u32) -> Parts
     requires { ⌜ at + 18 ≤ length (now store) ⌝ }
     ensures { λ r. ⌜ r ≡ partsOf (drop at (now (store .entry))) uncertainty ⌝ }
@@ -400,18 +409,7 @@ fn parts_at(store: &[u8], at: usize, uncertainty: u32) -> Parts
     }
 }
 
-// What a shape has not.
-fn no_token() -> Token
-    ensures { λ r. ⌜ r ≡ noToken ⌝ }
-{
-    Token {
-        offset: 0,
-        length: 0,
-        line: 0,
-        column: 0,
-    }
-}
-
+// The parts of a body that has none.
 fn no_parts() -> Parts
     ensures { λ r. ⌜ r ≡ noParts ⌝ }
 {
@@ -425,45 +423,63 @@ fn no_parts() -> Parts
     }
 }
 
+// What an empty body holds.
+fn no_fields() -> Fields
+    ensures { λ r. ⌜ r ≡ noFields ⌝ }
+{
+    let token = Token {
+        offset: 0,
+        length: 0,
+        line: 0,
+        column: 0,
+    };
+    Fields {
+        token,
+        number: 0,
+        parts: no_parts(),
+    }
+}
+
+// P and a number.
+fn plain_fields(store: &[u8], at: usize, number: u32) -> Fields
+    requires { ⌜ at + 16 ≤ length (now store) ⌝ }
+    ensures { λ r. ⌜ r ≡ plainFields (drop at (now (store .entry))) number ⌝ }
+{
+    Fields {
+        token: token_at(store, at),
+        number,
+        parts: no_parts(),
+    }
+}
+
+// P and decimal parts.
+fn parts_fields(store: &[u8], at: usize, uncertainty: u32) -> Fields
+    requires { ⌜ at + 34 ≤ length (now store) ⌝ }
+    ensures { λ r. ⌜ r ≡ partsFields (drop at (now (store .entry))) uncertainty ⌝ }
+{
+    Fields {
+        token: token_at(store, at),
+        number: 0,
+        parts: parts_at(store, at + Kind::PLACE, uncertainty),
+    }
+}
+
 // A body by its shape.
 fn fields_at(store: &[u8], at: usize, shape: Shape) -> Fields
     requires { ⌜ at + shapeLength shape ≤ length (now store) ⌝ }
     ensures { λ r. ⌜ r ≡ fieldsOf shape (drop at (now (store .entry))) ⌝ }
 {
     match shape {
-        Shape::Empty => Fields {
-            token: no_token(),
-            number: 0,
-            parts: no_parts(),
-        },
-        Shape::Place => Fields {
-            token: token_at(store, at),
-            number: 0,
-            parts: no_parts(),
-        },
-        Shape::Content => Fields {
-            token: token_at(store, at),
-            number: u32_at(store, at + Kind::PLACE),
-            parts: no_parts(),
-        },
-        Shape::Count => Fields {
-            token: token_at(store, at),
-            number: u32_at(store, at + Kind::PLACE),
-            parts: no_parts(),
-        },
-        Shape::Parts => Fields {
-            token: token_at(store, at),
-            number: 0,
-            parts: parts_at(store, at + Kind::PLACE, 0),
-        },
-        Shape::PartsUncertain => {
-            let uncertainty = u32_at(store, at + (Kind::PLACE + Kind::PARTS));
-            Fields {
-                token: token_at(store, at),
-                number: 0,
-                parts: parts_at(store, at + Kind::PLACE, uncertainty),
-            }
-        }
+        Shape::Empty => no_fields(),
+        Shape::Place => plain_fields(store, at, 0),
+        Shape::Content => plain_fields(store, at, u32_at(store, at + Kind::PLACE)),
+        Shape::Count => plain_fields(store, at, u32_at(store, at + Kind::PLACE)),
+        Shape::Parts => parts_fields(store, at, 0),
+        Shape::PartsUncertain => parts_fields(
+            store,
+            at,
+            u32_at(store, at + (Kind::PLACE + Kind::PARTS)),
+        ),
     }
 }
 

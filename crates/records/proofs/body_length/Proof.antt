@@ -1,3 +1,4 @@
+-- `records::body_length`: by the three functions that it asks. Assumes nothing.
 use borrow.Author.Needs.{needs}
 use Rattle.records.specs.Kinds.{bodyLength}
 use Rattle.records.proofs.body_length.Statement.{statement}

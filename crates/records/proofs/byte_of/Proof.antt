@@ -1,3 +1,4 @@
+-- `records::byte_of`: by its test. Assumes nothing.
 use Rattle.records.specs.Bytes.{flag}
 use Rattle.records.proofs.byte_of.Statement.{statement}
 use Rattle.records.proofs.byte_of.Tie as tie

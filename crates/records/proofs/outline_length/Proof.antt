@@ -1,26 +1,25 @@
+-- `records::outline_length`: an empty body, or P. Assumes nothing.
 use borrow.Author.Needs.{needs}
-use mathlib.Core.Path.{_∙_, ap}
-use Rattle.records.specs.Kinds.{outlineLength, outlineShape, shapeLength}
-use Rattle.records.proofs.Numbering.{outlined}
+use Prim.Native.Nat.{_<_}
+use mathlib.Core.Path.{_≡_, sym, _∙_}
+use native.Mathlib.Omega.{arith}
+use Rattle.records.specs.Kinds.{kindOf, shapeOf, bodyLength, outlineLength}
+use Rattle.records.proofs.Forms.{outline-none, outline-place}
 use Rattle.records.proofs.outline_length.Statement.{statement}
 use Rattle.records.proofs.outline_length.Tie as tie
 
-of-requires : tie.Need-of-requires
-of-requires c κs = search needs
-
-shape-requires : tie.Need-shape-requires
-shape-requires c κs = search needs
-
-enum-told : tie.Need-enum-told
-enum-told c = search needs
+body-length-requires : tie.Need-body-length-requires
+body-length-requires c κs = search needs
 
 returns : tie.Need-returns
-unfolding outlineLength outlineShape shapeLength
-returns c = rw (← c .before .before .before .of .ensures, ← c .before .before .shape .ensures, c .enum-told .given .1)
+unfolding bodyLength outlineLength
+returns c = sym (outline-none (shapeOf (kindOf (c .before .before .args .kind))) (sym (c .before .body-length .ensures) ∙ c .if1 .taken))
 
 returns-2 : tie.Need-returns-2
-unfolding outlineLength
-returns-2 c = rw (← c .before .before .of .ensures, ← c .before .shape .ensures) (outlined (c .before .shape .result) (c .match .keys2))
+unfolding bodyLength outlineLength
+returns-2 c =
+    let some : 0 < bodyLength (c .before .before .args .kind) = rw (← c .before .body-length .ensures) (omega arith) in
+    sym (outline-place (shapeOf (kindOf (c .before .before .args .kind))) some)
 
 pub outline-length-spec : {M : Type 1} → statement M
-outline-length-spec = tie.close (tie.spec of-requires shape-requires enum-told returns returns-2)
+outline-length-spec = tie.close (tie.spec body-length-requires returns returns-2)

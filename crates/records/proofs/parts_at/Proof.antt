@@ -1,3 +1,4 @@
+-- `records::parts_at`: part by part. Assumes nothing.
 use borrow.Author.Needs.{needs}
 use mathlib.Core.Path.{sym}
 use Rattle.records.proofs.Offsets.{parts-at}

@@ -1,3 +1,4 @@
+-- `records::put_decimal`: part by part. Assumes nothing.
 use borrow.Author.Needs.{needs}
 use Rattle.records.proofs.Forms.{decimal-put}
 use Rattle.records.proofs.put_decimal.Statement.{statement}

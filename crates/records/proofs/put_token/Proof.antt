@@ -1,3 +1,4 @@
+-- `records::put_token`: four numbers, one after the other. Assumes nothing.
 use borrow.Author.Needs.{needs}
 use Rattle.records.proofs.Forms.{token-put}
 use Rattle.records.proofs.put_token.Statement.{statement}

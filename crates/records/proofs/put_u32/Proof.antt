@@ -1,3 +1,4 @@
+-- `records::put_u32`: four stores, one after the other. Assumes nothing.
 use borrow.Author.Needs.{needs}
 use native.Mathlib.Omega.{arith}
 use lib.ListN.{length-set}

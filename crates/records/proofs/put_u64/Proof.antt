@@ -1,3 +1,4 @@
+-- `records::put_u64`: two fours make an eight. Assumes nothing.
 use borrow.Author.Needs.{needs}
 use Rattle.records.proofs.Forms.{long-put}
 use Rattle.records.proofs.put_u64.Statement.{statement}

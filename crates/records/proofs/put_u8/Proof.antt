@@ -1,3 +1,4 @@
+-- `records::put_u8`: one store. Assumes nothing.
 use borrow.Author.Needs.{needs}
 use Rattle.records.proofs.Putting.{set-put}
 use Rattle.records.proofs.put_u8.Statement.{statement}

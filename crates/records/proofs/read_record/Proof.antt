@@ -1,3 +1,4 @@
+-- `records::read_record`: each return by the tests that led there. Assumes nothing.
 use borrow.Author.Needs.{needs}
 use Prim.Native.Nat.{_<_, _≤_, _-_, _+_}
 use mathlib.Core.Path.{_≡_, sym, _∙_}

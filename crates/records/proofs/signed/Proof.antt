@@ -1,3 +1,4 @@
+-- `records::signed`: by its tests. Assumes nothing.
 use borrow.Author.Needs.{needs}
 use mathlib.Core.Path.{_≡_, ap}
 use native.Mathlib.Omega.{arith}

@@ -1,3 +1,4 @@
+-- `records::token_at`: four numbers. Assumes nothing.
 use borrow.Author.Needs.{needs}
 use mathlib.Core.Path.{sym}
 use Rattle.records.proofs.Offsets.{token-at}

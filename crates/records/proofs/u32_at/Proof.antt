@@ -1,3 +1,4 @@
+-- `records::u32_at`: the four bytes are those from the offset on. Assumes nothing.
 use borrow.Author.Needs.{needs}
 use mathlib.Core.Path.{sym, _∙_}
 use Rattle.records.proofs.Offsets.{de32-at}

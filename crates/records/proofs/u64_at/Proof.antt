@@ -1,5 +1,6 @@
+-- `records::u64_at`: two fours. Assumes nothing.
 use borrow.Author.Needs.{needs}
-use mathlib.Core.Path.{sym, _∙_}
+use mathlib.Core.Path.{sym}
 use Rattle.records.proofs.Offsets.{de64-at}
 use Rattle.records.proofs.u64_at.Statement.{statement}
 use Rattle.records.proofs.u64_at.Tie as tie

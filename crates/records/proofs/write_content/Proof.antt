@@ -1,3 +1,4 @@
+-- `records::write_content`: P and what follows. Assumes nothing.
 use borrow.Author.Needs.{needs}
 use Rattle.records.specs.Records.{contentRecord}
 use Rattle.records.proofs.Forms.{place-next}

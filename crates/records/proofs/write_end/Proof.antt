@@ -1,3 +1,4 @@
+-- `records::write_end`: one byte. Assumes nothing.
 use borrow.Author.Needs.{needs}
 use mathlib.Core.Path.{_∙_}
 use Rattle.records.specs.Records.{endRecord}

@@ -1,3 +1,4 @@
+-- `records::write_place`: the kind's byte and P. Assumes nothing.
 use borrow.Author.Needs.{needs}
 use Rattle.records.proofs.Forms.{place-front}
 use Rattle.records.proofs.write_place.Statement.{statement}

@@ -1,5 +1,5 @@
+-- `records::write_uncertain`: P, decimal parts and what follows. Assumes nothing.
 use borrow.Author.Needs.{needs}
-use mathlib.Core.Path.{_∙_}
 use Rattle.records.specs.Records.{uncertainRecord}
 use Rattle.records.proofs.Forms.{place-next, parts-next}
 use Rattle.records.proofs.write_uncertain.Statement.{statement}

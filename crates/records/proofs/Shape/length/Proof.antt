@@ -1,3 +1,4 @@
+-- `records::Shape::length`: each arm is its sum. Assumes nothing.
 use borrow.Author.Needs.{needs}
 use Rattle.records.specs.Kinds.{shapeLength}
 use Rattle.records.proofs.Shape.length.Statement.{statement}

@@ -1,0 +1,75 @@
+// Runs worked vectors through the leaves. Each line of standard input is a letter that names the leaf, a space and a text, in which `\` and two hexadecimal digits stand
+// for a byte; it is written back with what the leaf answers. Lines that are empty or start with `#` are written back as they are.
+mod leaves;
+mod lines;
+mod say;
+
+ghost use Prim.Native.Nat.{_≤_};
+ghost use lib.ListN.{length};
+use libc::STDIN_FILENO;
+
+fn leaves_of_text(leaf: u8, s: &[u8]) {
+    match leaf {
+        b'c' => leaves::classes(s),
+        b'a' => say::size(text::ascii_end(s)),
+        b'p' => leaves::place(text::place_at(s, s.len())),
+        b'g' => say::size(text::gap_end(s, 0)),
+        b'm' => leaves::moved(s),
+        _ => (),
+    }
+}
+
+fn leaves_of_words(leaf: u8, s: &[u8]) {
+    match leaf {
+        b'w' => say::size(words::parse_identifier(s, 0)),
+        b'r' => say::flag(words::is_reserved(s, 0)),
+        b'q' => leaves::closing(words::parse_enclosed(s, 1, b'\'')),
+        b'd' => leaves::closing(words::parse_enclosed(s, 1, b'"')),
+        b'f' => leaves::closing(words::parse_multiline_string(s, 1)),
+        b'n' => leaves::number(s),
+        b'v' => leaves::value(s),
+        _ => (),
+    }
+}
+
+fn leaves_of_records(leaf: u8, s: &[u8]) {
+    match leaf {
+        b'k' => leaves::kind(s),
+        b's' => leaves::record(s),
+        b'u' => leaves::number_record(s),
+        b'e' => leaves::entry(s),
+        _ => (),
+    }
+}
+
+// A line: written back, and behind it what its leaf answers.
+fn run_line(s: &mut [u8]) {
+    say::bytes(s);
+    let from = lines::text_start(s);
+    if from == 0 {
+        say::bytes(b"\n");
+        return;
+    }
+    say::bytes(b" ->");
+    let leaf = s[0];
+    let end = lines::unfold(s, from);
+    leaves_of_text(leaf, &s[from..end]);
+    leaves_of_words(leaf, &s[from..end]);
+    leaves_of_records(leaf, &s[from..end]);
+    say::bytes(b"\n");
+}
+
+fn run(s: &mut [u8]) {
+    let mut at = 0;
+    while at < s.len() {
+        let end = lines::line_end(s, at);
+        run_line(&mut s[at..end]);
+        at = end + 1;
+    }
+}
+
+fn main() {
+    let mut input = io::large_buffer();
+    let n = io::read_full(STDIN_FILENO, &mut input);
+    run(&mut input[..n]);
+}

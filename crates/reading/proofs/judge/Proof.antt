@@ -1,0 +1,54 @@
+use mathlib.Core.Path.{_∙_}
+use borrow.Author.Tests.{lt-ltb, le-ltb}
+use Rattle.items.specs.Reading.{outline, limit}
+use Rattle.reading.specs.Services.{refusal, refusalReport}
+use Rattle.reading.specs.Judging.{judgement, judgedAs, noSizes}
+use Rattle.reading.proofs.Judgements.{declined-judgement}
+use borrow.Author.Needs.{needs}
+use Rattle.reading.proofs.judge.Statement.{statement}
+use Rattle.reading.proofs.judge.Tie as tie
+use Rattle.reading.proofs.judge.Reads as reads
+use Rattle.reading.proofs.judge.Lts as lts
+use Rattle.items.proofs.lex_cif.Reads as lex-cif-reads
+use Rattle.reading.proofs.placed.Reads as placed-reads
+use Rattle.text.proofs.ascii_end.Reads as ascii-end-reads
+use Rattle.text.proofs.place_at.Reads as place-at-reads
+
+returns : tie.Need-returns
+unfolding outline limit judgement judgedAs refusalReport refusal noSizes
+returns c = rw (lt-ltb _ _ (c .if1 .taken))
+
+ascii-end-requires : tie.Need-ascii-end-requires
+ascii-end-requires c κs = search needs
+
+place-at-requires : tie.Need-place-at-requires
+place-at-requires c κs = search needs
+
+returns-2 : tie.Need-returns-2
+unfolding outline limit judgement judgedAs refusalReport refusal noSizes
+returns-2 c =
+    rw (le-ltb _ _ (c .before .before .before .if1 .left), ← c .before .before .ascii-end .ensures, lt-ltb _ _ (c .before .if2 .taken), c .place-at .ensures)
+
+lex-cif-requires : tie.Need-lex-cif-requires
+lex-cif-requires c κs = unfold limit in c .before .before .if1 .left
+
+placed-requires : tie.Need-placed-requires
+placed-requires c κs = search needs
+
+returns-3 : tie.Need-returns-3
+unfolding outline limit
+returns-3 c =
+    c .placed .ensures
+    ∙ rw (c .before .lex-cif .ensures, le-ltb _ _ (c .before .before .before .before .if1 .left), ← c .before .before .before .ascii-end .ensures, le-ltb _ _ (c .before .before .if2 .left)) (declined-judgement _ _)
+
+pub judge-spec : {M : Type 1} → statement M
+judge-spec =
+    tie.close
+    (tie.spec
+    returns
+    ascii-end-requires
+    place-at-requires
+    returns-2
+    lex-cif-requires
+    placed-requires
+    returns-3)

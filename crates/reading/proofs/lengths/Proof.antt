@@ -1,0 +1,13 @@
+use mathlib.Core.Path.{refl}
+use Rattle.text.specs.Reports.{noRoom}
+use Rattle.reading.proofs.lengths.Statement.{statement}
+use Rattle.reading.proofs.lengths.Tie as tie
+use Rattle.reading.proofs.lengths.Reads as reads
+use Rattle.reading.proofs.lengths.Lts as lts
+
+returns : tie.Need-returns
+unfolding noRoom
+returns c = refl
+
+pub lengths-spec : {M : Type 1} → statement M
+lengths-spec = tie.close (tie.spec returns)
