@@ -28,3 +28,4 @@ pub mod Refusals
 pub mod ReadIsSound
 pub mod NumbersRead
 pub mod Readings
+pub mod Examples
