@@ -2,17 +2,20 @@
 use Prim.Native.Nat.{ℕ, zero, suc, _+_, _-_, _*_, _/_, _%_, _^_, _≤_, _<_}
 use mathlib.Core.Path.{_≡_, refl, sym, ap, _∙_}
 use mathlib.Core.Bool.{Bool, true, false, cond, _&&_}
-use mathlib.Core.List.{List, [], _∷_, _++_, append-assoc}
+use mathlib.Core.List.{List, [], _∷_, _++_, append-assoc, append-nil}
 use native.Mathlib.Omega.{arith}
 use borrow.Author.Tests.{eqb-true}
 use lib.Dec.{eqb}
-use lib.ListN.{length, drop, length-append, length-drop}
+use native.Mathlib.Nat.{add-zero}
+use lib.ListN.{length, drop, set, length-append, drop-of-length-le}
 use lib.Seq.{drop-at, drop-append-le, drop-length}
 use Rattle.text.specs.Bytes.{is}
 use Rattle.text.proofs.Bools.{and-l, and-r}
 use Rattle.numbers.specs.Parts.{value, valueFrom}
 use Rattle.numbers.specs.Spelling.{padded, trim, plain}
 use Rattle.numbers.proofs.Spelled.{value-padded, length-padded, length-trim}
+use Rattle.records.specs.Put.{put}
+use Rattle.rendering.proofs.Wrote.{put-none, set-before}
 
 allZero : List ℕ → Bool
 allZero [] = true
@@ -136,3 +139,54 @@ digits-more whole (suc left) rest h e =
     ap (drop left) joined ∙ drop-at (padded left (rest / 10)) ((48 + rest % 10) ∷ drop (suc left) whole) left (length-padded left (rest / 10)) in
     let m : suc left - 1 ≡ left = omega arith in
     rw m (joined ∙ ap (λ (z : List ℕ). padded left (rest / 10) ++ z) (sym behind), behind)
+
+-- at the start none of the digits is written
+pub digits-none : (k n : ℕ) → (padded k n ≡ padded k n ++ drop k (padded k n)) × ((at : ℕ) (l : List ℕ) → l ≡ put (at + k) (drop k (padded k n)) l)
+digits-none k n =
+    let none : drop k (padded k n) ≡ [] = drop-of-length-le (padded k n) {i = k} (omega (arith, length-padded k n)) in
+    (rw none (sym (append-nil (padded k n))), λ at l. rw none (sym (put-none (at + k) l)))
+
+-- the digit before those that are written
+pub digits-put : (at left : ℕ) (ds es l : List ℕ) (v : ℕ) → 0 < left → at + left ≤ length l → es ≡ v ∷ ds → set (put (at + left) ds l) (at + (left - 1)) v ≡ put (at + (left - 1)) es l
+digits-put at left ds es l v h k e =
+    let m : at + left ≡ suc (at + (left - 1)) = omega arith in
+    rw (m, e) (set-before (at + (left - 1)) v ds l (omega arith))
+
+-- at the end all are
+pub digits-all : (at left : ℕ) (ds l m : List ℕ) → left ≡ 0 → m ≡ put (at + left) (drop left ds) l → m ≡ put at ds l
+digits-all at left ds l m e w = w ∙ rw (e, add-zero)
+
+-- of n's digits so many are counted, and the rest has the others and the last of those
+pub record Counted (n rest count : ℕ) : Type 0 where
+  pub some : 1 ≤ count
+  pub few : count ≤ 9
+  pub below : rest < 10 ^ (10 - count)
+  pub sum : length (plain n) + 1 ≡ count + length (trim (padded (10 - count) rest))
+
+pub counted-first : (n : ℕ) → n < 10 ^ 9 → Counted n n 1
+unfolding plain
+counted-first n h = record { some = omega arith; few = omega arith; below = h; sum = omega arith }
+
+pub counted-more : (n rest count : ℕ) → 10 ≤ rest → Counted n rest count → Counted n (rest / 10) (count + 1)
+counted-more n rest count h w = go (9 - count) (omega (arith, w .few)) (w .below) (w .sum)
+  where
+    go : (j : ℕ) → 10 - count ≡ suc j → rest < 10 ^ (10 - count) → length (plain n) + 1 ≡ count + length (trim (padded (10 - count) rest)) → Counted n (rest / 10) (count + 1)
+    go zero e below sum = let b : rest < 10 ^ 1 = rw e at below in absurd (omega arith)
+    go (suc j) e below sum =
+        let b : rest < 10 ^ suc (suc j) = rw e at below in
+        let s : length (plain n) + 1 ≡ count + length (trim (padded (suc (suc j)) rest)) = rw e at sum in
+        let k : 10 - (count + 1) ≡ suc j = omega arith in
+        record {
+          some = omega arith;
+          few = omega arith;
+          below = rw k (omega arith);
+          sum = rw k (omega (arith, count-more (suc j) rest h b));
+        }
+
+pub counted-last : (n rest count : ℕ) → rest < 10 → Counted n rest count → count ≡ length (plain n)
+counted-last n rest count h w = go (9 - count) (omega (arith, w .few)) (w .sum)
+  where
+    go : (j : ℕ) → 10 - count ≡ suc j → length (plain n) + 1 ≡ count + length (trim (padded (10 - count) rest)) → count ≡ length (plain n)
+    go j e sum =
+        let s : length (plain n) + 1 ≡ count + length (trim (padded (suc j) rest)) = rw e at sum in
+        omega (arith, count-last j rest h)

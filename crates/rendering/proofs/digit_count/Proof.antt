@@ -1,33 +1,31 @@
+-- `rendering::digit_count` meets its contract: where the loop stands, the rest has the digits that are not counted yet, and one that is. Assumes nothing.
+use native.Mathlib.Omega.{arith}
+use Rattle.rendering.proofs.Digits.{Counted, counted-first, counted-more, counted-last}
 use Rattle.rendering.proofs.digit_count.Statement.{statement}
 use Rattle.rendering.proofs.digit_count.Tie as tie
 use Rattle.rendering.proofs.digit_count.Reads as reads
 use Rattle.rendering.proofs.digit_count.Lts as lts
 
 abbrev Inv-loop : tie.InvT-loop
-Inv-loop n rest₀ count₀ rest count = ?
+Inv-loop n rest₀ count₀ rest count = Counted n rest count
 
 abbrev μ-loop : tie.MeasureT-loop
-μ-loop n rest₀ count₀ rest count = ?
+μ-loop n rest₀ count₀ rest count = rest
 
--- src/lib.rt:103:5
 loop-holds : tie.Need-loop-holds Inv-loop μ-loop
-loop-holds c = ?
+loop-holds c = counted-first (c .args .n) (c .pre)
 
--- src/lib.rt:105:9
 add-count : tie.Need-add-count Inv-loop μ-loop
-add-count c = ?
+add-count c = omega (arith, c .before .loop .inv .few)
 
--- src/lib.rt:103:5
 loop-less : tie.Need-loop-less Inv-loop μ-loop
-loop-less c = ?
+loop-less c = omega arith
 
--- src/lib.rt:103:5
 loop-again : tie.Need-loop-again Inv-loop μ-loop
-loop-again c = ?
+loop-again c = counted-more (c .before .before .args .n) (c .before .loop .rest) (c .before .loop .count) (omega arith) (c .before .loop .inv)
 
--- src/lib.rt:97:1
 returns : tie.Need-returns Inv-loop μ-loop
-returns c = ?
+returns c = counted-last (c .before .before .args .n) (c .before .loop .rest) (c .before .loop .count) (omega arith) (c .before .loop .inv)
 
 pub digit-count-spec : {M : Type 1} → statement M
 digit-count-spec =

@@ -1,24 +1,24 @@
+-- `rendering::put_byte` meets its contract. Assumes nothing.
 use borrow.Author.Needs.{needs}
+use mathlib.Core.Path.{refl}
+use native.Mathlib.Omega.{arith}
+use Rattle.records.proofs.Putting.{set-put}
 use Rattle.rendering.proofs.put_byte.Statement.{statement}
 use Rattle.rendering.proofs.put_byte.Tie as tie
 use Rattle.rendering.proofs.put_byte.Reads as reads
 use Rattle.rendering.proofs.put_byte.Lts as lts
 
--- src/lib.rt:64:5
 slice-write-out : tie.Need-slice-write-out
 slice-write-out c = search needs
 
--- src/lib.rt:65:5
 add-result : tie.Need-add-result
 add-result c = search needs
 
--- src/lib.rt:60:1
 same-length : tie.Need-same-length
 same-length c = search needs
 
--- src/lib.rt:60:1
 returns : tie.Need-returns
-returns c = ?
+returns c = record { bytes = set-put _ _ _ (omega arith); next = refl }
 
 pub put-byte-spec : {M : Type 1} → statement M
 put-byte-spec = tie.close (tie.spec slice-write-out add-result same-length returns)

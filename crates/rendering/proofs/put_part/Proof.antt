@@ -1,57 +1,63 @@
+-- `rendering::put_part` meets its contract: where the loop stands, i bytes are copied. Assumes nothing.
+use Prim.Native.Nat.{_+_, _-_, _≤_}
+use mathlib.Core.Path.{_≡_, refl, sym, ap, _∙_}
+use native.Mathlib.Omega.{arith}
+use lib.ListN.{length, take, drop, length-set, length-take, length-drop}
+use Rattle.records.specs.Put.{put}
+use Rattle.rendering.proofs.Wrote.{put-none, part-more}
 use Rattle.rendering.proofs.put_part.Statement.{statement}
 use Rattle.rendering.proofs.put_part.Tie as tie
 use Rattle.rendering.proofs.put_part.Reads as reads
 use Rattle.rendering.proofs.put_part.Lts as lts
 
 abbrev Inv-loop : tie.InvT-loop
-Inv-loop out₀ at source from size i₀ out i = ?
+Inv-loop out₀ at source from size i₀ out i = (i ≤ size) × (length out ≡ length out₀) × (out ≡ put at (take i (drop from source)) out₀)
 
 abbrev μ-loop : tie.MeasureT-loop
-μ-loop out₀ at source from size i₀ out i = ?
+μ-loop out₀ at source from size i₀ out i = size - i
 
--- src/lib.rt:74:5
 loop-holds : tie.Need-loop-holds Inv-loop μ-loop
-loop-holds c = ?
+loop-holds c = (omega arith, refl, sym (put-none _ _))
 
--- src/lib.rt:75:30
 add-out : tie.Need-add-out Inv-loop μ-loop
-add-out c = ?
+add-out c = omega arith
 
--- src/lib.rt:75:23
 shared-slice-read-out : tie.Need-shared-slice-read-out Inv-loop μ-loop
-shared-slice-read-out c = ?
+shared-slice-read-out c = omega arith
 
--- src/lib.rt:75:13
 add-out-2 : tie.Need-add-out-2 Inv-loop μ-loop
-add-out-2 c = ?
+add-out-2 c = omega arith
 
--- src/lib.rt:75:9
 slice-write-out : tie.Need-slice-write-out Inv-loop μ-loop
-slice-write-out c = ?
+slice-write-out c = omega arith
 
--- src/lib.rt:76:9
 add-i : tie.Need-add-i Inv-loop μ-loop
-add-i c = ?
+add-i c = omega arith
 
--- src/lib.rt:74:5
 loop-less : tie.Need-loop-less Inv-loop μ-loop
-loop-less c = ?
+loop-less c = omega arith
 
--- src/lib.rt:74:5
 loop-again : tie.Need-loop-again Inv-loop μ-loop
-loop-again c = ?
+loop-again c =
+    let l = c .before .before .loop in
+    let a = c .before .before .before .args in (
+      omega arith,
+      simp length-set (l .inv .1),
+      rw (l .inv .2) (part-more (a .source .now) (a .out .now) (a .from) (a .at) (l .i) (omega arith) (omega arith)),
+    )
 
--- src/lib.rt:78:5
 add-result : tie.Need-add-result Inv-loop μ-loop
-add-result c = ?
+add-result c = omega arith
 
--- src/lib.rt:69:1
 same-length : tie.Need-same-length Inv-loop μ-loop
-same-length c = ?
+same-length c = c .before .loop .inv .1
 
--- src/lib.rt:69:1
 returns : tie.Need-returns Inv-loop μ-loop
-returns c = ?
+returns c =
+    let a = c .before .before .args in
+    let whole : c .before .loop .i ≡ a .size = omega arith in
+    let size : length (take (a .size) (drop (a .from) (a .source .now))) ≡ a .size = omega (arith, length-take (a .size) (drop (a .from) (a .source .now)), length-drop (a .from) (a .source .now)) in
+    record { bytes = rw whole at (c .before .loop .inv .2); next = omega arith }
 
 pub put-part-spec : {M : Type 1} → statement M
 put-part-spec =
