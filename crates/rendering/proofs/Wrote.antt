@@ -21,6 +21,13 @@ wrote-none at l = record { bytes = sym (put-none at l); next = omega arith }
 pub wrote-length : {at r : ℕ} {vs l m : List ℕ} → at + length vs ≤ length l → Wrote at vs l m r → length m ≡ length l
 wrote-length {at} {r} {vs} {l} {m} h w = ap length (w .bytes) ∙ length-put at vs l h
 
+-- room goes by the bytes
+pub room-as : (at n : ℕ) {vs ws : List ℕ} → vs ≡ ws → at + length vs ≤ n → at + length ws ≤ n
+room-as at n e h = rw (← e) h
+
+pub room-first : (at n : ℕ) (vs ws : List ℕ) → at + length (vs ++ ws) ≤ n → at + length vs ≤ n
+room-first at n vs ws h = omega (arith, length-append vs ws)
+
 -- there is room for the second behind the first
 pub wrote-room : {at r : ℕ} {vs l m : List ℕ} (ws : List ℕ) → at + length (vs ++ ws) ≤ length l → Wrote at vs l m r → r + length ws ≤ length m
 wrote-room {at} {r} {vs} {l} {m} ws h w =

@@ -1,4 +1,14 @@
+-- `rendering::put_uncertainty` meets its contract. Assumes nothing.
 use borrow.Author.Needs.{needs}
+use Prim.Native.Nat.{_+_, _≤_}
+use mathlib.Core.Path.{_≡_, sym, _∙_, ap}
+use mathlib.Core.List.{[], _∷_, _++_}
+use borrow.Author.Tests.{not-true, not-false}
+use native.Mathlib.Omega.{arith}
+use lib.ListN.{length}
+use Rattle.numbers.specs.Spelling.{plain, uncBytes}
+use Rattle.rendering.proofs.Wrote.{wrote-none, wrote-as, wrote-then, wrote-room, room-as, room-first}
+use Rattle.rendering.proofs.Pieces.{uncertainty-none, uncertainty-some}
 use Rattle.rendering.proofs.put_uncertainty.Statement.{statement}
 use Rattle.rendering.proofs.put_uncertainty.Tie as tie
 use Rattle.rendering.proofs.put_uncertainty.Reads as reads
@@ -6,29 +16,37 @@ use Rattle.rendering.proofs.put_uncertainty.Lts as lts
 use Rattle.rendering.proofs.put_byte.Reads as put-byte-reads
 use Rattle.rendering.proofs.put_plain.Reads as put-plain-reads
 
--- src/lib.rt:160:9
 returns : tie.Need-returns
-returns c = ?
+returns c = wrote-as (sym (uncertainty-none _ _ (not-true _ (c .if1 .taken)))) (wrote-none _ _)
 
--- src/lib.rt:162:9
 put-byte-requires : tie.Need-put-byte-requires
-put-byte-requires c κs = ?
+put-byte-requires c κs =
+    let s = c .before .before .before in
+    room-first _ _ (40 ∷ []) (plain (s .args .uncertainty) ++ (41 ∷ [])) (room-as _ _ (uncertainty-some _ _ (not-false _ (c .before .if1 .left))) (s .pre .1))
 
--- src/lib.rt:163:9
 put-plain-requires : tie.Need-put-plain-requires
-put-plain-requires c κs = ?
+put-plain-requires c κs =
+    let s = c .before .before .before .before .before .before .before in
+    let digits = plain (s .args .uncertainty) in
+    (s .pre .0, room-first _ _ digits (41 ∷ []) (wrote-room (digits ++ (41 ∷ [])) (room-as _ _ (uncertainty-some _ _ (not-false _ (c .before .before .before .before .before .if1 .left))) (s .pre .1)) (c .before .before .before .put-byte .ensures)))
 
--- src/lib.rt:164:5
 put-byte-requires-2 : tie.Need-put-byte-requires-2
-put-byte-requires-2 c κs = ?
+put-byte-requires-2 c κs =
+    let s = c .before .before .before .before .before .before .before .before .before .before .before in
+    let digits = plain (s .args .uncertainty) in
+    wrote-room (41 ∷ []) (wrote-room (digits ++ (41 ∷ [])) (room-as _ _ (uncertainty-some _ _ (not-false _ (c .before .before .before .before .before .before .before .before .before .if1 .left))) (s .pre .1)) (c .before .before .before .before .before .before .before .put-byte .ensures)) (c .before .before .before .put-plain .ensures)
 
--- src/lib.rt:155:1
 same-length : tie.Need-same-length
 same-length c = search needs
 
--- src/lib.rt:155:1
 returns-2 : tie.Need-returns-2
-returns-2 c = ?
+returns-2 c =
+    let s = c .before .before .before .before .before .before .before .before .before .before .before .before .before .before in
+    let digits = plain (s .args .uncertainty) in
+    let room = wrote-room (digits ++ (41 ∷ [])) (room-as _ _ (uncertainty-some _ _ (not-false _ (c .before .before .before .before .before .before .before .before .before .before .before .before .if1 .left))) (s .pre .1)) (c .before .before .before .before .before .before .before .before .before .before .put-byte .ensures) in
+    wrote-as (sym (uncertainty-some _ _ (not-false _ (c .before .before .before .before .before .before .before .before .before .before .before .before .if1 .left))))
+    (wrote-then (omega arith) (c .before .before .before .before .before .before .before .before .before .before .put-byte .ensures)
+    (wrote-then (omega arith) (c .before .before .before .before .before .before .put-plain .ensures) (c .before .before .put-byte2 .ensures)))
 
 pub put-uncertainty-spec : {M : Type 1} → statement M
 put-uncertainty-spec =
