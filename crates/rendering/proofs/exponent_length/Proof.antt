@@ -1,4 +1,9 @@
+-- `rendering::exponent_length` meets its contract. Assumes nothing.
 use borrow.Author.Needs.{needs}
+use mathlib.Core.Path.{sym, ap}
+use native.Mathlib.Omega.{arith}
+use lib.ListN.{length}
+use Rattle.rendering.proofs.Pieces.{exponent-none, exponent-size, sign-short, plain-short}
 use Rattle.rendering.proofs.exponent_length.Statement.{statement}
 use Rattle.rendering.proofs.exponent_length.Tie as tie
 use Rattle.rendering.proofs.exponent_length.Reads as reads
@@ -6,29 +11,23 @@ use Rattle.rendering.proofs.exponent_length.Lts as lts
 use Rattle.rendering.proofs.digit_count.Reads as digit-count-reads
 use Rattle.rendering.proofs.sign_length.Reads as sign-length-reads
 
--- src/lib.rt:204:9
 returns : tie.Need-returns
-returns c = ?
+returns c = sym (ap length (exponent-none _ _ (c .if1 .taken)))
 
--- src/lib.rt:206:9
 sign-length-requires : tie.Need-sign-length-requires
 sign-length-requires c κs = search needs
 
--- src/lib.rt:206:5
 add-result : tie.Need-add-result
-add-result c = ?
+add-result c = omega (arith, c .sign-length .ensures, sign-short (c .before .before .args .lowers))
 
--- src/lib.rt:206:31
 digit-count-requires : tie.Need-digit-count-requires
 digit-count-requires c κs = search needs
 
--- src/lib.rt:206:5
 add-result-2 : tie.Need-add-result-2
-add-result-2 c = ?
+add-result-2 c = omega (arith, c .before .sign-length .ensures, c .digit-count .ensures, sign-short (c .before .before .before .args .lowers), plain-short (c .before .before .before .args .exponent))
 
--- src/lib.rt:199:1
 returns-2 : tie.Need-returns-2
-returns-2 c = ?
+returns-2 c = omega (arith, c .before .sign-length .ensures, c .digit-count .ensures, exponent-size (c .before .before .before .args .lowers) (c .before .before .before .args .exponent) (c .before .before .if1 .left))
 
 pub exponent-length-spec : {M : Type 1} → statement M
 exponent-length-spec =

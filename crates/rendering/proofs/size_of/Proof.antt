@@ -1,24 +1,27 @@
+-- `rendering::size_of` meets its contract. Assumes nothing.
 use borrow.Author.Needs.{needs}
+use mathlib.Core.Path.{_≡_}
+use native.Mathlib.Omega.{arith}
+use borrow.Author.Tests.{le-leb, lt-leb}
+use Rattle.rendering.specs.Writing.{sizeOf}
 use Rattle.rendering.proofs.size_of.Statement.{statement}
 use Rattle.rendering.proofs.size_of.Tie as tie
 use Rattle.rendering.proofs.size_of.Reads as reads
 use Rattle.rendering.proofs.size_of.Lts as lts
 
--- src/lib.rt:235:16
 sub-result : tie.Need-sub-result
 sub-result c = search needs
 
--- src/lib.rt:235:16
 add-result : tie.Need-add-result
 add-result c = search needs
 
--- src/lib.rt:235:9
 returns : tie.Need-returns
-returns c = ?
+unfolding sizeOf
+returns c = rw (le-leb _ _ (c .if1 .taken)) (omega arith)
 
--- src/lib.rt:231:1
 returns-2 : tie.Need-returns-2
-returns-2 c = ?
+unfolding sizeOf
+returns-2 c = rw (lt-leb _ _ (c .if1 .left))
 
 pub size-of-spec : {M : Type 1} → statement M
 size-of-spec = tie.close (tie.spec sub-result add-result returns returns-2)
