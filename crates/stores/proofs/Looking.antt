@@ -1,0 +1,94 @@
+-- Laws of looking a content up: record by record, and that a sound store's contents lie inside the area. Assumes nothing.
+use Prim.Native.Nat.{ℕ, zero, suc, _+_, _-_, _≤_, _<_}
+use mathlib.Core.Path.{_≡_, refl, sym, ap, _∙_}
+use mathlib.Core.Bool.{Bool, true, false, cond, _&&_, true≢false}
+use mathlib.Core.List.{List, [], _∷_}
+use mathlib.Core.Logic.{_⊎_, inl, inr}
+use types.Run.{OneOf}
+use denote.Enum.Declared.{tagOf}
+use native.Mathlib.Omega.{arith}
+use lib.ListN.{length, take, drop}
+use Rattle.text.proofs.Bools.{and-l, and-r}
+use Rattle.records.specs.declared.Kind.{Kind}
+use Rattle.records.specs.declared.Fields.{Fields}
+use Rattle.records.specs.declared.Entry.{Entry}
+use Rattle.records.specs.declared.Entry.the-variants.{Record, Nothing}
+use Rattle.records.specs.Kinds.{shapeOf, isContent}
+use Rattle.records.specs.Entries.{entryAt}
+use Rattle.stores.specs.Walk.{entries}
+use Rattle.stores.specs.Nesting.{nested}
+use Rattle.stores.specs.Contents.{partsKept, contentLength, contentKept, ownRule, takes, filledFrom, filled}
+use Rattle.stores.specs.Soundness.{sound}
+use Rattle.stores.specs.Content.{nth, partOf, contentAt, partBytes}
+use Rattle.stores.specs.declared.Content.{Content}
+use Rattle.stores.specs.declared.Content.the-variants.{Part, NotSound, NoContent}
+use Rattle.stores.proofs.Content.{the-type as content-type}
+use Rattle.stores.proofs.Walking.{rest, rest-all, rest-over, rest-none, next-at}
+use Rattle.stores.proofs.Filling.{content-kept, takes-inside}
+
+pub part-all : (st : List ℕ) (i : ℕ) → partOf (nth (entries st) i) ≡ partOf (nth (rest st 0) i)
+part-all st i = rw rest-all
+
+module _ (st : List ℕ) (at : ℕ) where
+  pub part-end : (i : ℕ) → length st ≤ at → partOf (nth (rest st at) i) ≡ NoContent
+  unfolding nth partOf
+  part-end i h = rw (rest-over st at h)
+
+  pub part-none : (i : ℕ) → at < length st → entryAt st at ≡ Nothing → partOf (nth (rest st at) i) ≡ NoContent
+  unfolding nth partOf
+  part-none i h e = rw (rest-none st at h e) (by i)
+    where
+      by : (i : ℕ) → partOf (nth (Nothing ∷ []) i) ≡ NoContent
+      by zero = refl
+      by (suc i) = refl
+
+  module _ (k : Kind) (f : Fields) (next : ℕ) (h : at < length st) (e : entryAt st at ≡ Record k f next) where
+    pub part-here : (i : ℕ) → i ≡ 0 → partOf (nth (rest st at) i) ≡ partOf (Record k f 0)
+    unfolding nth partOf
+    part-here i z = rw (next-at st at k f next h e .here, z)
+
+    pub part-more : (i : ℕ) → (i ≡ 0 → ⊥) → partOf (nth (rest st at) i) ≡ partOf (nth (rest st next) (i - 1))
+    unfolding nth
+    part-more zero z = absurd (z refl)
+    part-more (suc i) z =
+        let less : suc i - 1 ≡ i = omega arith in
+        rw (next-at st at k f next h e .here, less)
+
+-- a content of a filled area lies inside
+part-inside : (es : List Entry) (ar : List ℕ) (a i from size : ℕ) → a ≤ length ar → filledFrom es ar a ≡ true → partOf (nth es i) ≡ Part from size → from + size ≤ length ar
+unfolding filledFrom nth partOf
+part-inside [] ar a i from size h e p =
+    let z : _≡_ {A = ℕ} 0 1 = cc in
+    absurd (omega arith)
+part-inside (Nothing ∷ es) ar a i from size h e p = absurd (true≢false (sym e))
+part-inside (Record k f n ∷ es) ar a zero from size h e p = by (isContent (shapeOf k)) refl p
+  where
+    by : (t : Bool) → isContent (shapeOf k) ≡ t → cond t (Part (f .number) (contentLength k f)) NoContent ≡ Part from size → from + size ≤ length ar
+    by true q p =
+        let kept = content-kept ar a k f (unfold ownRule in rw q at (and-l (ownRule ar a k f) _ e)) in
+        let start : f .number ≡ from = cc in
+        let long : contentLength k f ≡ size = cc in
+        omega (arith, kept .here, kept .inside)
+    by false q p =
+        let z : _≡_ {A = ℕ} 0 1 = cc in
+        absurd (omega arith)
+part-inside (Record k f n ∷ es) ar a (suc i) from size h e p =
+    part-inside es ar (a + takes k f) i from size (takes-inside ar a k f h (and-l (ownRule ar a k f) _ e)) (and-r (ownRule ar a k f) _ e) p
+
+pub content-inside : (st ar : List ℕ) (i from size : ℕ) → contentAt st ar i ≡ Part from size → from + size ≤ length ar
+unfolding contentAt sound filled
+content-inside st ar i from size p = by (sound st ar) refl p
+  where
+    by : (t : Bool) → sound st ar ≡ t → cond t (partOf (nth (entries st) i)) NotSound ≡ Part from size → from + size ≤ length ar
+    by true q p = part-inside (entries st) ar 0 i from size (omega arith) (and-r (nested (entries st)) _ q) p
+    by false q p =
+        let z : _≡_ {A = ℕ} 0 1 = cc in
+        absurd (omega arith)
+
+-- a refusal's part is empty
+pub part-refused : (ar : List ℕ) (a : Content) → OneOf (1 ∷ 2 ∷ []) (tagOf content-type a) → partBytes ar a ≡ []
+unfolding partBytes
+part-refused ar (Part from size) (inl e) = absurd (omega arith)
+part-refused ar (Part from size) (inr e) = absurd (omega arith)
+part-refused ar NotSound e = refl
+part-refused ar NoContent e = refl

@@ -1,0 +1,107 @@
+-- The walk by offsets. Proved: a caller who walks a sound store from offset 0 on by `next` meets exactly its records, in order (walk-sound). Assumes nothing.
+use Prim.Native.Nat.{ℕ, _+_, _-_, _≤_, _<_}
+use mathlib.Core.Path.{_≡_, refl, sym, ap, _∙_}
+use mathlib.Core.Bool.{Bool, true, false, cond, _&&_, true≢false}
+use mathlib.Core.List.{List, [], _∷_}
+use native.Mathlib.Omega.{arith}
+use borrow.Author.Tests.{le-leb, leb-true, leb-false}
+use lib.Dec.{leb}
+use lib.ListN.{length}
+use Rattle.text.proofs.Bools.{and-l, and-r}
+use Rattle.records.specs.declared.Kind.{Kind}
+use Rattle.records.specs.declared.Fields.{Fields}
+use Rattle.records.specs.declared.Entry.{Entry}
+use Rattle.records.specs.declared.Entry.the-variants.{Record as Whole, Nothing}
+use Rattle.records.specs.Kinds.{numberOf, shapeOf, isContent, marksOf}
+use Rattle.records.specs.Entries.{entryAt}
+use Rattle.stores.specs.Walk.{entries}
+use Rattle.stores.specs.Nesting.{nested}
+use Rattle.stores.specs.Contents.{contentLength, ownRule, takes, filledFrom, filled}
+use Rattle.stores.specs.Soundness.{sound}
+use Rattle.stores.specs.Records.{lies, answered, walkedOf, walkedAt, Walks, over, onto, answers}
+use Rattle.stores.specs.declared.Walked.{Walked}
+use Rattle.stores.specs.declared.Walked.the-variants.{Record, NoRecord}
+use Rattle.stores.proofs.Walking.{rest, rest-all, rest-over, rest-none, next-at}
+use Rattle.stores.proofs.Filling.{content-kept, takes-inside}
+
+-- an offset from which entries follow lies inside the store, and one from which none do does not
+rest-here : (st : List ℕ) (at : ℕ) (e : Entry) (es : List Entry) → rest st at ≡ e ∷ es → at < length st
+rest-here st at e es q = by (leb (length st) at) refl
+  where
+    by : (t : Bool) → leb (length st) at ≡ t → at < length st
+    by false p = leb-false (length st) at p
+    by true p =
+        let none = rest-over st at (leb-true (length st) at p) in
+        let z : _≡_ {A = ℕ} 0 1 = cc in
+        absurd (omega arith)
+
+rest-empty : (st : List ℕ) (at : ℕ) → rest st at ≡ [] → length st ≤ at
+rest-empty st at q = by (leb (length st) at) refl
+  where
+    some : (x : Entry) → at < length st → entryAt st at ≡ x → _≡_ {A = ℕ} 0 1
+    some Nothing h e = let here = rest-none st at h e in cc
+    some (Whole k f next) h e = let here = next-at st at k f next h e .here in cc
+
+    by : (t : Bool) → leb (length st) at ≡ t → length st ≤ at
+    by true p = leb-true (length st) at p
+    by false p =
+        let z = some (entryAt st at) (leb-false (length st) at p) refl in
+        absurd (omega arith)
+
+-- the record that the entries from an offset start with
+record Starts (st : List ℕ) (at : ℕ) (k : Kind) (f : Fields) (n : ℕ) (es : List Entry) : Type 0 where
+  entry : entryAt st at ≡ Whole k f (at + n)
+  more : rest st (at + n) ≡ es
+
+starts-of : (st : List ℕ) (at : ℕ) (k : Kind) (f : Fields) (n : ℕ) (es : List Entry) → rest st at ≡ Whole k f n ∷ es → Starts st at k f n es
+starts-of st at k f n es q = by (entryAt st at) (rest-here st at _ es q) refl
+  where
+    by : (x : Entry) → at < length st → entryAt st at ≡ x → Starts st at k f n es
+    by Nothing h e =
+        let none = rest-none st at h e in
+        let z : _≡_ {A = ℕ} 0 1 = cc in
+        absurd (omega arith)
+    by (Whole k′ f′ next) h e =
+        let far = next-at st at k′ f′ next h e in
+        let same : Whole k′ f′ (next - at) ∷ rest st next ≡ Whole k f n ∷ es = sym (far .here) ∙ q in
+        let kind : k′ ≡ k = cc in
+        let fields : f′ ≡ f = cc in
+        let size : next - at ≡ n = cc in
+        let then : rest st next ≡ es = cc in
+        let end : next ≡ at + n = omega (arith, far .onwards) in
+        record { entry = e ∙ rw (kind, fields, end); more = rw (← end) then }
+
+-- a record that keeps its own rule is answered
+kept-answered : (ar : List ℕ) (a : ℕ) (k : Kind) (f : Fields) (next : ℕ) → a ≤ length ar → ownRule ar a k f ≡ true → walkedOf (length ar) (Whole k f next) ≡ answered k f next
+unfolding walkedOf lies
+kept-answered ar a k f next h o = by (isContent (shapeOf k)) refl
+  where
+    by : (t : Bool) → isContent (shapeOf k) ≡ t → cond t (cond (lies (length ar) k f) (answered k f next) NoRecord) (answered k f next) ≡ answered k f next
+    by false q = refl
+    by true q =
+        let kept = content-kept ar a k f (unfold ownRule in rw q at o) in
+        let inside : f .number + contentLength k f ≤ length ar = omega (arith, kept .here, kept .inside) in
+        rw (le-leb _ _ (kept .marked), le-leb _ _ inside)
+
+-- one step of the walk, whether or not there is content
+step : (st ar : List ℕ) (at next : ℕ) (k : Kind) (f : Fields) (ws : List Walked) → walkedAt st ar at ≡ answered k f next → Walks st ar next ws → Walks st ar at (answered k f next ∷ ws)
+unfolding answered
+step st ar at next k f ws e w = by (isContent (shapeOf k)) e
+  where
+    by : (t : Bool) → walkedAt st ar at ≡ cond t (Record (numberOf k) f (f .number) (contentLength k f) next) (Record (numberOf k) f 0 0 next) → Walks st ar at (cond t (Record (numberOf k) f (f .number) (contentLength k f) next) (Record (numberOf k) f 0 0 next) ∷ ws)
+    by true e = onto e w
+    by false e = onto e w
+
+walk-filled : (st ar : List ℕ) (es : List Entry) (at a : ℕ) → rest st at ≡ es → a ≤ length ar → filledFrom es ar a ≡ true → Walks st ar at (answers at es)
+unfolding filledFrom answers
+walk-filled st ar [] at a q h e = over (rest-empty st at q)
+walk-filled st ar (Nothing ∷ es) at a q h e = absurd (true≢false (sym e))
+walk-filled st ar (Whole k f n ∷ es) at a q h e =
+    let s = starts-of st at k f n es q in
+    let kept = and-l (ownRule ar a k f) _ e in
+    let here : walkedAt st ar at ≡ answered k f (at + n) = unfold walkedAt in rw (s .entry) (kept-answered ar a k f (at + n) h kept) in
+    step st ar at (at + n) k f (answers (at + n) es) here (walk-filled st ar es (at + n) (a + takes k f) (s .more) (takes-inside ar a k f h kept) (and-r (ownRule ar a k f) _ e))
+
+pub walk-sound : (st ar : List ℕ) → sound st ar ≡ true → Walks st ar 0 (answers 0 (entries st))
+unfolding sound filled
+walk-sound st ar e = walk-filled st ar (entries st) 0 0 (sym (rest-all st)) (omega arith) (and-r (nested (entries st)) _ e)
