@@ -1,18 +1,18 @@
 -- The machine reads an item as the descent does: names while tags stand, then values until one fails.
 -- Proved: from an item's first token on, the machine's answer is what the descent makes of it (item-in-frame, item-in-block). Assumes nothing.
-use Prim.Native.Nat.{ℕ, zero, suc, _+_, _%_}
-use mathlib.Core.Path.{_≡_, refl, sym, ap, _∙_}
+use Prim.Native.Nat.{ℕ, suc, _+_, _%_}
+use mathlib.Core.Path.{_≡_, refl, sym, _∙_}
 use mathlib.Core.Bool.{Bool, true, false, cond, true≢false}
 use mathlib.Core.List.{List, [], _∷_, _++_, append-assoc, append-nil}
 use mathlib.Core.Logic.{_⊎_, inl, inr, ⊎-elim}
 use mathlib.Core.Option.{Option, none, some}
-use native.Mathlib.Nat.{add-suc, suc-add, zero-add, add-zero}
+use native.Mathlib.Nat.{zero-add, add-zero}
 use native.Mathlib.Omega.{arith}
 use lib.Dec.{eqb}
 use lib.ListN.{length}
 use Rattle.values.specs.Values.{Class, Reason, block, loop, save, tag, value, overLimit, nothing, atEnd, reservedWord, noStart, openQuote, openField}
 use Rattle.items.specs.Tokens.{Tok}
-use Rattle.items.specs.Machine.{Rec, Answer, refused, done, State, items, names, values, wants, Config, config, rec, loopEnd, follow, run, move, atItem, atName, atValue, atWant, noMoreNames, loopEnds, fails, closes, go, stop}
+use Rattle.items.specs.Machine.{Rec, Answer, refused, items, names, values, wants, config, rec, loopEnd, follow, run, move, atItem, atName, atValue, atWant, noMoreNames, loopEnds, fails, closes, stop}
 use Rattle.items.specs.Descent.{nameThen, nameRest, nameRecs, afterNames, valueThen, valueRest, valueRecs, afterValues, Item, taken, failed, broken, isOver, rows, loopBy, loopItem, single, tagItem, itemBy, item}
 
 -- a class is a tag, or it ends a loop's names

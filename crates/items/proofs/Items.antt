@@ -1,17 +1,17 @@
 -- The item at an offset, by the code's tests: a loop from its names and values, a tag from what is found behind it, else none. Assumes nothing.
-use Prim.Native.Nat.{ℕ, zero, suc, _+_, _-_, _%_, _≤_, _<_}
+use Prim.Native.Nat.{ℕ, suc, _+_, _-_, _%_, _≤_, _<_}
 use mathlib.Core.Path.{_≡_, refl, sym, ap, _∙_}
-use mathlib.Core.Bool.{Bool, true, false, cond, true≢false, false≢true}
+use mathlib.Core.Bool.{Bool, true, false, cond, true≢false}
 use mathlib.Core.List.{List, [], _∷_, _++_}
 use native.Mathlib.Omega.{arith}
+use borrow.Author.Tests.{ne-eqb}
 use lib.Dec.{eqb, eqb·suc-zero}
 use lib.ListN.{length, drop}
-use Rattle.text.specs.Bytes.{is}
 use Rattle.text.specs.Gaps.{gap, gapEnd}
-use Rattle.text.proofs.Gaps.{gap-from, gap-within, gap-none}
+use Rattle.text.proofs.Gaps.{gap-none}
 use Rattle.words.specs.Words.{word, wordEnd}
 use Rattle.words.specs.Keywords.{starts, startsAt, keyLoop}
-use Rattle.values.specs.Values.{Class, Reason, block, loop, save, tag, value, overLimit, nothing, Lexed, lexed}
+use Rattle.values.specs.Values.{Class, block, loop, save, tag, value, overLimit, nothing, lexed}
 use Rattle.items.specs.declared.Sizes.{Sizes}
 use Rattle.items.specs.declared.Names.{Names}
 use Rattle.items.specs.declared.Values.{Values}
@@ -22,15 +22,15 @@ use Rattle.items.specs.declared.Item.the-variants.{Loop, Single, Ragged,
 use Rattle.items.specs.Tokens.{Mode, inBlock, lexIn, lex, after, Tok, tok}
 use Rattle.items.specs.Machine.{Rec, rec, loopEnd}
 use Rattle.items.specs.Sizes.{sizesOf, noSizes, added, joined, Upto}
-use Rattle.items.specs.Descent.{nameRecs, afterNames, valueRecs, afterValues, Item, taken, failed, broken, isOver, rows, loopBy, loopItem, single, tagItem, itemBy, item}
+use Rattle.items.specs.Descent.{nameRecs, afterNames, valueRecs, afterValues, taken, failed, broken, isOver, rows, loopBy, loopItem, single, tagItem, itemBy, item}
 use Rattle.items.specs.Decisions.{tokensAt, headAt, headWhy, whyNot}
 use Rattle.items.specs.Answers.{tagFirst, tagAt, foundAt, isOverFound, whyFound, namesOf, namesAt, headOver, valuesOf, valuesAt, rowsOf, itemAnswer, itemAt}
-use Rattle.items.proofs.Descent.{Ends, NoValue, value-or-not, names-ends, values-ends}
+use Rattle.items.proofs.Descent.{Ends, names-ends, values-ends}
 use Rattle.items.proofs.Lexes.{lex-other, startsItem}
-use Rattle.items.proofs.Lists.{met-value, no-value, wanted-over, wanted-why}
-use Rattle.items.proofs.Offsets.{tokens-gap, tokens-ends, Met, met-loop, met-tag, first, Spot, both, both-spot}
-use Rattle.items.proofs.Passes.{Alike, names-alike, values-alike}
-use Rattle.items.proofs.Room.{sizes-cons, sizes-one, sizes-snoc, sizes-append, sizes-none, joined-assoc, added-none, upto-more}
+use Rattle.items.proofs.Lists.{met-value, name-step, value-step}
+use Rattle.items.proofs.Offsets.{tokens-gap, tokens-ends, Met, met-loop, met-tag, first, both, both-spot}
+use Rattle.items.proofs.Passes.{names-alike, values-alike}
+use Rattle.items.proofs.Room.{sizes-cons, sizes-one, sizes-snoc, sizes-append, joined-assoc, added-none, upto-more}
 use Rattle.items.proofs.Wanted.{wanted, found-wanted}
 
 -- the first token stands behind space and comments
@@ -211,3 +211,66 @@ item-none s o g e f =
     let x = lexIn inBlock (drop o s) in
     let n = first s o g inBlock in
     rw (n .1) (none-answer (x .class) (tok x o) (n .0) (no-item (drop o s) e f))
+
+-- rows as the code counts them
+pub rows-ragged : (o : ℕ) (names : Names) (values : Values) → (values .count % names .count ≡ 0 → ⊥) → Ragged o (values .count % names .count) (values .next) ≡ rowsOf o names values
+unfolding rowsOf
+rows-ragged o names values h = rw (ne-eqb (values .count % names .count) 0 h)
+
+pub rows-whole : (o : ℕ) (names : Names) (values : Values) → values .count % names .count ≡ 0
+    → Loop (values .next) (added (joined (joined (added noSizes 5 5) (names .sizes)) (values .sizes)) 7 0) (values .why) ≡ rowsOf o names values
+unfolding rowsOf
+rows-whole o names values h = rw h
+
+-- a tag as the code reads it: its end, where what follows stands, and what is found there
+pub record TagRead (s : List ℕ) (o end stop : ℕ) (f : Found) : Type 0 where
+  pub bare : gap (drop o s) ≡ 0
+  pub tagged : tagAt s o ≡ true
+  pub ends : end ≡ wordEnd s o
+  pub stops : stop ≡ gapEnd s end
+  pub finds : f ≡ foundAt s stop
+
+module _ (s : List ℕ) (o end stop : ℕ) (f : Found) (r : TagRead s o end stop f) where
+  pub tag-onward : (o < end) × (end ≤ length s)
+  tag-onward = let n = name-step s o (r .bare) (r .tagged) in (rw (r .ends) (n .onward), rw (r .ends) (n .within))
+
+  stop-bare : gap (drop stop s) ≡ 0
+  stop-bare = rw (r .stops) (gap-none s end)
+
+  pub tag-value-within : (k w : ℕ) → f ≡ Value k w → (0 < w) × (stop + w ≤ length s)
+  tag-value-within k w e = let v = value-step s stop k w stop-bare (sym (r .finds) ∙ e) in (v .some-bytes, v .within)
+
+  pub tag-value : (k w next : ℕ) (z : Sizes) → f ≡ Value k w → next ≡ gapEnd s (stop + w) → z ≡ added (added noSizes 4 (end - o)) k w → Single next z ≡ itemAt s o
+  tag-value k w next z e p q =
+      rw (p, q, r .stops, r .ends) (sym (item-value s o k w (r .bare) (r .tagged) (rw (← r .ends, ← r .stops) (sym (r .finds) ∙ e))))
+
+  pub tag-alone : ((k w : ℕ) → f ≡ Value k w → ⊥) → cond (isOverFound f) (Over stop) (TagAlone o stop (whyFound f)) ≡ itemAt s o
+  tag-alone n =
+      rw (r .finds, r .stops, r .ends) (sym (item-alone s o (r .bare) (r .tagged) (λ k w e. n k w (rw (r .finds, r .stops, r .ends) e))))
+
+-- a loop as the code reads it
+module _ (s : List ℕ) (o : ℕ) (g : gap (drop o s) ≡ 0) (e : startsAt keyLoop s o ≡ true) (names : Names) (n : names ≡ namesAt s (o + 5)) where
+  pub loop-from : o + 5 ≤ length s
+  unfolding lexed
+  loop-from = met-loop s o g e .within
+
+  pub loop-named : (o + 5 ≤ names .next) × (names .next ≤ length s) × (gap (drop (names .next) s) ≡ 0) × Upto (names .next - (o + 5)) (names .sizes)
+  loop-named = let h = names-end s (o + 5) loop-from in rw n (h .onward, h .within, h .bare, h .fits)
+
+  pub loop-none : names .count ≡ 0 → NoNames o ≡ itemAt s o
+  unfolding loopAnswer
+  loop-none z = sym (item-loop s o g e ∙ rw (← n, z))
+
+  loop-some : (values : Values) → values ≡ valuesAt s (names .next) → (names .count ≡ 0 → ⊥) → itemAt s o ≡ cond (values .over) (Over (values .next)) (rowsOf o names values)
+  unfolding loopAnswer
+  loop-some values v h = item-loop s o g e ∙ rw (← n, ← v, ne-eqb (names .count) 0 h)
+
+  module _ (values : Values) (v : values ≡ valuesAt s (names .next)) (h : names .count ≡ 0 → ⊥) where
+    pub loop-valued : Upto (values .next - names .next) (values .sizes) × (values .next ≤ length s)
+    loop-valued = let x = values-end s (names .next) (loop-named .1) in rw v (x .fits, x .within)
+
+    pub loop-over : values .over ≡ true → Over (values .next) ≡ itemAt s o
+    loop-over c = sym (loop-some values v h ∙ rw c)
+
+    pub loop-rows : values .over ≡ false → rowsOf o names values ≡ itemAt s o
+    loop-rows c = sym (loop-some values v h ∙ rw c)

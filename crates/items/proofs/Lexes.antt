@@ -1,6 +1,6 @@
 -- The token at the start of a text in a block or a frame, by the tests that the code makes: a keyword, a tag, else a value. Assumes nothing.
-use Prim.Native.Nat.{ℕ, zero, suc, _+_, _≤_, _<_}
-use mathlib.Core.Path.{_≡_, refl, sym, ap, _∙_}
+use Prim.Native.Nat.{ℕ, _<_}
+use mathlib.Core.Path.{_≡_, refl, sym, _∙_}
 use mathlib.Core.Bool.{Bool, true, false, not, cond, _&&_, _||_, true≢false, false≢true}
 use mathlib.Core.List.{List, [], _∷_}
 use mathlib.Core.Logic.{_⊎_, inl, inr, ⊎-elim}
@@ -8,15 +8,15 @@ use mathlib.Core.Option.{Option, none, some}
 use native.Mathlib.Omega.{arith}
 use borrow.Author.Tests.{eqb-true}
 use lib.Dec.{eqb}
-use lib.ListN.{length, take}
+use lib.ListN.{take}
 use Rattle.text.specs.Bytes.{is, endsWord}
 use Rattle.text.specs.Runs.{span}
-use Rattle.text.proofs.Bools.{or-l, or-r, and-l, and-r, or-cases}
+use Rattle.text.proofs.Bools.{and-l, and-r, or-cases}
 use Rattle.words.specs.Words.{inWord, word, isOrdinary}
-use Rattle.words.specs.Keywords.{lower, starts, keyData, keyGlobal, keyLoop, keySave, keyStop, reserved}
+use Rattle.words.specs.Keywords.{lower, starts, keyData, keyGlobal, keyLoop, keySave, keyStop}
 use Rattle.words.specs.Quotes.{quoted, field}
-use Rattle.numbers.specs.Parts.{Parts, parts, isNumber, within}
-use Rattle.values.specs.Values.{Class, Reason, block, loop, save, tag, value, overLimit, nothing, atEnd, reservedWord, noStart, openQuote, openField, Lexed, lexed, numberOr, wordOr, closed, lexValue, lexAsValue}
+use Rattle.numbers.specs.Parts.{parts, isNumber, within}
+use Rattle.values.specs.Values.{Class, Reason, block, loop, save, tag, value, overLimit, nothing, reservedWord, noStart, openQuote, openField, Lexed, lexed, numberOr, wordOr, closed, lexValue}
 use Rattle.items.specs.Tokens.{Mode, before, inBlock, inFrame, saveSize, lexIn, after}
 use Rattle.items.specs.Answers.{tagFirst}
 use Rattle.items.proofs.Fits.{isValue, lexIn-pos}

@@ -11,3 +11,4 @@ pub mod Lists
 pub mod Passes
 pub mod Items
 pub mod Onward
+pub mod Choices

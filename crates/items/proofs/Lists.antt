@@ -1,35 +1,36 @@
 -- The names and the values of a loop, one at a time: what the code's two loops do in a turn, and where they end. Assumes nothing.
-use Prim.Native.Nat.{ℕ, zero, suc, _+_, _-_, _≤_, _<_}
+use Prim.Native.Nat.{ℕ, suc, _+_, _-_, _≤_, _<_}
 use mathlib.Core.Path.{_≡_, refl, sym, ap, _∙_}
-use mathlib.Core.Bool.{Bool, true, false, cond, true≢false, false≢true}
-use mathlib.Core.List.{List, [], _∷_}
-use mathlib.Core.Logic.{_⊎_, inl, inr, ⊎-elim}
-use native.Mathlib.Numerals.{add-one}
+use mathlib.Core.Bool.{Bool, true, false}
+use mathlib.Core.List.{List, _∷_}
+use mathlib.Core.Logic.{_⊎_, ⊎-elim}
+use native.Mathlib.Nat.{add-zero, zero-add}
 use native.Mathlib.Omega.{arith}
-use lib.ListN.{length, drop}
+use lib.Dec.{eqb}
+use lib.ListN.{length, drop, getD, drop-of-length-le}
+use lib.Seq.{drop-cons}
 use Rattle.text.specs.Bytes.{is}
 use Rattle.text.specs.Gaps.{gap, gapEnd}
 use Rattle.text.proofs.Gaps.{gap-from, gap-within, gap-none}
 use Rattle.words.specs.Words.{word, wordEnd}
-use Rattle.values.specs.Values.{Class, Reason, block, loop, save, tag, value, overLimit, nothing, atEnd, Lexed, lexed}
-use Rattle.values.specs.Answers.{whyOf}
+use Rattle.values.specs.Values.{Class, block, loop, save, tag, value, overLimit, nothing, lexed}
 use Rattle.values.specs.declared.Why.{Why}
 use Rattle.items.specs.declared.Sizes.{Sizes}
 use Rattle.items.specs.declared.Names.{Names}
 use Rattle.items.specs.declared.Values.{Values}
 use Rattle.items.specs.declared.Found.{Found}
-use Rattle.items.specs.declared.Found.the-variants.{Value, Over, Missing}
-use Rattle.items.specs.Tokens.{Mode, inBlock, lexIn, lex, after, Tok, tok}
-use Rattle.items.specs.Machine.{Rec, rec}
-use Rattle.items.specs.Sizes.{sizesOf, noSizes, added, joined}
-use Rattle.items.specs.Descent.{nameRecs, afterNames, valueRecs, afterValues, isOver}
+use Rattle.items.specs.declared.Found.the-variants.{Value}
+use Rattle.items.specs.Tokens.{inBlock, lexIn, lex, after, Tok, tok}
+use Rattle.items.specs.Machine.{rec}
+use Rattle.items.specs.Sizes.{sizesOf, noSizes, added, joined, Upto}
+use Rattle.items.specs.Descent.{nameRecs, valueRecs, isOver}
 use Rattle.items.specs.Decisions.{tokensAt, headAt, headWhy, whyNot}
 use Rattle.items.specs.Answers.{tagFirst, tagAt, foundAt, isOverFound, whyFound, namesOf, namesAt, headOver, valuesOf, valuesAt}
-use Rattle.items.proofs.Descent.{NoName, name-or-not, NoValue, value-or-not, names-more, names-none, values-more, values-none}
+use Rattle.items.proofs.Descent.{NoName, NoValue, value-or-not, names-more, names-none, values-more, values-none}
 use Rattle.items.proofs.Fits.{isValue, lexIn-pos}
 use Rattle.items.proofs.Lexes.{no-name}
 use Rattle.items.proofs.Offsets.{tokens-gap, Met, met, met-tag, first}
-use Rattle.items.proofs.Room.{sizes-cons, added-joined, sizes-none}
+use Rattle.items.proofs.Room.{sizes-cons, added-joined, sizes-none, none-joined, joined-none, upto-none, upto-added}
 use Rattle.items.proofs.Wanted.{wanted, found-wanted}
 
 -- names counted so far, and those from here on
@@ -166,3 +167,97 @@ value-stop s o g h =
     let q : foundAt s o ≡ wanted (x .class) (x .size) = found-wanted inBlock s o in
     rw (f .1, q, ← wanted-over (x .class) (x .size), ← wanted-why (x .class) (x .size))
     (values-nil (tok x o) (f .0) (no-value (x .class) (x .size) (λ k w e. h k w (q ∙ e))))
+
+-- the test for a tag
+pub tag-past : (s : List ℕ) (o : ℕ) → length s ≤ o → false ≡ tagAt s o
+unfolding tagAt tagFirst
+tag-past s o h = rw (drop-of-length-le s h)
+
+pub tag-here : (s : List ℕ) (o : ℕ) → o < length s → eqb (getD s o 0) 95 ≡ tagAt s o
+unfolding tagAt tagFirst is
+tag-here s o h = rw (drop-cons s o 0)
+
+-- WHAT THE LOOP OVER NAMES KEEPS: those counted, and those from here on, are those from the start on
+pub record NamesSoFar (s : List ℕ) (from at count : ℕ) (sizes : Sizes) : Type 0 where
+  pub within : at ≤ length s
+  pub bare : gap (drop at s) ≡ 0
+  pub few : count ≤ at
+  pub fits : Upto at sizes
+  pub names : namesAt s from ≡ addNames count sizes (namesAt s at)
+
+none-names : (a : Names) → a ≡ addNames 0 noSizes a
+unfolding addNames
+none-names a = rw (zero-add, none-joined)
+
+all-names : (n p : ℕ) (z : Sizes) → addNames n z (record { count = 0; next = p; sizes = noSizes }) ≡ record { count = n; next = p; sizes = z }
+unfolding addNames
+all-names n p z = rw (add-zero, joined-none)
+
+pub names-start : (s : List ℕ) (from : ℕ) → from ≤ length s → NamesSoFar s from (gapEnd s from) 0 noSizes
+names-start s from h =
+    record {
+      within = gap-within s from h;
+      bare = gap-none s from;
+      few = omega arith;
+      fits = upto-none (gapEnd s from);
+      names = none-names (namesAt s from) ∙ ap (addNames 0 noSizes) (sym (names-gap s from));
+    }
+
+pub names-next : (s : List ℕ) (from at count end next : ℕ) (sizes more : Sizes) → NamesSoFar s from at count sizes → tagAt s at ≡ true
+    → end ≡ wordEnd s at → next ≡ gapEnd s end → more ≡ added sizes 6 (end - at) → (at < next) × NamesSoFar s from next (count + 1) more
+names-next s from at count end next sizes more h e a b d =
+    let n = name-step s at (h .bare) e in
+    let l : end ≤ next = rw b (gap-from s end) in
+    let w : end ≤ length s = rw a (n .within) in
+    let o : at < end = rw a (n .onward) in (
+      omega arith,
+      record {
+        within = rw b (gap-within s end w);
+        bare = rw b (gap-none s end);
+        few = omega (arith, h .few);
+        fits = rw d (upto-added at 6 (end - at) next sizes (h .fits) (omega arith) (omega arith));
+        names = h .names ∙ n .turn count sizes ∙ rw (d, b, a);
+      },
+    )
+
+pub names-all : (s : List ℕ) (from at count : ℕ) (sizes : Sizes) → NamesSoFar s from at count sizes → tagAt s at ≡ false → record { count = count; next = at; sizes = sizes } ≡ namesAt s from
+names-all s from at count sizes h e = sym (h .names ∙ ap (addNames count sizes) (name-stop s at (h .bare) e) ∙ all-names count at sizes)
+
+-- WHAT THE LOOP OVER VALUES KEEPS
+pub record ValuesSoFar (s : List ℕ) (from at count : ℕ) (sizes : Sizes) : Type 0 where
+  pub within : at ≤ length s
+  pub bare : gap (drop at s) ≡ 0
+  pub few : count ≤ at
+  pub fits : Upto at sizes
+  pub values : valuesAt s from ≡ addValues count sizes (valuesAt s at)
+
+none-values : (a : Values) → a ≡ addValues 0 noSizes a
+unfolding addValues
+none-values a = rw (zero-add, none-joined)
+
+all-values : (n p : ℕ) (z : Sizes) (b : Bool) (w : Why) → addValues n z (record { count = 0; next = p; sizes = noSizes; over = b; why = w }) ≡ record { count = n; next = p; sizes = z; over = b; why = w }
+unfolding addValues
+all-values n p z b w = rw (add-zero, joined-none)
+
+pub values-start : (s : List ℕ) (from : ℕ) → from ≤ length s → gap (drop from s) ≡ 0 → ValuesSoFar s from from 0 noSizes
+values-start s from h g = record { within = h; bare = g; few = omega arith; fits = upto-none from; values = none-values (valuesAt s from) }
+
+pub values-next : (s : List ℕ) (from at count kind size next : ℕ) (sizes more : Sizes) → ValuesSoFar s from at count sizes → foundAt s at ≡ Value kind size
+    → next ≡ gapEnd s (at + size) → more ≡ added sizes kind size → (at < next) × ValuesSoFar s from next (count + 1) more
+values-next s from at count kind size next sizes more h e b d =
+    let v = value-step s at kind size (h .bare) e in
+    let l : at + size ≤ next = rw b (gap-from s (at + size)) in (
+      omega (arith, v .some-bytes),
+      record {
+        within = rw b (gap-within s (at + size) (v .within));
+        bare = rw b (gap-none s (at + size));
+        few = omega (arith, h .few, v .some-bytes);
+        fits = rw d (upto-added at kind size next sizes (h .fits) (omega (arith, v .some-bytes)) (omega arith));
+        values = h .values ∙ v .turn count sizes ∙ rw (d, b);
+      },
+    )
+
+pub values-all : (s : List ℕ) (from at count : ℕ) (sizes : Sizes) (f : Found) → ValuesSoFar s from at count sizes → f ≡ foundAt s at → ((k w : ℕ) → f ≡ Value k w → ⊥)
+    → record { count = count; next = at; sizes = sizes; over = isOverFound f; why = whyFound f } ≡ valuesAt s from
+values-all s from at count sizes f h e n =
+    sym (h .values ∙ ap (addValues count sizes) (value-stop s at (h .bare) (λ k w q. n k w (e ∙ q))) ∙ all-values count at sizes (isOverFound (foundAt s at)) (whyFound (foundAt s at)) ∙ rw e)

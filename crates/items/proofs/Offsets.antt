@@ -1,23 +1,20 @@
 -- The tokens of a text by offset: space is passed over, a token is met where its test holds, and reading goes on behind it; the last has no bytes.
 -- In the block and in a frame the tokens are the same up to a `save_` (Both). Assumes nothing.
 use Prim.Native.Nat.{ℕ, zero, suc, _+_, _-_, _≤_, _<_}
-use mathlib.Core.Path.{_≡_, refl, sym, ap, _∙_}
-use mathlib.Core.Bool.{Bool, true, false, cond, true≢false, false≢true}
+use mathlib.Core.Path.{_≡_, refl, sym, _∙_}
+use mathlib.Core.Bool.{Bool, true, false, false≢true}
 use mathlib.Core.List.{List, [], _∷_}
-use mathlib.Core.Logic.{_⊎_, inl, inr, ⊎-elim}
-use native.Mathlib.Nat.{add-suc, suc-add, add-zero}
+use mathlib.Core.Logic.{_⊎_, inl, inr}
 use native.Mathlib.Omega.{arith}
 use lib.ListN.{length, drop, length-drop}
 use lib.Seq.{drop-drop}
-use Rattle.text.specs.Bytes.{is}
 use Rattle.text.specs.Gaps.{gap, gapEnd}
 use Rattle.text.proofs.Gaps.{gap-from, gap-within, gap-none}
-use Rattle.words.specs.Words.{word, wordEnd}
+use Rattle.words.specs.Words.{word}
 use Rattle.words.specs.Keywords.{starts, startsAt, keyLoop, keySave, keyData}
-use Rattle.values.specs.Values.{Class, Reason, block, loop, save, tag, value, overLimit, nothing, atEnd, noStart, Lexed, lexed}
-use Rattle.values.specs.Answers.{whyOf}
+use Rattle.values.specs.Values.{Reason, block, loop, save, tag, nothing, atEnd, noStart, Lexed, lexed}
 use Rattle.items.specs.Tokens.{Mode, before, inBlock, inFrame, saveSize, lexIn, lex, after, Tok, tok, emit, step, tokensFrom}
-use Rattle.items.specs.Decisions.{tokensAt, headAt, headWhy, whyNot}
+use Rattle.items.specs.Decisions.{tokensAt, headAt}
 use Rattle.items.specs.Answers.{tagFirst, tagAt}
 use Rattle.items.proofs.Steps.{skip-step, token-step, last-step, first-step}
 use Rattle.items.proofs.Fits.{lex-fits}

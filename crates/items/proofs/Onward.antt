@@ -1,7 +1,7 @@
 -- Reading on: an item, a frame and the block as the code passes over them, against what the machine still answers. Assumes nothing.
-use Prim.Native.Nat.{ℕ, zero, suc, _+_, _-_, _≤_, _<_}
+use Prim.Native.Nat.{ℕ, _+_, _-_, _≤_, _<_}
 use mathlib.Core.Path.{_≡_, refl, sym, ap, _∙_}
-use mathlib.Core.Bool.{Bool, true, false, cond, true≢false, false≢true}
+use mathlib.Core.Bool.{Bool, true, false, cond, true≢false}
 use mathlib.Core.List.{List, [], _∷_, _++_, append-assoc}
 use mathlib.Core.Option.{Option, none, some}
 use native.Mathlib.Omega.{arith}
@@ -10,27 +10,28 @@ use Rattle.text.specs.Gaps.{gap, gapEnd}
 use Rattle.text.proofs.Gaps.{gap-from, gap-within, gap-none}
 use Rattle.words.specs.Words.{word, wordEnd}
 use Rattle.words.specs.Keywords.{starts, startsAt, keyData, keySave}
-use Rattle.values.specs.Values.{Class, Reason, block, loop, save, tag, value, overLimit, nothing, atEnd, reservedWord, noStart, openQuote, openField, Lexed, lexed}
+use Rattle.values.specs.Values.{Class, block, loop, save, tag, value, overLimit, nothing, lexed}
 use Rattle.items.specs.declared.Sizes.{Sizes}
 use Rattle.items.specs.declared.Decision.{Decision}
 use Rattle.items.specs.declared.Decision.the-variants.{Fits, NoData, OpenFrame}
 use Rattle.items.specs.declared.Step.{Step}
 use Rattle.items.specs.declared.Step.the-variants.{Read, Refused}
+use Rattle.items.specs.declared.Item.{Item as Answered}
 use Rattle.items.specs.declared.Inside.{Inside}
 use Rattle.items.specs.declared.Inside.the-variants.{Read as ReadInside, Dropped, Refused as RefusedInside}
-use Rattle.items.specs.Tokens.{Mode, before, inBlock, inFrame, lexIn, lex, after, Tok, tok, tokens, tokensFrom}
-use Rattle.items.specs.Machine.{Rec, Answer, refused, done, run, config, start, items, rec, follow, move, atStart, atItem, fails, closes, stop}
-use Rattle.items.specs.Sizes.{sizesOf, storeSize, outlineSize, areaSize, noSizes, added, joined, Upto}
+use Rattle.items.specs.Tokens.{before, inBlock, inFrame, lexIn, lex, after, Tok, tok, tokens, tokensFrom}
+use Rattle.items.specs.Machine.{Rec, Answer, refused, done, run, config, items, rec, follow, move, atStart, atItem, fails, closes, stop}
+use Rattle.items.specs.Sizes.{sizesOf, noSizes, added, joined, Upto}
 use Rattle.items.specs.Reading.{decided}
-use Rattle.items.specs.Descent.{Item, taken, failed, broken, item}
-use Rattle.items.specs.Decisions.{tokensAt, headAt, headWhy, told, tells, refusal, room}
+use Rattle.items.specs.Descent.{Item, item}
+use Rattle.items.specs.Decisions.{tokensAt, headAt, told, tells}
 use Rattle.items.specs.Answers.{itemAnswer, itemAt}
 use Rattle.items.specs.Frames.{inBlockOf, inFrameOf, frameEnd, modeOf, left, blockAt, Passed, Stepped}
-use Rattle.items.proofs.Descent.{Ends, isPlain, failedRun, itemRun, item-in-frame, item-in-block}
+use Rattle.items.proofs.Descent.{isPlain, failedRun, itemRun, item-in-frame, item-in-block}
 use Rattle.items.proofs.Lexes.{lex-plain}
 use Rattle.items.proofs.Offsets.{tokens-gap, tokens-ends, Met, met-open, met-close, met-data, first, Spot, Both, both-last, both-save, both-more, both, both-spot}
 use Rattle.items.proofs.Passes.{AlikeItem, alike-taken, alike-ragged, alike-alone, alike-absent, alike-unnamed, alike-over, item-alike}
-use Rattle.items.proofs.Room.{sizes-append, sizes-one, sizes-none, added-none, none-joined, upto-none, upto-added, upto-joined, upto-more}
+use Rattle.items.proofs.Room.{sizes-append, sizes-one, added-none, upto-none, upto-added, upto-joined, upto-more}
 
 -- what is answered where a frame's item was dropped: the token there must close the frame
 unfoldable pub closing : ℕ → List Rec → List Tok → Answer
@@ -322,3 +323,49 @@ no-data s o g e = let f = first s o g before in rw (f .1, e)
 pub decided-from : (s : List ℕ) → decided s ≡ blockAt s (gapEnd s 0)
 unfolding decided blockAt tokens
 decided-from s = rw (tokens-gap before s 0) (unfold tokensAt in refl)
+
+-- a heading's word lies in the text
+pub save-within : (s : List ℕ) (o : ℕ) → gap (drop o s) ≡ 0 → startsAt keySave s o ≡ true → (o < wordEnd s o) × (wordEnd s o ≤ length s)
+unfolding wordEnd lexed
+save-within s o g e = let m = met-open s o g e in (omega (arith, m .some-bytes), m .within)
+
+pub data-within : (s : List ℕ) (o : ℕ) → gap (drop o s) ≡ 0 → startsAt keyData s o ≡ true → (o < wordEnd s o) × (wordEnd s o ≤ length s)
+unfolding wordEnd lexed
+data-within s o g e = let m = met-data s o g e in (omega (arith, m .some-bytes), m .within)
+
+-- what a frame's item is, once it is known
+module _ (s : List ℕ) (a o : ℕ) (h : o ≤ length s) (g : gap (drop o s) ≡ 0) (i : Answered) (e : i ≡ itemAt s o) (x : Inside) (f : x ≡ inFrameOf i) where
+  inside-known : PassedInside s a o x
+  inside-known = rw (f, e) (item-inside s a o h g)
+
+  pub inside-read : (p : ℕ) (z : Sizes) → x ≡ ReadInside p z → Passed s (some a) o (some a) p z
+  unfolding PassedInside
+  inside-read p z q = rw q at inside-known
+
+  pub inside-dropped : (p : ℕ) → x ≡ Dropped p → DroppedAt s a o p
+  unfolding PassedInside
+  inside-dropped p q = rw q at inside-known
+
+  pub inside-refused : (d : Decision) → x ≡ RefusedInside d → (out : List Rec) → told d ≡ tells (left (some a) s o out)
+  unfolding PassedInside
+  inside-refused d q = rw q at inside-known
+
+-- what a part of the block is, once it is known
+pub stepped-read : (s : List ℕ) (o p : ℕ) (z : Sizes) (x : Step) → Stepped s o x → x ≡ Read p z → Passed s none o none p z
+unfolding Stepped
+stepped-read s o p z x h q = rw q at h
+
+pub stepped-refused : (s : List ℕ) (o : ℕ) (d : Decision) (x : Step) → Stepped s o x → x ≡ Refused d → (out : List Rec) → told d ≡ tells (left none s o out)
+unfolding Stepped
+stepped-refused s o d x h q = rw q at h
+
+-- the text's start as the code finds it
+module _ (s : List ℕ) (o : ℕ) (e : o ≡ gapEnd s 0) where
+  pub start-bare : (o ≤ length s) × (gap (drop o s) ≡ 0)
+  start-bare = rw e (gap-within s 0 (omega arith), gap-none s 0)
+
+  pub decided-at : decided s ≡ blockAt s o
+  decided-at = decided-from s ∙ ap (blockAt s) (sym e)
+
+  pub decided-none : startsAt keyData s o ≡ false → told (NoData o) ≡ tells (decided s)
+  decided-none f = rw decided-at (no-data s o (start-bare .1) f)

@@ -1,23 +1,23 @@
 -- An item's tokens in the block and in a frame: the records are the same, the rest starts at the same offset, and the records take at most 64 bytes
 -- for each byte of text. Assumes nothing.
-use Prim.Native.Nat.{ℕ, zero, suc, _+_, _-_, _%_, _≤_, _<_}
-use mathlib.Core.Path.{_≡_, refl, sym, ap, _∙_}
+use Prim.Native.Nat.{ℕ, _+_, _-_, _%_, _≤_, _<_}
+use mathlib.Core.Path.{_≡_, refl, ap}
 use mathlib.Core.Bool.{Bool, true, false, cond}
 use mathlib.Core.List.{List, [], _∷_, _++_}
-use mathlib.Core.Logic.{_⊎_, inl, inr, ⊎-elim}
+use mathlib.Core.Logic.{_⊎_, inl, inr}
 use native.Mathlib.Omega.{arith}
 use lib.Dec.{eqb}
-use lib.ListN.{length, drop}
+use lib.ListN.{length}
 use Rattle.values.specs.Values.{Class, Reason, block, loop, save, tag, value, overLimit, nothing}
-use Rattle.items.specs.Tokens.{Mode, inBlock, inFrame, Tok}
+use Rattle.items.specs.Tokens.{Tok}
 use Rattle.items.specs.Machine.{Rec, rec, loopEnd}
 use Rattle.records.specs.Kinds.{kindOf, shapeOf, shapeLength, outlineShape, bodyLength, outlineLength, isContent, hasContent}
 use Rattle.items.specs.Sizes.{contentSize, sizesOf, noSizes, added, joined, Upto}
-use Rattle.items.specs.Descent.{nameThen, nameRest, nameRecs, afterNames, valueThen, valueRest, valueRecs, afterValues, Item, taken, failed, broken, isOver, rows, loopBy, loopItem, single, tagItem, itemBy, item}
+use Rattle.items.specs.Descent.{nameRecs, afterNames, valueRecs, afterValues, Item, taken, failed, broken, isOver, rows, loopBy, loopItem, single, tagItem, itemBy, item}
 use Rattle.items.specs.Decisions.{headAt}
 use Rattle.items.proofs.Descent.{NoName, name-or-not, NoValue, value-or-not, names-more, names-none, values-more, values-none, nothing-name, nothing-value, save-name, save-value}
-use Rattle.items.proofs.Offsets.{Spot, Both, both-last, both-save, both-more, both-spot, both-from}
-use Rattle.items.proofs.Room.{sizes-cons, sizes-none, sizes-one, sizes-append, upto-none, upto-added, upto-joined, upto-more}
+use Rattle.items.proofs.Offsets.{Both, both-last, both-save, both-more, both-from}
+use Rattle.items.proofs.Room.{sizes-cons, sizes-none, sizes-one, sizes-append, upto-none, upto-added, upto-joined}
 
 -- records of tokens from o to p, the same in both lists, and what follows them
 pub record Alike (s : List ℕ) (o : ℕ) (rs qs : List Rec) (ts us : List Tok) : Type 0 where

@@ -1,12 +1,13 @@
 -- Laws of sizes: those of appended records add up, and records take at most 64 bytes for each byte of text. Assumes nothing.
-use Prim.Native.Nat.{ℕ, suc, _+_, _-_, _*_, _≤_}
-use mathlib.Core.Path.{_≡_, refl, sym, ap, _∙_}
+use Prim.Native.Nat.{ℕ, suc, _+_, _-_, _≤_}
+use mathlib.Core.Path.{_≡_, refl}
 use mathlib.Core.Bool.{Bool, true, false, cond}
 use mathlib.Core.List.{List, [], _∷_, _++_}
 use native.Mathlib.Omega.{arith}
+use Rattle.records.specs.declared.Kind.{Kind}
 use Rattle.records.specs.declared.Shape.{Shape}
 use Rattle.records.specs.declared.Shape.the-variants.{Empty, Place, Content, Count, Parts, PartsUncertain}
-use Rattle.records.specs.Kinds.{kindOf, shapeOf, shapeLength, outlineShape, marksOf, bodyLength, outlineLength, hasContent}
+use Rattle.records.specs.Kinds.{kindOf, shapeOf, shapeLength, outlineShape, marksOf, bodyLength, outlineLength, isContent, hasContent}
 use Rattle.items.specs.declared.Sizes.{Sizes}
 use Rattle.items.specs.Machine.{Rec}
 use Rattle.items.specs.Sizes.{contentSize, storeSize, outlineSize, areaSize, sizesOf, noSizes, added, joined, Upto}
@@ -120,3 +121,21 @@ added-none z k n = same (omega arith) (omega arith) (omega arith)
 pub joined-none : (z : Sizes) → joined z noSizes ≡ z
 unfolding joined noSizes
 joined-none z = same (omega arith) (omega arith) (omega arith)
+
+-- as the code adds them
+pub added-steps : (z : Sizes) (k n a b d : ℕ) → a ≡ bodyLength k → b ≡ outlineLength k → d ≡ contentSize k n → record { store = z .store + 1 + a; outline = z .outline + 1 + b; area = z .area + d } ≡ added z k n
+unfolding added
+added-steps z k n a b d e f g = same (omega arith) (omega arith) (omega arith)
+
+-- content by shape
+pub content-none : (k n : ℕ) → hasContent k ≡ false → 0 ≡ contentSize k n
+unfolding contentSize
+content-none k n e = rw e
+
+pub content-some : (k n : ℕ) → hasContent k ≡ true → n - marksOf (kindOf k) ≡ contentSize k n
+unfolding contentSize
+content-some k n e = rw e
+
+pub content-by : (k n m : ℕ) (kind : Kind) (h : Shape) → kind ≡ kindOf k → h ≡ shapeOf kind → h ≡ Content → m ≡ marksOf kind → n - m ≡ contentSize k n
+unfolding hasContent isContent
+content-by k n m kind h a b e d = rw (d, a) (content-some k n (rw (← a, ← b, e)))

@@ -1,11 +1,11 @@
 -- Where a value is wanted: what the value reader finds is what the token there says, in the block and in a frame. Assumes nothing.
-use Prim.Native.Nat.{ℕ, suc, _+_, _≤_, _<_}
-use mathlib.Core.Path.{_≡_, refl, sym, ap, _∙_}
-use mathlib.Core.Bool.{Bool, true, false, not, cond, _&&_, _||_}
+use Prim.Native.Nat.{ℕ}
+use mathlib.Core.Path.{_≡_, refl, _∙_}
+use mathlib.Core.Bool.{Bool, true, false, cond, _||_}
 use mathlib.Core.List.{List, [], _∷_}
 use mathlib.Core.Option.{Option, none, some}
 use borrow.Author.Tests.{eqb-true}
-use lib.Dec.{eqb, leb}
+use lib.Dec.{eqb}
 use lib.ListN.{take, drop}
 use Rattle.text.specs.Bytes.{is}
 use Rattle.words.specs.Words.{word, isOrdinary}
@@ -13,9 +13,9 @@ use Rattle.words.specs.Keywords.{starts, keyData, keyGlobal, keyLoop, keySave, 
 use Rattle.words.specs.Quotes.{quoted, field}
 use Rattle.numbers.specs.Parts.{Parts, parts, isNumber, within}
 use Rattle.numbers.specs.Meaning.{meaning}
-use Rattle.values.specs.Values.{Class, Reason, block, loop, save, tag, value, overLimit, nothing, atEnd, reservedWord, noStart, openQuote, openField, Lexed, lexed, numberOr, wordOr, closed, lexValue, lexAsValue}
+use Rattle.values.specs.Values.{Class, Reason, block, loop, save, tag, value, overLimit, nothing, reservedWord, noStart, openQuote, openField, Lexed, lexed, numberOr, wordOr, closed, lexValue, lexAsValue}
 use Rattle.values.specs.Answers.{whyOf, answer, valueAnswer, valueAt}
-use Rattle.values.specs.declared.Why.the-variants.{AtEnd, Reserved, NoStart}
+use Rattle.values.specs.declared.Why.the-variants.{Reserved, NoStart}
 use Rattle.items.specs.declared.Found.{Found}
 use Rattle.items.specs.declared.Found.the-variants.{Value, Over, Missing}
 use Rattle.items.specs.Tokens.{Mode, saveSize, lexIn}

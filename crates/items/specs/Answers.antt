@@ -1,5 +1,5 @@
 -- What the code answers of a value, a loop's names and values, and the item at an offset. Assumes nothing.
-use Prim.Native.Nat.{ℕ, _+_, _%_, _≤_}
+use Prim.Native.Nat.{ℕ, _%_, _≤_}
 use mathlib.Core.Path.{_≡_}
 use mathlib.Core.Bool.{Bool, true, false, cond}
 use mathlib.Core.List.{List, [], _∷_}
@@ -8,10 +8,9 @@ use lib.ListN.{length, drop}
 use Rattle.text.specs.Bytes.{is}
 use Rattle.text.specs.Gaps.{gap}
 use Rattle.numbers.specs.declared.Decimal.{Decimal}
-use Rattle.values.specs.Values.{Class, Lexed, block, loop, save, tag, value, overLimit, nothing}
-use Rattle.values.specs.Answers.{whyOf, valueAt}
+use Rattle.values.specs.Answers.{valueAt}
 use Rattle.values.specs.declared.Why.{Why}
-use Rattle.values.specs.declared.Why.the-variants.{AtEnd, Reserved, NoStart}
+use Rattle.values.specs.declared.Why.the-variants.{AtEnd}
 use Rattle.values.specs.declared.Value.{Value as ValueAnswer}
 use Rattle.values.specs.declared.Value.the-variants.{Token, Number, Over as OverAnswer, Missing as MissingAnswer}
 use Rattle.items.specs.declared.Found.{Found}
@@ -20,7 +19,7 @@ use Rattle.items.specs.declared.Names.{Names}
 use Rattle.items.specs.declared.Values.{Values}
 use Rattle.items.specs.declared.Item.{Item as Answered}
 use Rattle.items.specs.declared.Item.the-variants.{Loop, Single, Ragged, NoValue, NoItem, NoNames, Over}
-use Rattle.items.specs.Tokens.{Tok, Mode, inBlock}
+use Rattle.items.specs.Tokens.{Tok, inBlock}
 use Rattle.items.specs.Reading.{limit}
 use Rattle.items.specs.Sizes.{sizesOf, noSizes, added, joined}
 use Rattle.items.specs.Descent.{Item, taken, failed, broken, item, nameRecs, afterNames, valueRecs, afterValues, isOver}

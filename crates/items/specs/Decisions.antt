@@ -37,8 +37,9 @@ unfoldable pub headWhy : List Tok → Why
 headWhy [] = AtEnd
 headWhy (t ∷ ts) = whyNot (t .class)
 
--- an answer in document 01's numbers
+-- an answer in document 01's numbers; the flag: the text is read
 pub record Told : Type 0 where
+  pub isRead : Bool
   pub number : ℕ
   pub offset : ℕ
   pub detail : ℕ
@@ -47,10 +48,10 @@ pub record Told : Type 0 where
   pub area : ℕ
 
 unfoldable pub refusal : ℕ → ℕ → ℕ → Told
-refusal n o d = record { number = n; offset = o; detail = d; store = 0; outline = 0; area = 0 }
+refusal n o d = record { isRead = false; number = n; offset = o; detail = d; store = 0; outline = 0; area = 0 }
 
 unfoldable pub room : ℕ → ℕ → ℕ → Told
-room m o a = record { number = 0; offset = 0; detail = 0; store = m; outline = o; area = a }
+room m o a = record { isRead = true; number = 0; offset = 0; detail = 0; store = m; outline = o; area = a }
 
 unfoldable pub told : Decision → Told
 told (Fits z) = room (z .store) (z .outline) (z .area)

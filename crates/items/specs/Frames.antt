@@ -1,8 +1,8 @@
 -- Reading on: what the machine still answers from an offset, and what an item or a frame there changes of it. Assumes nothing.
 use Prim.Native.Nat.{ℕ, _+_, _-_, _≤_, _<_}
 use mathlib.Core.Path.{_≡_}
-use mathlib.Core.Bool.{Bool, true, false, cond}
-use mathlib.Core.List.{List, [], _∷_, _++_}
+use mathlib.Core.Bool.{cond}
+use mathlib.Core.List.{List, [], _++_}
 use mathlib.Core.Option.{Option, none, some}
 use lib.ListN.{length, drop}
 use Rattle.text.specs.Gaps.{gap, gapEnd}
@@ -10,7 +10,6 @@ use Rattle.words.specs.Keywords.{startsAt, keySave}
 use Rattle.items.specs.declared.Sizes.{Sizes}
 use Rattle.items.specs.declared.Item.{Item as Answered}
 use Rattle.items.specs.declared.Item.the-variants.{Loop, Single, Ragged, NoValue, NoItem, NoNames, Over}
-use Rattle.items.specs.declared.Decision.{Decision}
 use Rattle.items.specs.declared.Decision.the-variants.{OpenFrame, Ragged as RaggedLoop, NoValue as TagAlone, NoItem as ItemAbsent, NoNames as NamesAbsent, Over as OverLimit}
 use Rattle.items.specs.declared.Step.{Step}
 use Rattle.items.specs.declared.Step.the-variants.{Read, Refused}
@@ -20,7 +19,6 @@ use Rattle.items.specs.Tokens.{Mode, before, inBlock, inFrame}
 use Rattle.items.specs.Machine.{Rec, Answer, run, config, start, items}
 use Rattle.items.specs.Sizes.{sizesOf, added, Upto}
 use Rattle.items.specs.Decisions.{tokensAt, told, tells}
-use Rattle.items.specs.Answers.{Here}
 
 -- in the block 5 to 9 end the reading
 abbrev pub inBlockOf : Answered → Step

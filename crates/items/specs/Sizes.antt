@@ -1,6 +1,6 @@
 -- The room that records take: in the store, in the outline's store and in the area. Assumes nothing.
 use Prim.Native.Nat.{ℕ, suc, _+_, _-_, _*_, _≤_}
-use mathlib.Core.Bool.{Bool, cond}
+use mathlib.Core.Bool.{cond}
 use mathlib.Core.List.{List, [], _∷_}
 use Rattle.records.specs.Kinds.{kindOf, marksOf, bodyLength, outlineLength, hasContent}
 use Rattle.items.specs.Machine.{Rec}

@@ -3,18 +3,15 @@ ghost use mathlib.Core.Path.{_≡_};
 ghost use mathlib.Core.Bool.{true};
 ghost use Prim.Native.Nat.{ℕ, _+_, _*_, _≤_, _<_};
 ghost use lib.ListN.{length};
-ghost use Rattle.words.specs.Words.{wordEnd};
 ghost use Rattle.words.specs.Keywords.{startsAt, keyData, keyLoop, keySave};
-ghost use Rattle.values.specs.Answers.{valueAt};
-ghost use Rattle.records.specs.Kinds.{bodyLength, outlineLength};
 ghost use Rattle.items.specs.Sizes.{contentSize, noSizes, added, joined, Upto};
 ghost use Rattle.items.specs.Decisions.{told, tells};
 ghost use Rattle.items.specs.Reading.{decided, limit};
-ghost use Rattle.items.specs.Answers.{Ready, Here, tagAt, kindOfNumber, foundOf, foundAt, isOverFound, whyFound, namesAt, valuesAt, rowsOf, itemAt};
+ghost use Rattle.items.specs.Answers.{Ready, Here, tagAt, kindOfNumber, foundAt, isOverFound, whyFound, namesAt, valuesAt, rowsOf, itemAt};
 ghost use Rattle.items.specs.Frames.{inBlockOf, inFrameOf, frameEnd, Stepped, blockAt};
 use numbers::Decimal;
-use values::Value;
-use values::Why;
+use records::{Kind, Shape};
+use values::{Value, Why};
 
 // The room that records take.
 pub struct Sizes {
@@ -69,37 +66,396 @@ pub enum Decision {
 }
 
 // What stands where a value may: one, by its kind and length; a number over a digit limit; none.
-pub enum Found {
+enum Found {
     Value { kind: u8, size: usize },
     Over,
     Missing { why: Why },
 }
 
 // The names of a loop: how many, and the offset behind them and the space and comments there.
-pub struct Names {
-    pub count: usize,
-    pub next: usize,
-    pub sizes: Sizes,
+struct Names {
+    count: usize,
+    next: usize,
+    sizes: Sizes,
 }
 
 // The values of a loop, and why the list ended.
-pub struct Values {
-    pub count: usize,
-    pub next: usize,
-    pub sizes: Sizes,
-    pub over: bool,
-    pub why: Why,
+struct Values {
+    count: usize,
+    next: usize,
+    sizes: Sizes,
+    over: bool,
+    why: Why,
 }
 
 // What an item, or a frame, is in the block: read, or the reading's end.
-pub enum Step {
+enum Step {
     Read { next: usize, sizes: Sizes },
     Refused { decision: Decision },
 }
 
 // What an item is in a frame: read; dropped, with the offset where it stopped; or the reading's end.
-pub enum Inside {
+enum Inside {
     Read { next: usize, sizes: Sizes },
     Dropped { stop: usize },
     Refused { decision: Decision },
+}
+
+// What a token of a kind and of so many bytes puts into the area: its bytes less the marks, if the kind has content.
+fn content_length(kind: u8, size: usize) -> usize
+    ensures { λ r. ⌜ r ≡ contentSize kind size ⌝ }
+{
+    let kind = Kind::of(kind);
+    let shape = kind.shape();
+    let Shape::Content = shape else {
+        return 0;
+    };
+    let marks = kind.marks();
+    if size < marks {
+        return 0;
+    }
+    size - marks
+}
+
+impl Sizes {
+    fn none() -> Sizes
+        ensures { λ r. ⌜ r ≡ noSizes ⌝ }
+    {
+        Sizes {
+            store: 0,
+            outline: 0,
+            area: 0,
+        }
+    }
+
+    // One record more, of a kind and of a token with so many bytes.
+    fn add(self, kind: u8, size: usize) -> Sizes
+        requires { ⌜ Upto (limit * limit) self × (size ≤ limit) ⌝ }
+        ensures { λ r. ⌜ r ≡ added self kind size ⌝ }
+    {
+        Sizes {
+            store: self.store + 1 + records::body_length(kind),
+            outline: self.outline + 1 + records::outline_length(kind),
+            area: self.area + content_length(kind, size),
+        }
+    }
+
+    // The records of both.
+    fn join(self, other: Sizes) -> Sizes
+        requires { ⌜ Upto (limit * limit) self × Upto (limit * limit) other ⌝ }
+        ensures { λ r. ⌜ r ≡ joined self other ⌝ }
+    {
+        Sizes {
+            store: self.store + other.store,
+            outline: self.outline + other.outline,
+            area: self.area + other.area,
+        }
+    }
+}
+
+// Whether a tag stands at an offset.
+fn at_tag(s: &[u8], at: usize) -> bool
+    ensures { λ r. ⌜ r ≡ tagAt (now (s .entry)) at ⌝ }
+{
+    if s.len() <= at {
+        return false;
+    }
+    s[at] == 95
+}
+
+// Kind 14, or 15 with uncertainty.
+fn number_kind(decimal: Decimal) -> u8
+    ensures { λ r. ⌜ r ≡ kindOfNumber decimal ⌝ }
+{
+    if decimal.uncertain {
+        return 15;
+    }
+    14
+}
+
+// The value at an offset, by its kind and length.
+fn find_value(s: &[u8], at: usize) -> Found
+    ensures { λ r. ⌜ r ≡ foundAt (now (s .entry)) at ⌝ }
+{
+    let value = values::parse_value(s, at);
+    match value {
+        Value::Token { kind, size } => Found::Value { kind, size },
+        Value::Number { decimal, size } => Found::Value {
+            kind: number_kind(decimal),
+            size,
+        },
+        Value::Over => Found::Over,
+        Value::Missing { why } => Found::Missing { why },
+    }
+}
+
+fn is_over(found: Found) -> bool
+    ensures { λ r. ⌜ r ≡ isOverFound found ⌝ }
+{
+    match found {
+        Found::Over => true,
+        _ => false,
+    }
+}
+
+fn why_not(found: Found) -> Why
+    ensures { λ r. ⌜ r ≡ whyFound found ⌝ }
+{
+    match found {
+        Found::Missing { why } => why,
+        _ => Why::AtEnd,
+    }
+}
+
+// The names of a loop, from behind its `loop_` on.
+fn count_names(s: &[u8], from: usize) -> Names
+    requires { ⌜ Ready (now s) from ⌝ }
+    ensures { λ r. ⌜ r ≡ namesAt (now (s .entry)) from ⌝ }
+{
+    let mut at = text::gap_end(s, from);
+    let mut count: usize = 0;
+    let mut sizes = Sizes::none();
+    loop {
+        if !at_tag(s, at) {
+            return Names {
+                count,
+                next: at,
+                sizes,
+            };
+        }
+        let end = words::parse_identifier(s, at);
+        sizes = sizes.add(6, end - at);
+        count += 1;
+        at = text::gap_end(s, end);
+    }
+}
+
+// The values of a loop, until one fails.
+fn count_values(s: &[u8], from: usize) -> Values
+    requires { ⌜ Here (now s) from ⌝ }
+    ensures { λ r. ⌜ r ≡ valuesAt (now (s .entry)) from ⌝ }
+{
+    let mut at = from;
+    let mut count: usize = 0;
+    let mut sizes = Sizes::none();
+    loop {
+        let found = find_value(s, at);
+        let Found::Value { kind, size } = found else {
+            return Values {
+                count,
+                next: at,
+                sizes,
+                over: is_over(found),
+                why: why_not(found),
+            };
+        };
+        sizes = sizes.add(kind, size);
+        count += 1;
+        at = text::gap_end(s, at + size);
+    }
+}
+
+// A loop whose names and values are counted: whole rows, or a remainder.
+fn rows(at: usize, names: Names, values: Values) -> Item
+    requires { ⌜ (0 < names .count) × Upto limit (names .sizes) × Upto limit (values .sizes) ⌝ }
+    ensures { λ r. ⌜ r ≡ rowsOf at names values ⌝ }
+{
+    let remainder = values.count % names.count;
+    if remainder != 0 {
+        return Item::Ragged {
+            at,
+            remainder,
+            stop: values.next,
+        };
+    }
+    let named = names.sizes;
+    let valued = values.sizes;
+    let why = values.why;
+    let sizes = Sizes::none().add(5, 5).join(named).join(valued).add(7, 0);
+    Item::Loop {
+        next: values.next,
+        sizes,
+        why,
+    }
+}
+
+// The loop whose `loop_` stands at an offset.
+fn parse_loop(s: &[u8], at: usize) -> Item
+    requires { ⌜ Here (now s) at × (startsAt keyLoop (now s) at ≡ true) ⌝ }
+    ensures { λ r. ⌜ r ≡ itemAt (now (s .entry)) at ⌝ }
+{
+    let names = count_names(s, at + 5);
+    if names.count == 0 {
+        return Item::NoNames { at };
+    }
+    let next = names.next;
+    let values = count_values(s, next);
+    if values.over {
+        return Item::Over { at: values.next };
+    }
+    rows(at, names, values)
+}
+
+// The tag at an offset, and its value.
+fn parse_tag(s: &[u8], at: usize) -> Item
+    requires { ⌜ Here (now s) at × (tagAt (now s) at ≡ true) ⌝ }
+    ensures { λ r. ⌜ r ≡ itemAt (now (s .entry)) at ⌝ }
+{
+    let end = words::parse_identifier(s, at);
+    let stop = text::gap_end(s, end);
+    let found = find_value(s, stop);
+    if let Found::Value { kind, size } = found {
+        let sizes = Sizes::none().add(4, end - at).add(kind, size);
+        return Item::Single {
+            next: text::gap_end(s, stop + size),
+            sizes,
+        };
+    }
+    if is_over(found) {
+        return Item::Over { at: stop };
+    }
+    Item::NoValue {
+        at,
+        stop,
+        why: why_not(found),
+    }
+}
+
+// The item at an offset where no space or comment stands.
+pub fn parse_data_item(s: &[u8], at: usize) -> Item
+    requires { ⌜ Here (now s) at ⌝ }
+    ensures { λ r. ⌜ r ≡ itemAt (now (s .entry)) at ⌝ }
+{
+    if words::at_loop(s, at) {
+        return parse_loop(s, at);
+    }
+    if at_tag(s, at) {
+        return parse_tag(s, at);
+    }
+    Item::NoItem { at }
+}
+
+// What an item comes to in the block: 5 to 9 end the reading.
+fn in_block(item: Item) -> Step
+    ensures { λ r. ⌜ r ≡ inBlockOf item ⌝ }
+{
+    match item {
+        Item::Loop { next, sizes, why: _ } => Step::Read { next, sizes },
+        Item::Single { next, sizes } => Step::Read { next, sizes },
+        Item::Ragged { at, remainder, stop: _ } => Step::Refused {
+            decision: Decision::Ragged { at, remainder },
+        },
+        Item::NoValue { at, stop: _, why: _ } => Step::Refused {
+            decision: Decision::NoValue { at },
+        },
+        Item::NoItem { at } => Step::Refused {
+            decision: Decision::NoItem { at },
+        },
+        Item::NoNames { at } => Step::Refused {
+            decision: Decision::NoNames { at },
+        },
+        Item::Over { at } => Step::Refused {
+            decision: Decision::Over { at },
+        },
+    }
+}
+
+// What an item comes to in a frame: 5, 6 and 7 drop it, 8 and 9 end the reading.
+fn in_frame(item: Item) -> Inside
+    ensures { λ r. ⌜ r ≡ inFrameOf item ⌝ }
+{
+    match item {
+        Item::Loop { next, sizes, why: _ } => Inside::Read { next, sizes },
+        Item::Single { next, sizes } => Inside::Read { next, sizes },
+        Item::Ragged { at: _, remainder: _, stop } => Inside::Dropped { stop },
+        Item::NoValue { at: _, stop, why: _ } => Inside::Dropped { stop },
+        Item::NoItem { at } => Inside::Dropped { stop: at },
+        Item::NoNames { at } => Inside::Refused {
+            decision: Decision::NoNames { at },
+        },
+        Item::Over { at } => Inside::Refused {
+            decision: Decision::Over { at },
+        },
+    }
+}
+
+// A frame's items have ended: `save_` must stand where the last one stopped.
+fn close_frame(s: &[u8], start: usize, sizes: Sizes, stop: usize) -> Step
+    requires { ⌜ Ready (now s) stop × Upto limit sizes ⌝ }
+    ensures { λ r. ⌜ r ≡ frameEnd (now (s .entry)) start sizes stop ⌝ }
+{
+    if !words::at_save(s, stop) {
+        return Step::Refused {
+            decision: Decision::OpenFrame { at: start },
+        };
+    }
+    Step::Read {
+        next: text::gap_end(s, stop + 5),
+        sizes: sizes.add(3, 5),
+    }
+}
+
+// The frame whose `save_` stands at an offset.
+fn parse_save_frame(s: &[u8], start: usize) -> Step
+    requires { ⌜ Here (now s) start × (startsAt keySave (now s) start ≡ true) ⌝ }
+    ensures { λ r. ⌜ Stepped (now (s .entry)) start r ⌝ }
+{
+    let end = words::parse_identifier(s, start);
+    let mut sizes = Sizes::none().add(2, end - start);
+    let mut at = text::gap_end(s, end);
+    loop {
+        let inside = in_frame(parse_data_item(s, at));
+        match inside {
+            Inside::Read { next, sizes: more } => {
+                sizes = sizes.join(more);
+                at = next;
+            }
+            Inside::Dropped { stop } => return close_frame(s, start, sizes, stop),
+            Inside::Refused { decision } => return Step::Refused { decision },
+        }
+    }
+}
+
+// The item or the frame at an offset of the block.
+fn parse_data_item_or_save_frame(s: &[u8], at: usize) -> Step
+    requires { ⌜ Here (now s) at × (at < length (now s)) ⌝ }
+    ensures { λ r. ⌜ Stepped (now (s .entry)) at r ⌝ }
+{
+    if words::at_save(s, at) {
+        return parse_save_frame(s, at);
+    }
+    in_block(parse_data_item(s, at))
+}
+
+// The block whose `data_` stands at an offset.
+fn parse_data_block(s: &[u8], start: usize) -> Decision
+    requires { ⌜ Here (now s) start × (startsAt keyData (now s) start ≡ true) ⌝ }
+    ensures { λ r. ⌜ told r ≡ tells (blockAt (now (s .entry)) start) ⌝ }
+{
+    let end = words::parse_identifier(s, start);
+    let mut sizes = Sizes::none().add(1, end - start);
+    let mut at = text::gap_end(s, end);
+    while at < s.len() {
+        let step = parse_data_item_or_save_frame(s, at);
+        match step {
+            Step::Read { next, sizes: more } => {
+                sizes = sizes.join(more);
+                at = next;
+            }
+            Step::Refused { decision } => return decision,
+        }
+    }
+    Decision::Fits { sizes }
+}
+
+// What a text of at most 16,777,216 bytes comes to.
+pub fn lex_cif(s: &[u8]) -> Decision
+    requires { ⌜ length (now s) ≤ limit ⌝ }
+    ensures { λ r. ⌜ told r ≡ tells (decided (now (s .entry))) ⌝ }
+{
+    let at = text::gap_end(s, 0);
+    if !words::at_data(s, at) {
+        return Decision::NoData { at };
+    }
+    parse_data_block(s, at)
 }

@@ -18,7 +18,7 @@ use Rattle.records.specs.Kinds.{kindOf, shapeOf, shapeLength, bodyLength
 use Rattle.records.specs.Bytes.{le32, le64, signed32, flag}
 use Rattle.records.specs.Records.{tokenBytes, decimalBytes, endRecord, placeRecord, contentRecord, loopRecord, numberRecord, uncertainRecord}
 use Rattle.records.proofs.Forms.{length-token, length-decimal}
-use Rattle.records.specs.Entries.{de32, de64, tokenOf, partsOf, stored, noToken, noParts, fieldsOf, isKind, entryOf, entryAt}
+use Rattle.records.specs.Entries.{de32, de64, tokenOf, partsOf, stored, noParts, noFields, plainFields, partsFields, fieldsOf, isKind, entryOf, entryAt}
 
 digits : (v a b c d p q r s m : ℕ) → v ≡ a + p * 256 → p ≡ b + q * 256 → q ≡ c + r * 256 → r ≡ d + s * 256 → v ≡ m + s * 4294967296 → a + b * 256 + c * 65536 + d * 16777216 ≡ m
 digits v a b c d p q r s m e f g h i = omega arith
@@ -126,7 +126,7 @@ whole s l at k n b shape e known shaped fits all =
     let next : at + 1 + shapeLength shape ≡ at + n = omega arith in
     rw (e, known, shaped, le-leb _ _ room, next)
 
-pub end-back : (s l : List ℕ) (at : ℕ) → drop at s ≡ endRecord ++ l → entryAt s at ≡ Record LoopEnd (record { token = noToken; number = 0; parts = noParts }) (at + 1)
+pub end-back : (s l : List ℕ) (at : ℕ) → drop at s ≡ endRecord ++ l → entryAt s at ≡ Record LoopEnd noFields (at + 1)
 unfolding endRecord kindOf shapeOf shapeLength isKind fieldsOf
 end-back s l at e = whole s l at 7 1 [] Empty e refl refl refl refl
 
@@ -146,13 +146,13 @@ length-all t d u = simp (length-append, length-token, length-decimal) (unfold le
 
 -- P with a number behind it
 numbered : (t : Token) (a : ℕ) (l : List ℕ) → Fits t → a < 4294967296 → fieldsOf Content ((tokenBytes t ++ le32 a) ++ l) ≡ record { token = t; number = a; parts = noParts }
-unfolding fieldsOf
+unfolding fieldsOf plainFields
 numbered t a l h small = rw (append-assoc, token-back t (le32 a ++ l) h, drop-token, de32-back a l small)
 
 -- bytes in which a record's form stands at an offset
 module _ (s l : List ℕ) (at : ℕ) (t : Token) (h : Fits t) where
   pub place-back : (k : ℕ) → shapeOf (kindOf k) ≡ Place → drop at s ≡ placeRecord k t ++ l → entryAt s at ≡ Record (kindOf k) (record { token = t; number = 0; parts = noParts }) (at + 17)
-  unfolding placeRecord tokenBytes le32 shapeLength fieldsOf
+  unfolding placeRecord tokenBytes le32 shapeLength fieldsOf plainFields
   place-back k shape e =
       whole s l at k 17 (tokenBytes t) Place e (shaped (kindOf k) (rw shape)) shape refl refl ∙ rw (token-back t l h)
 
@@ -168,13 +168,13 @@ module _ (s l : List ℕ) (at : ℕ) (t : Token) (h : Fits t) where
       whole s l at 5 21 (tokenBytes t ++ le32 n) Count e refl refl refl refl ∙ rw (numbered t n l h small)
 
   pub number-back : (d : Decimal) → Small d → drop at s ≡ numberRecord t d ++ l → entryAt s at ≡ Record Number (record { token = t; number = 0; parts = stored d 0 }) (at + 35)
-  unfolding numberRecord shapeLength kindOf shapeOf isKind fieldsOf
+  unfolding numberRecord shapeLength kindOf shapeOf isKind fieldsOf partsFields
   number-back d small e =
       whole s l at 14 35 (tokenBytes t ++ decimalBytes d) Parts e refl refl (length-parts t d) (rw length-parts)
       ∙ rw (append-assoc, token-back t (decimalBytes d ++ l) h, drop-token, parts-back d 0 l small)
 
   pub uncertain-back : (d : Decimal) → Small d → drop at s ≡ uncertainRecord t d ++ l → entryAt s at ≡ Record Uncertain (record { token = t; number = 0; parts = stored d (d .uncertainty) }) (at + 39)
-  unfolding uncertainRecord shapeLength kindOf shapeOf isKind fieldsOf
+  unfolding uncertainRecord shapeLength kindOf shapeOf isKind fieldsOf partsFields
   uncertain-back d small e =
       let u = le32 (d .uncertainty) in
       whole s l at 15 39 (tokenBytes t ++ (decimalBytes d ++ u)) PartsUncertain e refl refl (length-all t d (d .uncertainty)) (rw length-all)

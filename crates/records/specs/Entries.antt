@@ -42,11 +42,18 @@ partsOf b u =
       uncertainty = u;
     }
 
-abbrev pub noToken : Token
-noToken = record { offset = 0; length = 0; line = 0; column = 0 }
-
 abbrev pub noParts : Parts
 noParts = record { sign = 0; integer = 0; fraction = 0; places = 0; exponent = 0; uncertainty = 0 }
+
+-- what a body holds: nothing; P and a number; P and decimal parts. What it has not is 0
+abbrev pub noFields : Fields
+noFields = record { token = record { offset = 0; length = 0; line = 0; column = 0 }; number = 0; parts = noParts }
+
+unfoldable pub plainFields : List ℕ → ℕ → Fields
+plainFields b n = record { token = tokenOf b; number = n; parts = noParts }
+
+unfoldable pub partsFields : List ℕ → ℕ → Fields
+partsFields b u = record { token = tokenOf b; number = 0; parts = partsOf (drop 16 b) u }
 
 -- the parts that a number is stored as: an exponent by its two's complement
 unfoldable pub stored : Decimal → ℕ → Parts
@@ -60,14 +67,14 @@ stored d u =
       uncertainty = u;
     }
 
--- a body by its shape; what the shape has not is 0
+-- a body by its shape
 unfoldable pub fieldsOf : Shape → List ℕ → Fields
-fieldsOf Empty b = record { token = noToken; number = 0; parts = noParts }
-fieldsOf Place b = record { token = tokenOf b; number = 0; parts = noParts }
-fieldsOf Content b = record { token = tokenOf b; number = de32 (drop 16 b); parts = noParts }
-fieldsOf Count b = record { token = tokenOf b; number = de32 (drop 16 b); parts = noParts }
-fieldsOf PartsShape b = record { token = tokenOf b; number = 0; parts = partsOf (drop 16 b) 0 }
-fieldsOf PartsUncertain b = record { token = tokenOf b; number = 0; parts = partsOf (drop 16 b) (de32 (drop 34 b)) }
+fieldsOf Empty b = noFields
+fieldsOf Place b = plainFields b 0
+fieldsOf Content b = plainFields b (de32 (drop 16 b))
+fieldsOf Count b = plainFields b (de32 (drop 16 b))
+fieldsOf PartsShape b = partsFields b 0
+fieldsOf PartsUncertain b = partsFields b (de32 (drop 34 b))
 
 -- every kind but `NoKind`
 unfoldable pub isKind : Kind → Bool

@@ -7,7 +7,7 @@ ghost use Rattle.records.specs.Kinds.{kindOf, numberOf, shapeOf, shapeLe
 ghost use Rattle.records.specs.Bytes.{le32, le64, signed32, flag};
 ghost use Rattle.records.specs.Put.{front, put};
 ghost use Rattle.records.specs.Records.{tokenBytes, decimalBytes, endRecord, placeRecord, contentRecord, loopRecord, numberRecord, uncertainRecord};
-ghost use Rattle.records.specs.Entries.{de32, de64, tokenOf, partsOf, noToken, noParts, fieldsOf, entryAt};
+ghost use Rattle.records.specs.Entries.{de32, de64, tokenOf, partsOf, noParts, noFields, plainFields, partsFields, fieldsOf, entryAt};
 use numbers::Decimal;
 
 // The kinds of records, as document 01 numbers them; `NoKind` stands for every other number.
@@ -300,8 +300,7 @@ pub fn write_loop(rest: &mut [u8], t: Token, tags: u32)
     requires { ⌜ 21 ≤ length (now rest) ⌝ }
     ensures { λ r. ⌜ now (rest .exit) ≡ front (loopRecord t tags) (now (rest .entry)) ⌝ }
 {
-    write_place(rest, 5, t);
-    put_u32(rest, BEHIND_PLACE, tags);
+    write_content(rest, 5, t, tags);
 }
 
 // A number: P and decimal parts.
@@ -400,18 +399,7 @@ fn parts_at(store: &[u8], at: usize, uncertainty: u32) -> Parts
     }
 }
 
-// What a shape has not.
-fn no_token() -> Token
-    ensures { λ r. ⌜ r ≡ noToken ⌝ }
-{
-    Token {
-        offset: 0,
-        length: 0,
-        line: 0,
-        column: 0,
-    }
-}
-
+// What a body holds that has no decimal parts, and one that is empty.
 fn no_parts() -> Parts
     ensures { λ r. ⌜ r ≡ noParts ⌝ }
 {
@@ -425,45 +413,58 @@ fn no_parts() -> Parts
     }
 }
 
+fn no_fields() -> Fields
+    ensures { λ r. ⌜ r ≡ noFields ⌝ }
+{
+    let token = Token {
+        offset: 0,
+        length: 0,
+        line: 0,
+        column: 0,
+    };
+    Fields {
+        token,
+        number: 0,
+        parts: no_parts(),
+    }
+}
+
+// P and a number.
+fn plain_fields(store: &[u8], at: usize, number: u32) -> Fields
+    requires { ⌜ at + 16 ≤ length (now store) ⌝ }
+    ensures { λ r. ⌜ r ≡ plainFields (drop at (now (store .entry))) number ⌝ }
+{
+    Fields {
+        token: token_at(store, at),
+        number,
+        parts: no_parts(),
+    }
+}
+
+// P and decimal parts.
+fn parts_fields(store: &[u8], at: usize, uncertainty: u32) -> Fields
+    requires { ⌜ at + 34 ≤ length (now store) ⌝ }
+    ensures { λ r. ⌜ r ≡ partsFields (drop at (now (store .entry))) uncertainty ⌝ }
+{
+    Fields {
+        token: token_at(store, at),
+        number: 0,
+        parts: parts_at(store, at + Kind::PLACE, uncertainty),
+    }
+}
+
 // A body by its shape.
 fn fields_at(store: &[u8], at: usize, shape: Shape) -> Fields
     requires { ⌜ at + shapeLength shape ≤ length (now store) ⌝ }
     ensures { λ r. ⌜ r ≡ fieldsOf shape (drop at (now (store .entry))) ⌝ }
 {
     match shape {
-        Shape::Empty => Fields {
-            token: no_token(),
-            number: 0,
-            parts: no_parts(),
-        },
-        Shape::Place => Fields {
-            token: token_at(store, at),
-            number: 0,
-            parts: no_parts(),
-        },
-        Shape::Content => Fields {
-            token: token_at(store, at),
-            number: u32_at(store, at + Kind::PLACE),
-            parts: no_parts(),
-        },
-        Shape::Count => Fields {
-            token: token_at(store, at),
-            number: u32_at(store, at + Kind::PLACE),
-            parts: no_parts(),
-        },
-        Shape::Parts => Fields {
-            token: token_at(store, at),
-            number: 0,
-            parts: parts_at(store, at + Kind::PLACE, 0),
-        },
-        Shape::PartsUncertain => {
-            let uncertainty = u32_at(store, at + (Kind::PLACE + Kind::PARTS));
-            Fields {
-                token: token_at(store, at),
-                number: 0,
-                parts: parts_at(store, at + Kind::PLACE, uncertainty),
-            }
-        }
+        Shape::Empty => no_fields(),
+        Shape::Place => plain_fields(store, at, 0),
+        Shape::Content => plain_fields(store, at, u32_at(store, at + Kind::PLACE)),
+        Shape::Count => plain_fields(store, at, u32_at(store, at + Kind::PLACE)),
+        Shape::Parts => parts_fields(store, at, 0),
+        Shape::PartsUncertain => parts_fields(store, at, u32_at(store, at + (Kind::PLACE + Kind::PARTS))),
     }
 }
 

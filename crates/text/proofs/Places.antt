@@ -8,7 +8,7 @@ use native.Mathlib.Nat.{add-suc, add-zero, suc-add}
 use native.Mathlib.Omega.{arith}
 use lib.Dec.{eqb}
 use lib.ListN.{length, take, drop, getD, length-take}
-use lib.Seq.{take-suc, getD-drop}
+use lib.Seq.{take-suc, take-all, getD-drop}
 use Rattle.text.specs.declared.Place.{Place}
 use Rattle.text.specs.declared.Scan.{Scan}
 use Rattle.text.specs.Bytes.{isEol}
@@ -225,3 +225,11 @@ unfolding Whole
 whole-after s o h e =
     let z : scanAt s (o + 1) .half ≡ 0 = ap (λ (c : Scan). c .half) (scanAt-suc s o h ∙ step-plain (scanAt s o) (getD s o 0) e) in
     rw z
+
+-- behind the text's end a place has the end's line and column
+pub place-past : (s : List ℕ) (o : ℕ) (p : Place) → length s ≤ o → p ≡ placeAt s (length s) → record { offset = o; line = p .line; column = p .column } ≡ placeAt s o
+unfolding placeAt scanAt
+place-past s o p h e =
+    let l : p .line ≡ scan start (take (length s) s) .line = ap (λ (q : Place). q .line) e in
+    let c : p .column ≡ scan start (take (length s) s) .column = ap (λ (q : Place). q .column) e in
+    rw (l, c, take-all o s h, take-all (length s) s (omega arith))

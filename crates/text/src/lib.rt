@@ -160,20 +160,24 @@ pub fn advance(s: &[u8], p: Place, to: usize) -> Place
     }
 }
 
-// The place of any offset of a text.
+// The place of any offset; behind the end it is the end's line and column.
 pub fn place_at(s: &[u8], to: usize) -> Place
-    requires { ⌜ to ≤ length (now s) ⌝ }
     ensures { λ r. ⌜ r ≡ placeAt (now (s .entry)) to ⌝ }
 {
-    advance(
-        s,
-        Place {
-            offset: 0,
-            line: 1,
-            column: 1,
-        },
-        to,
-    )
+    let start = Place {
+        offset: 0,
+        line: 1,
+        column: 1,
+    };
+    if to <= s.len() {
+        return advance(s, start, to);
+    }
+    let end = advance(s, start, s.len());
+    Place {
+        offset: to,
+        line: end.line,
+        column: end.column,
+    }
 }
 
 // Whether a byte is skipped, in a comment or outside.

@@ -1,24 +1,17 @@
 use borrow.Author.Needs.{needs}
-use Rattle.records.specs.Records.{loopRecord}
-use Rattle.records.proofs.Forms.{place-next}
+use Rattle.records.specs.Records.{loopRecord, contentRecord}
 use Rattle.records.proofs.write_loop.Statement.{statement}
 use Rattle.records.proofs.write_loop.Tie as tie
 
-write-place-requires : tie.Need-write-place-requires
-write-place-requires c κs = search needs
-
-put-u32-requires : tie.Need-put-u32-requires
-put-u32-requires c κs = search needs
+write-content-requires : tie.Need-write-content-requires
+write-content-requires c κs = search needs
 
 same-length : tie.Need-same-length
 same-length c = search needs
 
 returns : tie.Need-returns
-unfolding loopRecord
-returns c =
-    let b = c .before .before in
-    let a = b .before .before .before .before in
-    rw (b .put-u32 .ensures, a .write-place .ensures) (place-next _ (a .before .before .before .args .t) _ _)
+unfolding loopRecord contentRecord
+returns c = c .before .before .write-content .ensures
 
 pub write-loop-spec : {M : Type 1} → statement M
-write-loop-spec = tie.close (tie.spec write-place-requires put-u32-requires same-length returns)
+write-loop-spec = tie.close (tie.spec write-content-requires same-length returns)

@@ -1,5 +1,5 @@
 use native.Mathlib.Omega.{arith}
-use Rattle.text.proofs.Places.{is-start}
+use Rattle.text.proofs.Places.{is-start, place-past}
 use borrow.Author.Needs.{needs}
 use Rattle.text.proofs.place_at.Statement.{statement}
 use Rattle.text.proofs.place_at.Tie as tie
@@ -7,13 +7,17 @@ use Rattle.text.proofs.place_at.Reads as reads
 use Rattle.text.proofs.place_at.Lts as lts
 use Rattle.text.proofs.advance.Reads as advance-reads
 
--- src/lib.rt:157:5
 advance-requires : tie.Need-advance-requires
-advance-requires c κs = (is-start _, omega arith, c .before .pre)
+advance-requires c κs = (is-start _, omega arith, c .if1 .taken)
 
--- src/lib.rt:153:1
 returns : tie.Need-returns
 returns c = search needs
 
+advance-requires-2 : tie.Need-advance-requires-2
+advance-requires-2 c κs = (is-start _, omega arith, omega arith)
+
+returns-2 : tie.Need-returns-2
+returns-2 c = place-past _ _ _ (omega arith) (c .advance2 .ensures)
+
 pub place-at-spec : {M : Type 1} → statement M
-place-at-spec = tie.close (tie.spec advance-requires returns)
+place-at-spec = tie.close (tie.spec advance-requires returns advance-requires-2 returns-2)

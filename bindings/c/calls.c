@@ -1,0 +1,246 @@
+/* Calls every function of chuntarek.h, with good and bad input, and holds each answer to document 01. Prints the first line that fails;
+ * nothing where all is as it should be. Expectations are worked out by hand. */
+#include "chuntarek.h"
+
+#include <stdio.h>
+#include <stdlib.h>
+#include <string.h>
+
+#define CHECK(fact)                                                          \
+    do {                                                                     \
+        if (!(fact)) {                                                       \
+            fprintf(stderr, "calls.c:%d: not so: %s\n", __LINE__, #fact);    \
+            exit(1);                                                         \
+        }                                                                    \
+    } while (0)
+
+#define SAMPLE "data_t\n_a 1.50(2)\nloop_ _b _c\nx ?\n"
+#define SAMPLE_RENDERED "data_t\n_a\n1.50(2)\nloop_\n_b\n_c\nx\n?\n"
+#define SAMPLE_STORE 183
+#define SAMPLE_OUTLINE 137 /* eight records of 17 bytes and the end of the loop */
+#define SAMPLE_AREA 5
+#define FILL 0xA5
+
+typedef struct {
+    uint8_t store[256], area[64], text[256];
+} buffers;
+
+/* A stand-in where nothing is lent: a pointer is never null. */
+static uint8_t nothing[1];
+
+static const uint8_t *bytes(const char *text)
+{
+    return (const uint8_t *)text;
+}
+
+static void fill(buffers *lent)
+{
+    memset(lent, FILL, sizeof *lent);
+}
+
+/* Whether every byte from here on is as it was. */
+static int untouched(const uint8_t *buffer, size_t from, size_t length)
+{
+    for (size_t at = from; at < length; at++)
+        if (buffer[at] != FILL)
+            return 0;
+    return 1;
+}
+
+static int is(chuntarek_answer answer, uint64_t number, uint64_t offset, uint64_t line, uint64_t column, uint64_t detail)
+{
+    return answer.number == number && answer.offset == offset && answer.line == line && answer.column == column &&
+           answer.detail == detail;
+}
+
+static int has_lengths(chuntarek_answer answer, uint64_t first, uint64_t second)
+{
+    return answer.first_length == first && answer.second_length == second;
+}
+
+static chuntarek_answer read_text(const char *text, buffers *lent, size_t store_room, size_t area_room)
+{
+    return chuntarek_read(bytes(text), strlen(text), lent->store, store_room, lent->area, area_room);
+}
+
+static void sample_is_read(void)
+{
+    buffers lent;
+    fill(&lent);
+    chuntarek_answer answer = read_text(SAMPLE, &lent, SAMPLE_STORE, SAMPLE_AREA);
+    CHECK(is(answer, 0, 0, 0, 0, 0) && has_lengths(answer, SAMPLE_STORE, SAMPLE_AREA));
+    CHECK(memcmp(lent.area, "tabcx", SAMPLE_AREA) == 0);
+    CHECK(untouched(lent.store, SAMPLE_STORE, sizeof lent.store) && untouched(lent.area, SAMPLE_AREA, sizeof lent.area));
+}
+
+static void room_is_counted_to_the_byte(void)
+{
+    buffers lent;
+    fill(&lent);
+    chuntarek_answer asked = chuntarek_read(bytes(SAMPLE), strlen(SAMPLE), nothing, 0, nothing, 0);
+    CHECK(is(asked, 10, 0, 0, 0, 0) && has_lengths(asked, SAMPLE_STORE, SAMPLE_AREA));
+    chuntarek_answer store_short = read_text(SAMPLE, &lent, SAMPLE_STORE - 1, SAMPLE_AREA);
+    CHECK(is(store_short, 10, 0, 0, 0, 0) && has_lengths(store_short, SAMPLE_STORE, SAMPLE_AREA));
+    chuntarek_answer area_short = read_text(SAMPLE, &lent, SAMPLE_STORE, SAMPLE_AREA - 1);
+    CHECK(is(area_short, 11, 0, 0, 0, 0) && has_lengths(area_short, SAMPLE_STORE, SAMPLE_AREA));
+    chuntarek_answer outline_short = chuntarek_outline(bytes(SAMPLE), strlen(SAMPLE), lent.store, SAMPLE_OUTLINE - 1);
+    CHECK(is(outline_short, 10, 0, 0, 0, 0) && has_lengths(outline_short, SAMPLE_OUTLINE, 0));
+    CHECK(untouched(lent.store, 0, sizeof lent.store) && untouched(lent.area, 0, sizeof lent.area));
+}
+
+static void outline_is_written(void)
+{
+    static const uint8_t first[17] = {1, 0, 0, 0, 0, 6, 0, 0, 0, 1, 0, 0, 0, 1, 0, 0, 0};
+    buffers lent;
+    fill(&lent);
+    chuntarek_answer answer = chuntarek_outline(bytes(SAMPLE), strlen(SAMPLE), lent.store, sizeof lent.store);
+    CHECK(is(answer, 0, 0, 0, 0, 0) && has_lengths(answer, SAMPLE_OUTLINE, 0));
+    CHECK(memcmp(lent.store, first, sizeof first) == 0);
+    CHECK(lent.store[SAMPLE_OUTLINE - 1] == CHUNTAREK_LOOP_END && untouched(lent.store, SAMPLE_OUTLINE, sizeof lent.store));
+}
+
+/* Each text is refused by both services, and nothing is written. */
+static void text_is_refused(const char *text, uint64_t number, uint64_t offset, uint64_t line, uint64_t column, uint64_t detail)
+{
+    buffers lent;
+    fill(&lent);
+    chuntarek_answer answer = read_text(text, &lent, sizeof lent.store, sizeof lent.area);
+    CHECK(is(answer, number, offset, line, column, detail) && has_lengths(answer, 0, 0));
+    answer = chuntarek_outline(bytes(text), strlen(text), lent.store, sizeof lent.store);
+    CHECK(is(answer, number, offset, line, column, detail) && has_lengths(answer, 0, 0));
+    CHECK(untouched(lent.store, 0, sizeof lent.store) && untouched(lent.area, 0, sizeof lent.area));
+}
+
+static void texts_are_refused(void)
+{
+    text_is_refused("", 3, 0, 1, 1, 0);
+    text_is_refused("data_x \303\251", 2, 7, 1, 8, 0);
+    text_is_refused("data_x\nsave_f _a 1", 4, 7, 2, 1, 0);
+    text_is_refused("data_x loop_ _a _b 1 2 3", 5, 7, 1, 8, 1);
+    text_is_refused("data_x _a 'b", 6, 7, 1, 8, 0);
+    text_is_refused("data_x data_y", 7, 7, 1, 8, 0);
+    text_is_refused("data_x loop_", 8, 7, 1, 8, 0);
+    text_is_refused("data_x _a 1234567890", 9, 10, 1, 11, 0);
+}
+
+/* A comment may fill a text up to the limit, and not further. */
+static void long_text_is_refused(void)
+{
+    buffers lent;
+    size_t length = CHUNTAREK_TEXT_LIMIT + 1;
+    uint8_t *text = malloc(length);
+    CHECK(text != NULL);
+    memset(text, '#', length);
+    memcpy(text, "data_ ", 6);
+    fill(&lent);
+    chuntarek_answer answer = chuntarek_read(text, length, lent.store, sizeof lent.store, lent.area, sizeof lent.area);
+    CHECK(is(answer, 1, 0, 0, 0, 0) && has_lengths(answer, 0, 0) && untouched(lent.store, 0, sizeof lent.store));
+    answer = chuntarek_read(text, length - 1, lent.store, sizeof lent.store, nothing, 0);
+    CHECK(is(answer, 0, 0, 0, 0, 0) && has_lengths(answer, 21, 0));
+    free(text);
+}
+
+static void sample_is_rendered(void)
+{
+    buffers lent;
+    fill(&lent);
+    size_t length = strlen(SAMPLE_RENDERED);
+    read_text(SAMPLE, &lent, sizeof lent.store, sizeof lent.area);
+    chuntarek_answer answer = chuntarek_render(lent.store, SAMPLE_STORE, lent.area, SAMPLE_AREA, lent.text, length - 1);
+    CHECK(is(answer, 11, 0, 0, 0, 0) && has_lengths(answer, length, 0) && untouched(lent.text, 0, sizeof lent.text));
+    answer = chuntarek_render(lent.store, SAMPLE_STORE, lent.area, SAMPLE_AREA, lent.text, length);
+    CHECK(is(answer, 0, 0, 0, 0, 0) && has_lengths(answer, length, 0));
+    CHECK(memcmp(lent.text, SAMPLE_RENDERED, length) == 0 && untouched(lent.text, length, sizeof lent.text));
+}
+
+static void content_is(const buffers *lent, uint64_t record, uint64_t number, uint64_t start, uint64_t length)
+{
+    chuntarek_answer answer = chuntarek_content(lent->store, SAMPLE_STORE, lent->area, SAMPLE_AREA, record);
+    chuntarek_part part = chuntarek_content_part(lent->store, SAMPLE_STORE, lent->area, SAMPLE_AREA, record);
+    CHECK(is(answer, number, 0, 0, 0, 0) && has_lengths(answer, 0, 0));
+    CHECK(part.start == start && part.length == length);
+}
+
+static void contents_are_found(void)
+{
+    buffers lent;
+    read_text(SAMPLE, &lent, sizeof lent.store, sizeof lent.area);
+    content_is(&lent, 0, 0, 0, 1);
+    content_is(&lent, 1, 0, 1, 1);
+    content_is(&lent, 2, 14, 0, 0);
+    content_is(&lent, 5, 0, 3, 1);
+    content_is(&lent, 6, 0, 4, 1);
+    content_is(&lent, 8, 14, 0, 0);
+    content_is(&lent, 9, 14, 0, 0);
+    content_is(&lent, UINT64_MAX, 14, 0, 0);
+}
+
+static void names_are_checked(void)
+{
+    buffers lent;
+    chuntarek_answer answer = read_text(SAMPLE, &lent, sizeof lent.store, sizeof lent.area);
+    answer = chuntarek_names(lent.store, answer.first_length, lent.area, answer.second_length);
+    CHECK(is(answer, 0, 0, 0, 0, 0) && has_lengths(answer, 0, 0));
+    answer = read_text("data_x _a 1 _b 2 loop_ _a 3", &lent, sizeof lent.store, sizeof lent.area);
+    answer = chuntarek_names(lent.store, answer.first_length, lent.area, answer.second_length);
+    CHECK(is(answer, 13, 1, 6, 0, 0) && has_lengths(answer, 0, 0));
+}
+
+static void records_are_walked(void)
+{
+    static const uint64_t kinds[9] = {1, 4, 15, 5, 6, 6, 10, 9, 7};
+    buffers lent;
+    read_text(SAMPLE, &lent, sizeof lent.store, sizeof lent.area);
+    chuntarek_record record;
+    uint64_t at = 0;
+    for (size_t number = 0; number < 9; number++) {
+        record = chuntarek_record_at(lent.store, SAMPLE_STORE, lent.area, SAMPLE_AREA, at);
+        CHECK(record.number == 0 && record.kind == kinds[number] && record.next > at);
+        if (record.kind == CHUNTAREK_UNCERTAIN)
+            CHECK(record.sign == 0 && record.integer == 1 && record.fraction == 50 && record.digits == 2 && record.exponent == 0 &&
+                  record.uncertainty == 2);
+        if (record.kind == CHUNTAREK_LOOP)
+            CHECK(record.tags == 2 && record.offset == 18 && record.length == 5 && record.line == 3 && record.column == 1);
+        if (record.kind == CHUNTAREK_BARE)
+            CHECK(record.content == 1 && lent.area[record.start] == 'x');
+        at = record.next;
+    }
+    CHECK(at == SAMPLE_STORE);
+    record = chuntarek_record_at(lent.store, SAMPLE_STORE, lent.area, SAMPLE_AREA, at);
+    CHECK(record.number == 14 && record.kind == 0 && record.next == 0);
+    record = chuntarek_record_at(lent.store, SAMPLE_STORE, lent.area, SAMPLE_AREA, UINT64_MAX);
+    CHECK(record.number == 14);
+}
+
+/* An empty store, one that is cut short and one with a byte changed are told from a sound one. */
+static void unsound_stores_are_refused(void)
+{
+    buffers lent;
+    CHECK(is(chuntarek_names(nothing, 0, nothing, 0), 12, 0, 0, 0, 0));
+    CHECK(is(chuntarek_content(nothing, 0, nothing, 0, 0), 12, 0, 0, 0, 0));
+    CHECK(chuntarek_content_part(nothing, 0, nothing, 0, 0).length == 0);
+    CHECK(is(chuntarek_render(nothing, 0, nothing, 0, nothing, 0), 12, 0, 0, 0, 0));
+    CHECK(chuntarek_record_at(nothing, 0, nothing, 0, 0).number == 14);
+    read_text(SAMPLE, &lent, sizeof lent.store, sizeof lent.area);
+    CHECK(is(chuntarek_names(lent.store, SAMPLE_STORE - 1, lent.area, SAMPLE_AREA), 12, 0, 0, 0, 0));
+    CHECK(is(chuntarek_names(lent.store, SAMPLE_STORE, lent.area, SAMPLE_AREA - 1), 12, 0, 0, 0, 0));
+    lent.store[0] = CHUNTAREK_TAG;
+    CHECK(is(chuntarek_names(lent.store, SAMPLE_STORE, lent.area, SAMPLE_AREA), 12, 0, 0, 0, 0));
+    CHECK(is(chuntarek_content(lent.store, SAMPLE_STORE, lent.area, SAMPLE_AREA, 0), 12, 0, 0, 0, 0));
+    CHECK(is(chuntarek_render(lent.store, SAMPLE_STORE, lent.area, SAMPLE_AREA, lent.text, sizeof lent.text), 12, 0, 0, 0, 0));
+}
+
+int main(void)
+{
+    sample_is_read();
+    room_is_counted_to_the_byte();
+    outline_is_written();
+    texts_are_refused();
+    long_text_is_refused();
+    sample_is_rendered();
+    contents_are_found();
+    names_are_checked();
+    records_are_walked();
+    unsound_stores_are_refused();
+    return 0;
+}

@@ -1,0 +1,432 @@
+//! The command: its output, its messages and its exit statuses.
+
+use std::fs;
+use std::io::{Read, Write};
+use std::path::{Path, PathBuf};
+use std::process::{Command, Stdio};
+
+/// What a run of the command leaves: exit status, standard output, standard error.
+type Run = (i32, String, String);
+
+/// The command, run where the examples stand below `examples`.
+fn command(words: &[&str]) -> Command {
+    let mut command = Command::new(env!("CARGO_BIN_EXE_chuntarek"));
+    command
+        .args(words)
+        .current_dir(Path::new(env!("CARGO_MANIFEST_DIR")).join("../.."));
+    command
+}
+
+fn run(words: &[&str]) -> Run {
+    run_with(words, b"")
+}
+
+/// Runs the command with these bytes as standard input.
+fn run_with(words: &[&str], input: &[u8]) -> Run {
+    let mut child = command(words)
+        .stdin(Stdio::piped())
+        .stdout(Stdio::piped())
+        .stderr(Stdio::piped())
+        .spawn()
+        .expect("the command starts");
+    let mut stdin = child.stdin.take().expect("a pipe");
+    let input = input.to_vec();
+    // The command may end before it has taken everything.
+    let feeding = std::thread::spawn(move || stdin.write_all(&input).is_ok());
+    let output = child.wait_with_output().expect("the command ends");
+    feeding.join().expect("feeding ends");
+    (
+        output.status.code().expect("the command exits"),
+        String::from_utf8(output.stdout).expect("output is text"),
+        String::from_utf8(output.stderr).expect("messages are text"),
+    )
+}
+
+fn done(output: &str) -> Run {
+    (0, output.into(), String::new())
+}
+
+fn refused(output: &str, message: &str) -> Run {
+    (1, output.into(), message.into())
+}
+
+fn failed(message: &str) -> Run {
+    (2, String::new(), message.into())
+}
+
+/// A file for one test, outside the repository's own files.
+fn written(name: &str, bytes: &[u8]) -> PathBuf {
+    let path = Path::new(env!("CARGO_TARGET_TMPDIR")).join(name);
+    fs::write(&path, bytes).expect("the folder can be written");
+    path
+}
+
+const SAMPLE_OUTLINE: &str = "1 0 6 1 1\n4 7 2 2 1\n15 10 7 2 4\n5 18 5 3 1\n6 24 2 3 7\n6 27 2 3 10\n10 30 1 4 1\n9 32 1 4 3\n7\nend\n";
+
+#[test]
+fn outline_prints_document_01s_outline() {
+    let expected = done(SAMPLE_OUTLINE);
+    assert_eq!(run(&["outline", "examples/sample.cif"]), expected);
+    let text = b"data_t\n_a 1.50(2)\nloop_ _b _c\nx ?\n";
+    assert_eq!(run_with(&["outline", "-"], text), expected);
+    assert_eq!(run_with(&["outline", "/dev/stdin"], text), expected);
+}
+
+/// The README shows commands with what they print, messages included.
+#[test]
+fn the_readme_shows_what_the_command_prints() {
+    let path = Path::new(env!("CARGO_MANIFEST_DIR")).join("../../README.md");
+    let readme = fs::read_to_string(path).expect("the README is there");
+    let mut shown = 0;
+    for start in readme.split("$ ./chuntarek ").skip(1) {
+        let (line, printed) = start.split_once('\n').expect("a command has a line");
+        let words: Vec<&str> = line.split(' ').collect();
+        let (_, output, message) = run(&words);
+        assert!(printed.starts_with(&(output + &message)), "{line}");
+        shown += 1;
+    }
+    assert_eq!(shown, 3);
+}
+
+#[test]
+fn outline_names_its_files_if_there_are_several() {
+    let (status, output, message) = run(&[
+        "outline",
+        "examples/refused/08-no-names.cif",
+        "examples/sample.cif",
+    ]);
+    let names = [
+        "==> examples/refused/08-no-names.cif <==\nrefused 8 7 2 1\n",
+        "==> examples/sample.cif <==\n",
+    ];
+    assert_eq!(output, names.concat() + SAMPLE_OUTLINE);
+    assert_eq!(status, 1);
+    assert!(message.starts_with("examples/refused/08-no-names.cif:2:1: refused 8: "));
+}
+
+#[test]
+fn check_says_nothing_of_good_files() {
+    let files = [
+        "check",
+        "examples/sample.cif",
+        "examples/small-molecule.cif",
+        "examples/frames.cif",
+    ];
+    assert_eq!(run(&files), done(""));
+    assert_eq!(run_with(&["check", "-"], b"data_"), done(""));
+}
+
+#[test]
+fn check_says_what_is_wrong_and_shows_where() {
+    let messages = [
+        (
+            "02-not-ascii",
+            "2:11: refused 2: this byte is not plain ASCII, as every byte of a CIF file is\n    _author 'Müller'\n              ^\n",
+        ),
+        (
+            "03-no-data",
+            "2:1: refused 3: a CIF file begins with `data_` and a name, and here stands `_cell_length_a 5.661`\n",
+        ),
+        (
+            "04-open-frame",
+            "2:1: refused 4: this save frame is not closed: where its items end, no `save_` stands\n    save_length\n    ^\n",
+        ),
+        (
+            "05-ragged",
+            "2:1: refused 5: the values of this loop do not fill whole rows: 2 are left over\n    loop_ _label _x _y\n    ^\n",
+        ),
+        (
+            "06-no-value",
+            "2:1: refused 6: no value that can be read follows this tag\n    _name 'urea\n    ^\n",
+        ),
+        (
+            "07-no-item",
+            "2:16: refused 7: a value stands here that belongs to no tag (a text with spaces needs quote marks)\n    _name carbonic diamide\n                   ^\n",
+        ),
+        (
+            "08-no-names",
+            "2:1: refused 8: no tags follow this `loop_`\n    loop_\n    ^\n",
+        ),
+        (
+            "09-over-limit",
+            "2:18: refused 9: this number has too many digits: at most 9 before the point, 18 behind it, 9 in the exponent and 9 in the brackets are kept exactly\n    _detector_counts 1234567890\n                     ^\n",
+        ),
+    ];
+    for (name, message) in messages {
+        let file = format!("examples/refused/{name}.cif");
+        let expected = refused("", &format!("{file}:{message}"));
+        assert_eq!(run(&["check", &file]), expected);
+    }
+}
+
+#[test]
+fn check_shows_both_places_of_a_repeated_tag() {
+    let file = "examples/refused/13-name-twice.cif";
+    let message = format!(
+        "{file}:4:1: refused 13: the tag _cell_length_a stands here again\n    _cell_length_a 5.662\n    ^\n\
+         {file}:2:1: it stands here before\n    _cell_length_a 5.661\n    ^\n"
+    );
+    assert_eq!(run(&["check", file]), refused("", &message));
+}
+
+#[test]
+fn values_are_shown_as_tables() {
+    let table = "\
+data_words
+_dictionary.title  A very small dictionary
+
+save_length
+_definition.id  _cell.length
+
+_example.case
+5.661(2)
+.
+";
+    assert_eq!(run(&["values", "examples/frames.cif"]), done(table));
+    let row = "data_t\n_a\t1.50(2)\n\n_b\t_c\nx\t?\n";
+    assert_eq!(run(&["values", "--tabs", "examples/sample.cif"]), done(row));
+}
+
+#[test]
+fn values_of_certain_tags_are_shown_alone() {
+    let molecule = "examples/small-molecule.cif";
+    assert_eq!(
+        run(&["values", molecule, "cell_length_a", "_CELL_ANGLE_BETA"]),
+        done("_cell_length_a    5.661(2)\n_cell_angle_beta  90\n")
+    );
+    let atoms = "\
+_atom_site_label  _atom_site_U_iso_or_equiv
+C1                0.0147(3)
+O1                0.0197(2)
+N1                0.0286(2)
+H1                3.5e-2
+H2                3.5e-2
+";
+    assert_eq!(
+        run(&[
+            "values",
+            molecule,
+            "atom_site_U_iso_or_equiv",
+            "_atom_site_label"
+        ]),
+        done(atoms)
+    );
+}
+
+#[test]
+fn a_tag_that_is_not_there_is_said() {
+    assert_eq!(
+        run(&["values", "examples/sample.cif", "z", "a"]),
+        refused(
+            "_a  1.50(2)\n",
+            "chuntarek: examples/sample.cif: there is no tag _z\n"
+        )
+    );
+}
+
+#[test]
+fn render_writes_one_token_to_a_line() {
+    assert_eq!(
+        run(&["render", "examples/sample.cif"]),
+        done("data_t\n_a\n1.50(2)\nloop_\n_b\n_c\nx\n?\n")
+    );
+    let (_, rendered, _) = run(&["render", "examples/small-molecule.cif"]);
+    assert_eq!(
+        run_with(&["render", "-"], rendered.as_bytes()),
+        done(&rendered)
+    );
+}
+
+/// The line end behind the field makes the rendering one byte longer than the text.
+#[test]
+fn a_rendering_over_the_limit_is_refused() {
+    let mut text = b"data_x _a ;".to_vec();
+    text.resize(16_777_214, b'x');
+    text.extend(b"\n;");
+    assert_eq!(run_with(&["check", "-"], &text), done(""));
+    assert_eq!(
+        run_with(&["render", "-"], &text),
+        refused(
+            "",
+            "<stdin>: refused 1: its rendering would be longer than 16,777,216 bytes\n"
+        )
+    );
+}
+
+#[test]
+fn values_and_render_refuse_what_check_refuses() {
+    let file = "examples/refused/08-no-names.cif";
+    let checked = run(&["check", file]);
+    assert_eq!(run(&["values", file]), checked);
+    assert_eq!(run(&["render", file]), checked);
+}
+
+#[test]
+fn files_that_are_no_cif_get_one_line() {
+    let zeros = vec![0; 20_000_000];
+    let lines: [(&[u8], &str); 6] = [
+        (b"", "<stdin>:1:1: refused 3: the file is empty\n"),
+        (
+            b"# nothing\n",
+            "<stdin>:2:1: refused 3: the file holds only space and comments\n",
+        ),
+        (
+            b"<html>\n",
+            "<stdin>:1:1: refused 3: a CIF file begins with `data_` and a name, and here stands `<html>`\n",
+        ),
+        (
+            b"\x89PNG\r\n\x1a\n\0\0\0",
+            "<stdin>:1:1: refused 2: this is no text file\n",
+        ),
+        (
+            b"\x1f\x8b\x08\0\0",
+            "<stdin>:1:2: refused 2: the file is compressed: unpack it first\n",
+        ),
+        (
+            &zeros,
+            "<stdin>: refused 1: the text is longer than 16,777,216 bytes, the most that is handled\n",
+        ),
+    ];
+    for (text, line) in lines {
+        assert_eq!(run_with(&["check", "-"], text), refused("", line));
+    }
+}
+
+#[test]
+fn a_file_of_exactly_the_limit_is_read() {
+    let mut text = b"data_x _a 1 #".to_vec();
+    text.resize(16_777_216, b'#');
+    assert_eq!(run_with(&["check", "-"], &text), done(""));
+    let file = written("limit.cif", &text);
+    let name = file.to_str().expect("a plain path");
+    assert_eq!(run(&["values", name]), done("data_x\n_a  1\n"));
+    text.push(b'#');
+    fs::write(&file, &text).expect("the file can be written");
+    assert_eq!(
+        run(&["outline", name]),
+        refused(
+            "refused 1 0 0 0\n",
+            &format!("{name}: refused 1: the text is longer than 16,777,216 bytes, the most that is handled\n")
+        )
+    );
+    fs::remove_file(file).expect("the file is there");
+}
+
+#[test]
+fn files_that_cannot_be_read_get_one_line() {
+    let cases = [
+        ("examples/none.cif", "there is no such file"),
+        ("examples", "this is a directory, not a file"),
+    ];
+    for (file, reason) in cases {
+        let line = format!("chuntarek: {file}: {reason}\n");
+        for name in ["outline", "check", "values", "render"] {
+            assert_eq!(run(&[name, file]), failed(&line));
+        }
+    }
+    let (status, _, message) = run(&["check", "examples/sample.cif/x"]);
+    assert_eq!((status, message.lines().count()), (2, 1));
+}
+
+#[test]
+fn the_worst_status_of_several_files_counts() {
+    let (good, bad) = ("examples/sample.cif", "examples/refused/08-no-names.cif");
+    for files in [["none.cif", bad, good], [good, bad, "none.cif"]] {
+        let (status, _, message) = run(&[&["check"], &files[..]].concat());
+        assert_eq!(status, 2);
+        assert!(message.contains("chuntarek: none.cif: there is no such file\n"));
+        assert!(message.contains("refused 8"));
+    }
+    assert_eq!(run(&["check", bad, good]).0, 1);
+}
+
+#[test]
+fn what_is_not_understood_is_said_with_status_2() {
+    let lines: [(&[&str], &str); 5] = [
+        (&[], "nothing is asked for"),
+        (&["check"], "`check` needs a file"),
+        (&["render", "a", "b"], "`render` takes one file, not 2"),
+        (&["read", "a"], "there is no command \"read\""),
+        (&["check", "--quiet", "a"], "there is no option \"--quiet\""),
+    ];
+    for (words, line) in lines {
+        let message = format!("chuntarek: {line}\nTry `chuntarek --help`.\n");
+        assert_eq!(run(words), failed(&message));
+    }
+}
+
+#[test]
+fn help_and_version_are_output() {
+    assert_eq!(run(&["--version"]), done("chuntarek 0.1.0\n"));
+    let (status, output, message) = run(&["--help"]);
+    assert_eq!((status, message.as_str()), (0, ""));
+    for word in [
+        "outline FILE",
+        "check FILE",
+        "values",
+        "render FILE",
+        "Examples:",
+    ] {
+        assert!(output.contains(word), "{word}");
+    }
+    assert!(output.lines().all(|line| line.len() <= 100));
+}
+
+#[test]
+fn a_name_that_looks_like_an_option_is_a_file_after_two_dashes() {
+    assert_eq!(
+        run(&["check", "--", "--version"]),
+        failed("chuntarek: --version: there is no such file\n")
+    );
+}
+
+#[test]
+fn escapes_keep_a_value_on_its_line() {
+    let text = b"data_x _a\n;b\n\x1b[2J\n;";
+    assert_eq!(
+        run_with(&["values", "-", "a"], text),
+        done("_a  b\\n\\x1b[2J\\n\n")
+    );
+}
+
+/// Enough tags to fill every buffer between the command and a reader that has gone.
+#[test]
+fn a_closed_pipe_ends_quietly() {
+    let mut text = b"data_x\n".to_vec();
+    for number in 0..100_000 {
+        text.extend(format!("_tag_{number} {number}\n").bytes());
+    }
+    let file = written("many.cif", &text);
+    let name = file.to_str().expect("a plain path");
+    for words in [["outline", name], ["values", name], ["render", name]] {
+        let mut child = command(&words)
+            .stdout(Stdio::piped())
+            .stderr(Stdio::piped())
+            .spawn()
+            .expect("the command starts");
+        drop(child.stdout.take());
+        let mut message = String::new();
+        let mut stderr = child.stderr.take().expect("a pipe");
+        stderr
+            .read_to_string(&mut message)
+            .expect("messages are text");
+        assert_eq!(message, "");
+        assert_eq!(child.wait().expect("the command ends").code(), Some(0));
+    }
+    fs::remove_file(file).expect("the file is there");
+}
+
+#[test]
+fn output_that_cannot_be_written_is_said() {
+    let full = fs::OpenOptions::new()
+        .write(true)
+        .open("/dev/full")
+        .expect("the system has a full device");
+    let output = command(&["render", "examples/sample.cif"])
+        .stdout(full)
+        .output()
+        .expect("the command ends");
+    let message = String::from_utf8_lossy(&output.stderr);
+    assert_eq!(output.status.code(), Some(2));
+    assert!(message.starts_with("chuntarek: the output cannot be written: "));
+}

@@ -1,0 +1,291 @@
+//! Stores and areas, whole and damaged, through every service that takes them.
+
+mod common;
+
+use chuntarek::{content, names, outline, record_at, render, Document};
+use common::*;
+
+/// The number that each service answers, which is 12 for all of them or for none.
+fn is_sound(store: &[u8], area: &[u8]) -> bool {
+    let named = names(store, area).number;
+    let rendered = render(store, area, &mut []);
+    let found = content(store, area, u64::MAX).expect_err("no store is that long");
+    let refused = [named == 12, rendered.number == 12, found.number == 12];
+    assert!(refused == [true; 3] || refused == [false; 3], "{refused:?}");
+    if named == 12 {
+        assert_eq!(names(store, area), answer(12, 0, 0));
+        assert_eq!(rendered, answer(12, 0, 0));
+    }
+    named != 12
+}
+
+/// What holds of any bytes: walks end within the store, contents stay within the area.
+fn walk(store: &[u8], area: &[u8]) {
+    let mut at = 0;
+    while let Ok(record) = record_at(store, area, at) {
+        assert!(record.next > at && record.next <= store.len());
+        assert!(record.content.unwrap_or_default().len() <= area.len());
+        at = record.next;
+    }
+}
+
+/// A sound store, changed or not, renders to a text that reads as the same records.
+fn round_trip(store: &[u8], area: &[u8]) {
+    let kept = Document::from_parts(store.to_vec(), area.to_vec()).expect("the store is sound");
+    let text = kept.render().expect("the rendering is short");
+    let again = Document::read(&text).expect("a rendering is read");
+    assert_eq!(without_places(&again), without_places(&kept));
+    assert_eq!(again.area(), kept.area());
+    assert_eq!(again.render(), Ok(text));
+}
+
+/// Every store that differs from this one in one byte.
+fn each_damage(bytes: &[u8], mut action: impl FnMut(usize, u8, &[u8])) {
+    let mut damaged = bytes.to_vec();
+    for at in 0..bytes.len() {
+        for byte in 0..=255 {
+            if byte != bytes[at] {
+                damaged[at] = byte;
+                action(at, byte, &damaged);
+            }
+        }
+        damaged[at] = bytes[at];
+    }
+}
+
+#[test]
+fn places_may_differ_and_nothing_else() {
+    let block = document(b"data_ab");
+    assert!(is_sound(block.store(), block.area()));
+    each_damage(block.store(), |at, byte, store| {
+        let is_place = matches!(at, 1..=4 | 9..=16);
+        assert_eq!(is_sound(store, b"ab"), is_place, "byte {at} is {byte}");
+    });
+}
+
+#[test]
+fn each_content_could_be_read_as_its_kind() {
+    let block = document(b"data_ab");
+    each_damage(b"ab", |_, byte, area| {
+        let in_word = byte < 128 && !matches!(byte, 9 | 10 | 12 | 13 | 32);
+        assert_eq!(is_sound(block.store(), area), in_word, "{area:?}");
+    });
+    let quoted = document(b"data_ _ 'a'");
+    each_damage(b"a", |_, byte, area| {
+        let in_quotes = byte < 128 && !matches!(byte, 10 | 13 | b'\'');
+        assert_eq!(is_sound(quoted.store(), area), in_quotes, "{area:?}");
+    });
+}
+
+#[test]
+fn a_number_keeps_its_limits() {
+    let number = document(b"data_ _ 7.5e3(2)");
+    let body = 21 + 21 + 17;
+    let changed = |at: usize, bytes: &[u8]| {
+        let mut store = number.store().to_vec();
+        store[body + at..body + at + bytes.len()].copy_from_slice(bytes);
+        is_sound(&store, b"")
+    };
+    assert_eq!(number.store().len(), body + 22);
+    assert_eq!([changed(0, &[1]), changed(0, &[2])], [true, false]);
+    let most = 999_999_999_i32;
+    for field in [1, 18] {
+        assert!(changed(field, &most.to_le_bytes()));
+        assert!(!changed(field, &(most + 1).to_le_bytes()));
+        assert!(!changed(field, &u32::MAX.to_le_bytes()));
+    }
+    for (exponent, sound) in [
+        (most, true),
+        (-most, true),
+        (most + 1, false),
+        (-most - 1, false),
+        (i32::MIN, false),
+        (i32::MAX, false),
+    ] {
+        assert_eq!(changed(14, &exponent.to_le_bytes()), sound, "{exponent}");
+    }
+    assert!(changed(5, &9u64.to_le_bytes()));
+    assert!(!changed(5, &10u64.to_le_bytes()));
+    assert!(!changed(5, &u64::MAX.to_le_bytes()));
+    for digits in 0..=255 {
+        assert_eq!(
+            changed(13, &[digits]),
+            (1..=18).contains(&digits),
+            "{digits}"
+        );
+    }
+}
+
+#[test]
+fn every_byte_of_the_sample_may_be_wrong() {
+    let sample = document(SAMPLE);
+    each_damage(sample.store(), |_, _, store| {
+        walk(store, sample.area());
+        if is_sound(store, sample.area()) {
+            round_trip(store, sample.area());
+        }
+    });
+    each_damage(sample.area(), |_, _, area| {
+        walk(sample.store(), area);
+        if is_sound(sample.store(), area) {
+            round_trip(sample.store(), area);
+        }
+    });
+}
+
+#[test]
+fn a_store_that_is_cut_or_grown_is_unsound() {
+    let sample = document(SAMPLE);
+    for length in 0..sample.store().len() {
+        assert!(
+            !is_sound(&sample.store()[..length], sample.area()),
+            "{length}"
+        );
+        walk(&sample.store()[..length], sample.area());
+    }
+    for length in 0..sample.area().len() {
+        assert!(
+            !is_sound(sample.store(), &sample.area()[..length]),
+            "{length}"
+        );
+        walk(sample.store(), &sample.area()[..length]);
+    }
+    for byte in 0..=255 {
+        let grown_store = [sample.store(), &[byte]].concat();
+        assert!(!is_sound(&grown_store, sample.area()), "{byte}");
+        let grown_area = [sample.area(), &[byte]].concat();
+        assert!(!is_sound(sample.store(), &grown_area), "{byte}");
+    }
+}
+
+#[test]
+fn an_empty_store_and_an_outline_are_unsound() {
+    assert!(!is_sound(&[], &[]));
+    assert!(!is_sound(&[], b"x"));
+    for text in [b"data_".as_slice(), b"data_t", SAMPLE] {
+        let mut store = vec![0; 1000];
+        let (length, _) = outline(text, &mut store).result().expect("there is room");
+        assert!(!is_sound(&store[..length], &[]));
+        assert!(!is_sound(&store[..length], SAMPLE_AREA));
+    }
+}
+
+#[test]
+fn records_stand_in_their_order() {
+    let row = document(b"data_ loop_ _ 1");
+    let ends: Vec<usize> = row.records().map(|record| record.next).collect();
+    assert_eq!(ends, [21, 42, 63, 98, 99]);
+    let parts: Vec<&[u8]> = [0..21, 21..42, 42..63, 63..98, 98..99]
+        .into_iter()
+        .map(|range| &row.store()[range])
+        .collect();
+    let [block, opening, tag, number, end] = parts[..] else {
+        panic!("five records");
+    };
+    assert!(is_sound(
+        &[block, opening, tag, number, number, end].concat(),
+        b""
+    ));
+    assert!(is_sound(&[block, opening, tag, end].concat(), b""));
+    for wrong in [
+        vec![opening, tag, number, end],
+        vec![block, block],
+        vec![block, opening, tag, number],
+        vec![block, opening, number, end],
+        vec![block, opening, tag, tag, number, end],
+        vec![block, opening, tag, end, number],
+        vec![block, tag, number],
+        vec![block, number],
+        vec![block, end],
+    ] {
+        assert!(!is_sound(&wrong.concat(), b""));
+    }
+}
+
+/// Read back, the tag would be taken for another tag of the loop.
+#[test]
+fn no_tag_follows_a_loop_without_rows() {
+    let single = document(b"data_ _ 1");
+    let pair = &single.store()[21..];
+    let empty_loop = document(b"data_ loop_ _");
+    assert!(is_sound(empty_loop.store(), b""));
+    assert!(!is_sound(&[empty_loop.store(), pair].concat(), b""));
+    let full_loop = document(b"data_ loop_ _ 1");
+    assert!(is_sound(&[full_loop.store(), pair].concat(), b""));
+}
+
+#[test]
+fn contents_are_found_by_record_number() {
+    let sample = document(SAMPLE);
+    let found: Vec<Option<&[u8]>> = (0..10).map(|number| sample.content(number).ok()).collect();
+    assert_eq!(
+        found,
+        [
+            Some(&b"t"[..]),
+            Some(b"a"),
+            None,
+            None,
+            Some(b"b"),
+            Some(b"c"),
+            Some(b"x"),
+            None,
+            None,
+            None
+        ]
+    );
+    for number in [2, 3, 7, 8, 9, 10, 1 << 32, u64::MAX] {
+        let refusal = sample.content(number).expect_err("no content");
+        assert_eq!((refusal.number, refusal.place), (14, None));
+    }
+    assert_eq!(document(b"data_").content(0), Ok(&b""[..]));
+}
+
+#[test]
+fn a_record_is_found_by_its_offset() {
+    let sample = document(SAMPLE);
+    let ends: Vec<usize> = sample.records().map(|record| record.next).collect();
+    assert_eq!(ends, [21, 42, 81, 102, 123, 144, 165, 182, 183]);
+    for at in [183, 184, 1 << 32, usize::MAX] {
+        let refusal = record_at(sample.store(), sample.area(), at).expect_err("past the end");
+        assert_eq!((refusal.number, refusal.place), (14, None));
+    }
+    for at in 0..183 {
+        walk(&sample.store()[at..], sample.area());
+    }
+    assert!(record_at(&[], &[], 0).is_err());
+    assert!(record_at(&sample.store()[..20], sample.area(), 0).is_err());
+}
+
+#[test]
+fn a_kept_store_is_taken_up_again() {
+    let sample = document(SAMPLE);
+    let (store, area) = sample.clone().into_parts();
+    assert_eq!(Document::from_parts(store.clone(), area), Ok(sample));
+    let refused = Document::from_parts(store, b"tabc".to_vec());
+    assert_eq!(refused.map_err(|refusal| refusal.number), Err(12));
+}
+
+#[test]
+fn names_stand_once_in_each_scope() {
+    let checked = |text: &[u8]| document(text).check_names();
+    assert_eq!(checked(b"data_x _a 1 _A 2 loop_ _b _c"), Ok(()));
+    assert_eq!(
+        checked(b"data_x _a 1 save_f _a 2 save_ save_f _a 3 save_"),
+        Ok(())
+    );
+    let twice = |text: &[u8]| {
+        let refusal = checked(text).expect_err("a name stands twice");
+        assert_eq!((refusal.number, refusal.place), (13, None));
+        refusal.records
+    };
+    assert_eq!(twice(b"data_x _a 1 _b 2 _a 3"), Some((1, 5)));
+    assert_eq!(twice(b"data_x loop_ _a _a 1 2"), Some((2, 3)));
+    assert_eq!(twice(b"data_x _ 1 _ 2"), Some((1, 3)));
+    assert_eq!(
+        twice(b"data_x _a 1 save_f _b 2 _b 3 save_ _a 4"),
+        Some((4, 6))
+    );
+    assert_eq!(twice(b"data_x _a 1 save_f _a 2 save_ _a 3"), Some((1, 7)));
+    assert_eq!(twice(b"data_x _b 1 _a 2 _a 3 _b 4"), Some((3, 5)));
+    assert_eq!(twice(b"data_x _a 1 _a 2 _a 3"), Some((1, 3)));
+}

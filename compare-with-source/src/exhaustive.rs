@@ -1,0 +1,172 @@
+//! Every short text over telling pieces: fragments of a file, letters of a number, pairs of bytes.
+
+/// Pieces of a text that the rules tell apart.
+pub const FRAGMENTS: [&str; 25] = [
+    "data_x",
+    " ",
+    "\n",
+    "\r",
+    "loop_",
+    "_a",
+    "save_",
+    "save_f",
+    "1",
+    ".5.",
+    "'",
+    "\"",
+    ";",
+    "#",
+    "\x0c",
+    "?",
+    ".",
+    "stop_",
+    "1e",
+    "1()",
+    "b",
+    "\t",
+    "_",
+    "[",
+    "12345678901x",
+];
+
+/// What stands before and behind the pieces.
+const AROUND_FRAGMENTS: [(&str, &str); 5] = [
+    ("", ""),
+    ("data_x ", ""),
+    ("data_x loop_ _a ", ""),
+    ("data_x save_f ", ""),
+    ("data_x save_f ", " save_"),
+];
+
+/// Letters of which words are made that are numbers or nearly so.
+const LETTERS: [&str; 10] = ["+", "-", "0", "7", ".", "e", "E", "(", ")", "x"];
+
+const AROUND_WORDS: [(&str, &str); 1] = [("data_x _a ", "")];
+
+/// Places at which any two bytes may stand.
+const AROUND_BYTES: [(&str, &str); 6] = [
+    ("", "data_x"),
+    ("data_", ""),
+    ("data_x ", " 1"),
+    ("data_x _a ", ""),
+    ("data_x _a '", "' _b 1"),
+    ("data_x _a ;", "\n; _b 1"),
+];
+
+/// How far the exhaustive texts go: pieces in a row, and letters of a word.
+pub struct Depth {
+    pub fragments: usize,
+    pub letters: usize,
+}
+
+impl Depth {
+    /// What suits a run of so many texts.
+    pub fn for_texts(texts: u64) -> Depth {
+        let (fragments, letters) = match texts {
+            0..100_000 => (2, 3),
+            100_000..2_000_000 => (3, 4),
+            2_000_000..6_000_000 => (3, 6),
+            6_000_000..80_000_000 => (4, 6),
+            _ => (5, 7),
+        };
+        Depth { fragments, letters }
+    }
+}
+
+/// Gives every exhaustive text to `use_text` until that answers false.
+pub fn each(depth: &Depth, use_text: &mut dyn FnMut(&[u8]) -> bool) -> bool {
+    sequences(&AROUND_FRAGMENTS, &FRAGMENTS, depth.fragments, use_text)
+        && sequences(&AROUND_WORDS, &LETTERS, depth.letters, use_text)
+        && byte_pairs(use_text)
+}
+
+/// All rows of at most so many pieces, in each surrounding.
+fn sequences(
+    around: &[(&str, &str)],
+    pieces: &[&str],
+    most: usize,
+    use_text: &mut dyn FnMut(&[u8]) -> bool,
+) -> bool {
+    around.iter().all(|(before, behind)| {
+        (0..=most).all(|length| rows(before, behind, pieces, length, use_text))
+    })
+}
+
+/// All rows of exactly so many pieces in one surrounding, counted as a number's digits are.
+fn rows(
+    before: &str,
+    behind: &str,
+    pieces: &[&str],
+    length: usize,
+    use_text: &mut dyn FnMut(&[u8]) -> bool,
+) -> bool {
+    let mut chosen = vec![0; length];
+    let mut text = Vec::new();
+    loop {
+        text.clear();
+        text.extend(before.as_bytes());
+        for choice in &chosen {
+            text.extend(pieces[*choice].as_bytes());
+        }
+        text.extend(behind.as_bytes());
+        if !use_text(&text) {
+            return false;
+        }
+        if !count_on(&mut chosen, pieces.len()) {
+            return true;
+        }
+    }
+}
+
+/// The next row of choices; false after the last.
+fn count_on(chosen: &mut [usize], choices: usize) -> bool {
+    for choice in chosen.iter_mut().rev() {
+        *choice += 1;
+        if *choice < choices {
+            return true;
+        }
+        *choice = 0;
+    }
+    false
+}
+
+/// Every pair of ASCII bytes in each surrounding.
+fn byte_pairs(use_text: &mut dyn FnMut(&[u8]) -> bool) -> bool {
+    for (before, behind) in AROUND_BYTES {
+        for pair in 0..128 * 128 {
+            let bytes = [(pair / 128) as u8, (pair % 128) as u8];
+            let text = [before.as_bytes(), &bytes, behind.as_bytes()].concat();
+            if !use_text(&text) {
+                return false;
+            }
+        }
+    }
+    true
+}
+
+#[cfg(test)]
+mod tests {
+    use super::*;
+
+    #[test]
+    fn every_row_comes_once() {
+        let mut texts = Vec::new();
+        sequences(&[("<", ">")], &["a", "b"], 2, &mut |text| {
+            texts.push(String::from_utf8_lossy(text).into_owned());
+            true
+        });
+        assert_eq!(texts, ["<>", "<a>", "<b>", "<aa>", "<ab>", "<ba>", "<bb>"]);
+    }
+
+    #[test]
+    fn a_full_run_stops() {
+        let mut left = 10;
+        let depth = Depth::for_texts(10);
+        let all = each(&depth, &mut |_| {
+            left -= 1;
+            left > 0
+        });
+        assert!(!all);
+        assert_eq!(left, 0);
+    }
+}

@@ -1,0 +1,223 @@
+//! The proved library's answer to a text, through its C functions. The store and the area that come
+//! back are cut into records again and held, byte for byte, to what the model writes.
+
+use crate::answer::{Answer, Refusal};
+use crate::{model, stores};
+
+/// The answer of one call, as the header gives it.
+#[repr(C)]
+#[derive(Debug, Clone, Copy, PartialEq, Eq)]
+struct Called {
+    number: u64,
+    offset: u64,
+    line: u64,
+    column: u64,
+    detail: u64,
+    first_length: u64,
+    second_length: u64,
+}
+
+extern "C" {
+    fn chuntarek_read(
+        text: *const u8,
+        text_len: usize,
+        store: *mut u8,
+        store_len: usize,
+        area: *mut u8,
+        area_len: usize,
+    ) -> Called;
+    fn chuntarek_outline(
+        text: *const u8,
+        text_len: usize,
+        store: *mut u8,
+        store_len: usize,
+    ) -> Called;
+}
+
+/// Read, with this much of the two buffers lent.
+fn call_read(text: &[u8], store: &mut [u8], area: &mut [u8]) -> Called {
+    // SAFETY: pointers and lengths come from slices that live through the call and do not overlap.
+    unsafe {
+        chuntarek_read(
+            text.as_ptr(),
+            text.len(),
+            store.as_mut_ptr(),
+            store.len(),
+            area.as_mut_ptr(),
+            area.len(),
+        )
+    }
+}
+
+/// Outline, with this much of the buffer lent. It has no area, and the one given is left alone.
+fn call_outline(text: &[u8], store: &mut [u8], _area: &mut [u8]) -> Called {
+    // SAFETY: as above.
+    unsafe { chuntarek_outline(text.as_ptr(), text.len(), store.as_mut_ptr(), store.len()) }
+}
+
+/// The library's answer, or what is wrong with it whatever the source says.
+pub fn read(text: &[u8]) -> Result<Answer, String> {
+    let service = |name, call| Service { name, call, text };
+    let (read, outline) = (service("read", call_read), service("outline", call_outline));
+    match model::read(text) {
+        Err(refusal) => {
+            outline.refuses(&refusal)?;
+            read.refuses(&refusal)?;
+            Ok(Err(refusal))
+        }
+        Ok(records) => {
+            outline.writes(&stores::encode_outline(&records), &[])?;
+            let (store, area) = stores::encode(&records);
+            let written = read.writes(&store, &area)?;
+            let decoded = stores::decode(written.store(), written.area());
+            Ok(Ok(decoded.ok_or("library, read: no whole records")?))
+        }
+    }
+}
+
+type Call = fn(&[u8], &mut [u8], &mut [u8]) -> Called;
+
+/// One service of the library, asked about one text.
+struct Service<'a> {
+    name: &'static str,
+    call: Call,
+    text: &'a [u8],
+}
+
+impl Service<'_> {
+    fn lend(&self, store: usize, area: usize) -> Lent {
+        Lent::called(self.text, self.call, store, area)
+    }
+
+    /// No fault if this holds.
+    fn must(&self, holds: bool, what: &str) -> Result<(), String> {
+        if holds {
+            Ok(())
+        } else {
+            Err(format!("library, {}: {what}", self.name))
+        }
+    }
+
+    /// The refusal is given, and nothing is written, without room and with some.
+    fn refuses(&self, refusal: &Refusal) -> Result<(), String> {
+        for room in [0, 64] {
+            let lent = self.lend(room, room);
+            let same = lent.called == refusal_call(refusal);
+            self.must(same, "the refusal differs from the model's")?;
+            self.must(lent.holds(&[], &[]), "a refusal wrote something")?;
+        }
+        Ok(())
+    }
+
+    /// These bytes and no others are written, wherever there is room and nowhere else.
+    fn writes(&self, store: &[u8], area: &[u8]) -> Result<Lent, String> {
+        self.wants_room(store.len(), area.len())?;
+        self.written(store, area, 9)?;
+        self.written(store, area, 0)
+    }
+
+    fn written(&self, store: &[u8], area: &[u8], spare: usize) -> Result<Lent, String> {
+        let lent = self.lend(store.len() + spare, area.len() + spare);
+        let done = lent.called == lengths_call(0, store.len(), area.len());
+        self.must(done, "the lengths differ from the model's")?;
+        self.must(
+            lent.holds(store, area),
+            "the bytes written differ from the model's",
+        )?;
+        Ok(lent)
+    }
+
+    /// With no room, or one byte too little, the needed lengths are told and nothing is written.
+    fn wants_room(&self, store: usize, area: usize) -> Result<(), String> {
+        let mut rooms = vec![(10, 0, 0), (10, store - 1, area)];
+        if area > 0 {
+            rooms.push((11, store, area - 1));
+        }
+        for (number, store_room, area_room) in rooms {
+            let lent = self.lend(store_room, area_room);
+            let told = lent.called == lengths_call(number, store, area);
+            self.must(told, "the needed lengths differ from the model's")?;
+            self.must(lent.holds(&[], &[]), "too little room, and it wrote")?;
+        }
+        Ok(())
+    }
+}
+
+/// The answer that has no place.
+fn lengths_call(number: u64, first: usize, second: usize) -> Called {
+    Called {
+        number,
+        offset: 0,
+        line: 0,
+        column: 0,
+        detail: 0,
+        first_length: first as u64,
+        second_length: second as u64,
+    }
+}
+
+/// The answer that stands for a refusal.
+fn refusal_call(refusal: &Refusal) -> Called {
+    Called {
+        offset: refusal.place.offset as u64,
+        line: refusal.place.line as u64,
+        column: refusal.place.column as u64,
+        detail: refusal.detail as u64,
+        ..lengths_call(refusal.number.into(), 0, 0)
+    }
+}
+
+/// Two buffers after a call to which a part of each was lent.
+struct Lent {
+    store: Vec<u8>,
+    area: Vec<u8>,
+    called: Called,
+}
+
+/// What the buffers are filled with before, and how much of them is not lent.
+const FILL: u8 = 0xA5;
+const GUARD: usize = 16;
+
+impl Lent {
+    fn called(text: &[u8], call: Call, store_room: usize, area_room: usize) -> Lent {
+        let mut store = vec![FILL; store_room + GUARD];
+        let mut area = vec![FILL; area_room + GUARD];
+        let called = call(text, &mut store[..store_room], &mut area[..area_room]);
+        Lent {
+            store,
+            area,
+            called,
+        }
+    }
+
+    /// The part of the store that the answer counts.
+    fn store(&self) -> &[u8] {
+        &self.store[..self.called.first_length as usize]
+    }
+
+    /// The part of the area that the answer counts.
+    fn area(&self) -> &[u8] {
+        &self.area[..self.called.second_length as usize]
+    }
+
+    /// Whether these bytes stand first and all others are as they were.
+    fn holds(&self, store: &[u8], area: &[u8]) -> bool {
+        begins(&self.store, store) && begins(&self.area, area)
+    }
+}
+
+fn begins(buffer: &[u8], written: &[u8]) -> bool {
+    let (first, rest) = buffer.split_at(written.len());
+    first == written && rest.iter().all(|byte| *byte == FILL)
+}
+
+#[cfg(test)]
+mod tests {
+    use super::*;
+
+    #[test]
+    fn the_library_answers() {
+        assert_eq!(read(b"data_x _a 1"), Ok(model::read(b"data_x _a 1")));
+        assert_eq!(read(b""), Ok(model::read(b"")));
+    }
+}

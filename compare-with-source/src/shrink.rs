@@ -1,0 +1,84 @@
+//! Makes a text smaller while what was found in it stays.
+
+/// Simple bytes, simplest first; a byte is only replaced by one that stands before it.
+const SIMPLE: &[u8] = b" a1\n_";
+
+/// How many texts may be tried.
+const TRIES: usize = 20_000;
+
+/// A small text of which `keeps` still holds.
+pub fn shrink(text: &[u8], keeps: impl Fn(&[u8]) -> bool) -> Vec<u8> {
+    let mut small = text.to_vec();
+    let mut tries = TRIES;
+    loop {
+        let length = small.len();
+        small = without_pieces(small, &keeps, &mut tries);
+        let bytes = small.clone();
+        small = simpler_bytes(small, &keeps, &mut tries);
+        if tries == 0 || (small.len() == length && small == bytes) {
+            return small;
+        }
+    }
+}
+
+/// Leaves out pieces, long ones first.
+fn without_pieces(mut text: Vec<u8>, keeps: &impl Fn(&[u8]) -> bool, tries: &mut usize) -> Vec<u8> {
+    let mut size = text.len().max(1);
+    while size > 0 {
+        let mut at = 0;
+        while at < text.len() {
+            let end = (at + size).min(text.len());
+            let shorter = [&text[..at], &text[end..]].concat();
+            if tried(&shorter, keeps, tries) {
+                text = shorter;
+            } else {
+                at += size;
+            }
+        }
+        size /= 2;
+    }
+    text
+}
+
+/// Puts simpler bytes in.
+fn simpler_bytes(mut text: Vec<u8>, keeps: &impl Fn(&[u8]) -> bool, tries: &mut usize) -> Vec<u8> {
+    for at in 0..text.len() {
+        let old = text[at];
+        let lower = [old.to_ascii_lowercase()];
+        let simpler = SIMPLE.iter().chain(&lower);
+        for new in simpler.take_while(|new| **new != old) {
+            text[at] = *new;
+            if tried(&text, keeps, tries) {
+                break;
+            }
+            text[at] = old;
+        }
+    }
+    text
+}
+
+fn tried(text: &[u8], keeps: &impl Fn(&[u8]) -> bool, tries: &mut usize) -> bool {
+    if *tries == 0 {
+        return false;
+    }
+    *tries -= 1;
+    keeps(text)
+}
+
+#[cfg(test)]
+mod tests {
+    use super::*;
+
+    #[test]
+    fn what_is_needed_stays() {
+        let needs = |text: &[u8]| text.contains(&b'x') && text.contains(&b'y');
+        assert_eq!(shrink(b"__x____y\n\n\nz", needs), b"xy");
+        let long = |text: &[u8]| text.len() >= 3;
+        assert_eq!(shrink(b"qwertz", long), b"   ");
+        let letter = |text: &[u8]| {
+            text.first()
+                .is_some_and(|byte| byte.eq_ignore_ascii_case(&b'q'))
+        };
+        assert_eq!(shrink(b"Qx", letter), b"q");
+    }
+}

@@ -1,0 +1,11 @@
+use mathlib.Core.Path.{refl}
+use Rattle.items.specs.Sizes.{noSizes}
+use Rattle.items.proofs.Sizes.none.Statement.{statement}
+use Rattle.items.proofs.Sizes.none.Tie as tie
+
+returns : tie.Need-returns
+unfolding noSizes
+returns c = refl
+
+pub none-spec : {M : Type 1} → statement M
+none-spec = tie.close (tie.spec returns)

@@ -1,0 +1,59 @@
+-- `items::parse_loop`: no names, a number over a limit, or rows. Assumes nothing.
+use Prim.Native.Nat.{_-_}
+use mathlib.Core.Path.{refl, _∙_}
+use native.Mathlib.Omega.{arith}
+use Rattle.items.specs.Reading.{limit}
+use Rattle.items.proofs.Items.{loop-from, loop-named, loop-none, loop-valued, loop-over, loop-rows}
+use Rattle.items.proofs.Room.{upto-more}
+use borrow.Author.Needs.{needs}
+use Rattle.items.proofs.parse_loop.Statement.{statement}
+use Rattle.items.proofs.parse_loop.Tie as tie
+
+add-count-names : tie.Need-add-count-names
+add-count-names c = search needs
+
+count-names-requires : tie.Need-count-names-requires
+count-names-requires c κs =
+    let p = c .before .pre in
+    record { within = loop-from _ _ (p .0 .none) (p .1) _ refl; small = p .0 .small }
+
+returns : tie.Need-returns
+returns c =
+    let p = c .before .before .before .before .pre in
+    loop-none _ _ (p .0 .none) (p .1) _ (c .before .before .count-names .ensures) (c .if1 .taken)
+
+count-values-requires : tie.Need-count-values-requires
+count-values-requires c κs =
+    let p = c .before .before .before .before .pre in
+    let n = loop-named _ _ (p .0 .none) (p .1) _ (c .before .before .count-names .ensures) in
+    record { within = n .1; small = p .0 .small; none = n .2 }
+
+returns-2 : tie.Need-returns-2
+returns-2 c =
+    let p = c .before .before .before .before .before .before .pre in
+    loop-over _ _ (p .0 .none) (p .1) _ (c .before .before .before .before .count-names .ensures) _ (c .before .count-values .ensures) (c .before .before .if1 .left) (c .if2 .taken)
+
+rows-requires : tie.Need-rows-requires
+unfolding limit
+rows-requires c κs =
+    let p = c .before .before .before .before .before .before .pre in
+    let n = loop-named _ _ (p .0 .none) (p .1) _ (c .before .before .before .before .count-names .ensures) in
+    let v = loop-valued _ _ (p .0 .none) (p .1) _ (c .before .before .before .before .count-names .ensures) _ (c .before .count-values .ensures) (c .before .before .if1 .left) in
+    (omega arith, upto-more _ limit _ (n .3) (omega (arith, n .1, p .0 .small)), upto-more _ limit _ (v .0) (omega (arith, v .1, p .0 .small)))
+
+returns-3 : tie.Need-returns-3
+returns-3 c =
+    let p = c .before .before .before .before .before .before .before .pre in
+    c .rows .ensures ∙ loop-rows _ _ (p .0 .none) (p .1) _ (c .before .before .before .before .before .count-names .ensures) _ (c .before .before .count-values .ensures) (c .before .before .before .if1 .left) (c .before .if2 .left)
+
+pub parse-loop-spec : {M : Type 1} → statement M
+parse-loop-spec =
+    tie.close
+    (tie.spec
+    add-count-names
+    count-names-requires
+    returns
+    count-values-requires
+    returns-2
+    rows-requires
+    returns-3)
