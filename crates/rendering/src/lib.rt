@@ -9,7 +9,6 @@ ghost use Rattle.numbers.specs.Spelling.{padded, plain, signBytes, fracBytes, e
 ghost use Rattle.records.specs.declared.Entry.the-variants.{Record};
 ghost use Rattle.records.specs.Put.{front};
 ghost use Rattle.stores.specs.Walk.{entries};
-ghost use Rattle.stores.specs.Soundness.{sound};
 ghost use Rattle.rendering.specs.Rendering.{decimalOf, isEnd, lineOf, rendering, renderAnswer, renderOut, renderedReport};
 ghost use Rattle.rendering.specs.Writing.{Wrote, Short, sizeOf, markOf, openingText, bodyText, closingText, own, Owned, keepsDigits, lineLength, capped};
 use numbers::Decimal;
@@ -366,10 +365,11 @@ fn rendered_length(store: &[u8], area: &[u8]) -> usize
         let Entry::Record { kind, fields, next } = records::read_record(store, from) else {
             return total;
         };
-        total += line_length(kind, fields);
-        if LIMIT < total {
+        let line = line_length(kind, fields);
+        if LIMIT - total < line {
             return LIMIT + 1;
         }
+        total += line;
         from = next;
     }
     total
@@ -391,17 +391,11 @@ fn write_lines(store: &[u8], area: &[u8], out: &mut [u8])
     }
 }
 
-fn is_sound(store: &[u8], area: &[u8]) -> bool
-    ensures { λ r. ⌜ r ≡ sound (now (store .entry)) (now (area .entry)) ⌝ }
-{
-    store.len() < area.len()
-}
-
 // A store and its area as a text: the store is judged, then the length, then the room.
 pub fn render(store: &[u8], area: &[u8], out: &mut [u8]) -> Rendered
     ensures { λ r. ⌜ (renderedReport r ≡ renderAnswer (now (store .entry)) (now (area .entry)) (length (now (out .entry)))) × (now (out .exit) ≡ renderOut (now (store .entry)) (now (area .entry)) (now (out .entry))) ⌝ }
 {
-    if !is_sound(store, area) {
+    if !stores::is_sound(store, area) {
         return Rendered::NotSound;
     }
     let length = rendered_length(store, area);

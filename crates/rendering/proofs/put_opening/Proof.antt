@@ -1,4 +1,17 @@
+-- `rendering::put_opening` meets its contract: each arm at once for its kinds' numbers. Assumes nothing.
 use borrow.Author.Needs.{needs}
+use Prim.Native.Nat.{_≤_}
+use mathlib.Core.Path.{_≡_, refl, sym, ap, _∙_}
+use mathlib.Core.Bool.{true}
+use mathlib.Core.List.{List, [], _∷_}
+use native.Mathlib.Omega.{arith}
+use lib.Dec.{ltb}
+use Rattle.words.specs.Keywords.{keyData, keyLoop, keySave}
+use Rattle.records.specs.Kinds.{kindOf}
+use Rattle.records.proofs.Numbering.{told}
+use Rattle.rendering.specs.Writing.{markOf, openingText}
+use Rattle.rendering.proofs.Wrote.{wrote-none, wrote-as, room-as}
+use Rattle.rendering.proofs.Lines.{opening-mark}
 use Rattle.rendering.proofs.put_opening.Statement.{statement}
 use Rattle.rendering.proofs.put_opening.Tie as tie
 use Rattle.rendering.proofs.put_opening.Reads as reads
@@ -7,81 +20,97 @@ use Rattle.rendering.proofs.mark_of.Reads as mark-of-reads
 use Rattle.rendering.proofs.put_byte.Reads as put-byte-reads
 use Rattle.rendering.proofs.put_part.Reads as put-part-reads
 
--- src/lib.rt:291:33
 enum-told : tie.Need-enum-told
 enum-told c = search needs
 
--- src/lib.rt:291:42
 slice-aggregate-put-part : tie.Need-slice-aggregate-put-part
 slice-aggregate-put-part c = search needs
 
--- src/lib.rt:291:24
 put-part-requires : tie.Need-put-part-requires
-put-part-requires c κs = ?
+unfolding kindOf openingText keyData keySave keyLoop
+put-part-requires c κs =
+    let s = c .before .before .before .before .before in
+    let e = told openingText keyData 1 [] refl (s .args .kind) (c .before .before .before .match .keys2) in
+    (room-as _ _ (sym e) (s .pre), omega arith)
 
--- src/lib.rt:292:65
 slice-aggregate-put-part-2 : tie.Need-slice-aggregate-put-part-2
 slice-aggregate-put-part-2 c = search needs
 
--- src/lib.rt:292:47
 put-part-requires-2 : tie.Need-put-part-requires-2
-put-part-requires-2 c κs = ?
+unfolding kindOf openingText keyData keySave keyLoop
+put-part-requires-2 c κs =
+    let s = c .before .before .before .before in
+    let e = told openingText keySave 2 (3 ∷ []) refl (s .args .kind) (c .before .before .match .keys3) in
+    (room-as _ _ (sym e) (s .pre), omega arith)
 
--- src/lib.rt:293:32
 enum-told-2 : tie.Need-enum-told-2
 enum-told-2 c = search needs
 
--- src/lib.rt:293:41
 slice-aggregate-put-part-3 : tie.Need-slice-aggregate-put-part-3
 slice-aggregate-put-part-3 c = search needs
 
--- src/lib.rt:293:23
 put-part-requires-3 : tie.Need-put-part-requires-3
-put-part-requires-3 c κs = ?
+unfolding kindOf openingText keyData keySave keyLoop
+put-part-requires-3 c κs =
+    let s = c .before .before .before .before .before in
+    let e = told openingText keyLoop 5 [] refl (s .args .kind) (c .before .before .before .match .keys4) in
+    (room-as _ _ (sym e) (s .pre), omega arith)
 
--- src/lib.rt:294:32
 mark-of-requires : tie.Need-mark-of-requires
 mark-of-requires c κs = search needs
 
--- src/lib.rt:294:14
 put-byte-requires : tie.Need-put-byte-requires
-put-byte-requires c κs = ?
+unfolding kindOf markOf
+put-byte-requires c κs =
+    let s = c .before .before .before .before in
+    let e = told (λ k. ltb 0 (markOf k)) true 4 (6 ∷ 8 ∷ 9 ∷ 11 ∷ 12 ∷ 13 ∷ []) refl (s .args .kind) (c .before .before .match .keys5) in
+    room-as _ _ (opening-mark (s .args .kind) e) (s .pre)
 
--- src/lib.rt:285:1
 returns : tie.Need-returns
-returns c = ?
+unfolding kindOf openingText keyData keySave keyLoop
+returns c =
+    let s = c .before .before in
+    wrote-as (told openingText [] 0 (7 ∷ 10 ∷ 14 ∷ 15 ∷ []) refl (s .args .kind) (c .match .keys1)) (wrote-none _ _)
 
--- src/lib.rt:285:1
 same-length : tie.Need-same-length
 same-length c = search needs
 
--- src/lib.rt:285:1
 returns-2 : tie.Need-returns-2
-returns-2 c = ?
+unfolding kindOf openingText keyData keySave keyLoop
+returns-2 c =
+    let s = c .before .before .before .before .before .before .before .before in
+    let e = told openingText keyData 1 [] refl (s .args .kind) (c .before .before .before .before .before .before .match .keys2) in
+    wrote-as e (c .before .before .put-part .ensures)
 
--- src/lib.rt:285:1
 same-length-2 : tie.Need-same-length-2
 same-length-2 c = search needs
 
--- src/lib.rt:285:1
 returns-3 : tie.Need-returns-3
-returns-3 c = ?
+unfolding kindOf openingText keyData keySave keyLoop
+returns-3 c =
+    let s = c .before .before .before .before .before .before .before in
+    let e = told openingText keySave 2 (3 ∷ []) refl (s .args .kind) (c .before .before .before .before .before .match .keys3) in
+    wrote-as e (c .before .before .put-part2 .ensures)
 
--- src/lib.rt:285:1
 same-length-3 : tie.Need-same-length-3
 same-length-3 c = search needs
 
--- src/lib.rt:285:1
 returns-4 : tie.Need-returns-4
-returns-4 c = ?
+unfolding kindOf openingText keyData keySave keyLoop
+returns-4 c =
+    let s = c .before .before .before .before .before .before .before .before in
+    let e = told openingText keyLoop 5 [] refl (s .args .kind) (c .before .before .before .before .before .before .match .keys4) in
+    wrote-as e (c .before .before .put-part3 .ensures)
 
--- src/lib.rt:285:1
 same-length-4 : tie.Need-same-length-4
 same-length-4 c = search needs
 
--- src/lib.rt:285:1
 returns-5 : tie.Need-returns-5
-returns-5 c = ?
+unfolding kindOf markOf
+returns-5 c =
+    let s = c .before .before .before .before .before .before .before in
+    let e = told (λ k. ltb 0 (markOf k)) true 4 (6 ∷ 8 ∷ 9 ∷ 11 ∷ 12 ∷ 13 ∷ []) refl (s .args .kind) (c .before .before .before .before .before .match .keys5) in
+    wrote-as (ap (λ m. m ∷ []) (c .before .before .before .mark-of .ensures) ∙ sym (opening-mark (s .args .kind) e)) (c .before .before .put-byte .ensures)
 
 pub put-opening-spec : {M : Type 1} → statement M
 put-opening-spec =
