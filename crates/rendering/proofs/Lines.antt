@@ -149,6 +149,10 @@ own-digits ar k f h = by (isContent (shapeOf k)) refl
     by true e = refl
     by false e = own-parts ar k f e h
 
+pub digits-kept : (k j : Kind) (f : Fields) → k ≡ j → isContent (shapeOf j) ≡ false → keepsDigits k f ≡ true → partsKept (f .parts) ≡ true
+unfolding keepsDigits
+digits-kept k j f e t h = let c : isContent (shapeOf k) ≡ false = rw e t in rw c at h
+
 exponent-few : (e : ℕ) → exponentKept e ≡ true → sizeOf e < 10 ^ 9
 unfolding exponentKept sizeOf
 exponent-few e h = or-cases (ltb e 1000000000) (ltb (4294967296 - 1000000000) e) small large h

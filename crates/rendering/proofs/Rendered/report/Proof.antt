@@ -35,7 +35,7 @@ answer-requires-4 c κs = search needs
 
 returns : tie.Need-returns
 unfolding renderedReport success noRoom
-returns c = rw (c .answer .ensures, c .before .known-told .given .1)
+returns c = rw (c .answer .ensures, c .before .before .self .given .1)
 
 returns-2 : tie.Need-returns-2
 unfolding renderedReport refusedBare noRoom
@@ -47,7 +47,7 @@ returns-3 c = rw (c .answer3 .ensures, c .before .enum-told2 .given .1)
 
 returns-4 : tie.Need-returns-4
 unfolding renderedReport
-returns-4 c = rw (c .answer4 .ensures, c .before .known-told2 .given .1)
+returns-4 c = rw (c .answer4 .ensures, c .before .before .self2 .given .1)
 
 pub report-spec : {M : Type 1} → statement M
 report-spec =
