@@ -2,3 +2,4 @@ pub mod Wrote
 pub mod Digits
 pub mod Pieces
 pub mod Lines
+pub mod Passing
