@@ -3,3 +3,4 @@ pub mod Digits
 pub mod Pieces
 pub mod Lines
 pub mod Passing
+pub mod Answers
