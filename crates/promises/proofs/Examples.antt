@@ -12,7 +12,7 @@ use Rattle.numbers.specs.Spelling.{padded, trim, plain, signBytes, uncBytes, ex
 use Rattle.records.specs.Bytes.{le32, le64, signed32, flag}
 use Rattle.records.specs.Records.{tokenBytes, decimalBytes, endRecord, placeRecord, contentRecord, loopRecord, numberRecord, uncertainRecord}
 use Rattle.records.specs.Put.{front}
-use Rattle.records.specs.Entries.{de32, de64, noParts, tokenOf as tokenAt, partsOf, fieldsOf, isKind, entryOf, entryAt}
+use Rattle.records.specs.Entries.{de32, de64, noParts, tokenOf as tokenAt, partsOf, plainFields, partsFields, fieldsOf, isKind, entryOf, entryAt}
 use Rattle.items.specs.Machine.{Rec}
 use Rattle.writing.specs.Writing.{tokenOf, tokenText, decimalOf, shaped, shapeIn, recordBytes, tagsOf, storeOf}
 use Rattle.reading.specs.Services.{writtenIf, readStoreBy, readStore, readAreaBy, readArea}
@@ -41,7 +41,7 @@ area t = areaBytes (bytes t) (sevens 80) (sevens 4)
 
 -- all that the examples compute with
 unfoldable all : ℕ
-unfolding opened bytes le32 le64 signed32 flag tokenBytes decimalBytes endRecord placeRecord contentRecord loopRecord numberRecord uncertainRecord front de32 de64 tokenAt partsOf fieldsOf isKind entryOf entryAt tokenOf tokenText decimalOf shaped shapeIn recordBytes tagsOf storeOf writtenIf readStoreBy readStore readAreaBy readArea onward entriesFrom entries contentLength contentBytes storeBytes areaBytes contentIn saying sayings SaySame sevens store area padded trim plain signBytes uncBytes expBytes fracBytes renderNumber isValueKind opensLoop atItems afterName atNames atValues standing ended follow nestedFrom nested isAlone isName isKindAlone readableBy readable exponentKept partsKept contentKept ownRule takes filledFrom filled sound renderedDecimal renderedText isEnd lineOf linesOf rendering renderLimit renderRoom renderAnswer renderOut renderedBytes
+unfolding opened bytes le32 le64 signed32 flag tokenBytes decimalBytes endRecord placeRecord contentRecord loopRecord numberRecord uncertainRecord front de32 de64 tokenAt partsOf plainFields partsFields fieldsOf isKind entryOf entryAt tokenOf tokenText decimalOf shaped shapeIn recordBytes tagsOf storeOf writtenIf readStoreBy readStore readAreaBy readArea onward entriesFrom entries contentLength contentBytes storeBytes areaBytes contentIn saying sayings SaySame sevens store area padded trim plain signBytes uncBytes expBytes fracBytes renderNumber isValueKind opensLoop atItems afterName atNames atValues standing ended follow nestedFrom nested isAlone isName isKindAlone readableBy readable exponentKept partsKept contentKept ownRule takes filledFrom filled sound renderedDecimal renderedText isEnd lineOf linesOf rendering renderLimit renderRoom renderAnswer renderOut renderedBytes
 all = 0
 
 -- Of the lent buffers the bytes counted, and no more
