@@ -6,7 +6,6 @@ ghost use Rattle.text.specs.Reports.{refusedBare};
 ghost use Rattle.naming.specs.Names.{sameName, sameBoth, scopeAfter, names, firstSame, repeatFrom, namingOf, nameCheck, namingReport};
 ghost use Rattle.naming.specs.Table.{mix as mixOf, hashOf, markOf, freeIn, known, entered, noted, repeatsIn, Swept, FreshTo};
 ghost use Rattle.naming.specs.Steps.{isNameKind, part, nameOf, Inside, Holds, namesAt, Counted, first, Ahead, Reached, earlierOf};
-
 use records::Entry;
 use records::Fields;
 use records::Kind;
@@ -319,7 +318,14 @@ fn note(table: &mut [u32], h: usize) -> bool
 }
 
 // Whether a name is of a pass's class and repeats one of so many names before it.
-fn is_repeat(store: &[u8], area: &[u8], table: &mut [u32], pass: Pass, x: Named, count: usize) -> bool
+fn is_repeat(
+    store: &[u8],
+    area: &[u8],
+    table: &mut [u32],
+    pass: Pass,
+    x: Named,
+    count: usize,
+) -> bool
     requires { ⌜ Inside (now area) x × (length (now table) ≡ 65536) × (0 < pass .of) ⌝ }
     ensures { λ r. ⌜ (r ≡ repeatsIn (pass .of) (pass .class) (now (table .entry)) (names (now (store .entry)) (now (area .entry))) count (nameOf (now (area .entry)) x)) × (now (table .exit) ≡ noted (pass .of) (pass .class) (now (table .entry)) (hashOf (nameOf (now (area .entry)) x))) ⌝ }
 {

@@ -161,6 +161,7 @@ exponent-few e h = or-cases (ltb e 1000000000) (ltb (4294967296 - 1000000000) e)
     small t =
         let b : e < 1000000000 = ltb-true e 1000000000 t in
         rw (lt-leb 2147483648 e (omega arith)) (omega arith)
+
     large : ltb (4294967296 - 1000000000) e ≡ true → cond (leb 2147483648 e) (4294967296 - e) e < 10 ^ 9
     large t =
         let b : 4294967296 - 1000000000 < e = ltb-true (4294967296 - 1000000000) e t in

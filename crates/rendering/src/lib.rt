@@ -12,7 +12,11 @@ ghost use Rattle.stores.specs.Walk.{entries};
 ghost use Rattle.rendering.specs.Rendering.{decimalOf, isEnd, lineOf, rendering, renderAnswer, renderOut, renderedReport};
 ghost use Rattle.rendering.specs.Writing.{Wrote, Short, sizeOf, markOf, openingText, bodyText, closingText, own, Owned, keepsDigits, lineLength, capped};
 use numbers::Decimal;
-use records::{Entry, Fields, Kind, Parts, Shape};
+use records::Entry;
+use records::Fields;
+use records::Kind;
+use records::Parts;
+use records::Shape;
 use text::Report;
 
 // Render's answer: done, with the length written; 12; 1; or 11 with the length needed.
@@ -303,7 +307,13 @@ fn put_body(out: &mut [u8], at: usize, area: &[u8], kind: Kind, fields: Fields) 
     let token = fields.token;
     let parts = fields.parts;
     match shape {
-        Shape::Content => put_part(out, at, area, fields.number as usize, token.length as usize - kind.marks()),
+        Shape::Content => put_part(
+            out,
+            at,
+            area,
+            fields.number as usize,
+            token.length as usize - kind.marks(),
+        ),
         Shape::Parts => put_number(out, at, decimal_of(false, parts)),
         Shape::PartsUncertain => put_number(out, at, decimal_of(true, parts)),
         _ => at,
