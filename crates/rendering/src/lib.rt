@@ -12,7 +12,11 @@ ghost use Rattle.stores.specs.Walk.{entries};
 ghost use Rattle.rendering.specs.Rendering.{decimalOf, isEnd, lineOf, rendering, renderAnswer, renderOut, renderedReport};
 ghost use Rattle.rendering.specs.Writing.{Wrote, Short, sizeOf, markOf, openingText, bodyText, closingText, own, Owned, keepsDigits, lineLength, capped};
 use numbers::Decimal;
-use records::{Entry, Fields, Kind, Parts, Shape};
+use records::Entry;
+use records::Fields;
+use records::Kind;
+use records::Parts;
+use records::Shape;
 use text::Report;
 
 // Render's answer: done, with the length written; 12; 1; or 11 with the length needed.
@@ -189,30 +193,30 @@ fn fraction_length(places: usize, fraction: u64) -> usize
     requires { ⌜ places ≤ 18 ⌝ }
     ensures { λ r. ⌜ r ≡ length (fracBytes places fraction []) ⌝ }
 {
-    if places == 0 {
-        return 0;
+    if 0 < places {
+        return 1 + places;
     }
-    1 + places
+    0
 }
 
 fn exponent_length(lowers: bool, exponent: u32) -> usize
     requires { ⌜ exponent < 10 ^ 9 ⌝ }
     ensures { λ r. ⌜ r ≡ length (expBytes lowers exponent []) ⌝ }
 {
-    if exponent == 0 {
-        return 0;
+    if 0 < exponent {
+        return 1 + sign_length(lowers) + digit_count(exponent);
     }
-    1 + sign_length(lowers) + digit_count(exponent)
+    0
 }
 
 fn uncertainty_length(uncertain: bool, uncertainty: u32) -> usize
     requires { ⌜ uncertainty < 10 ^ 9 ⌝ }
     ensures { λ r. ⌜ r ≡ length (uncBytes uncertain uncertainty) ⌝ }
 {
-    if !uncertain {
-        return 0;
+    if uncertain {
+        return 2 + digit_count(uncertainty);
     }
-    2 + digit_count(uncertainty)
+    0
 }
 
 fn number_length(d: Decimal) -> usize
@@ -303,7 +307,13 @@ fn put_body(out: &mut [u8], at: usize, area: &[u8], kind: Kind, fields: Fields) 
     let token = fields.token;
     let parts = fields.parts;
     match shape {
-        Shape::Content => put_part(out, at, area, fields.number as usize, token.length as usize - kind.marks()),
+        Shape::Content => put_part(
+            out,
+            at,
+            area,
+            fields.number as usize,
+            token.length as usize - kind.marks(),
+        ),
         Shape::Parts => put_number(out, at, decimal_of(false, parts)),
         Shape::PartsUncertain => put_number(out, at, decimal_of(true, parts)),
         _ => at,
