@@ -1,11 +1,10 @@
 -- Laws of digits: how many a number has without leading zeros, and how they follow one another from the right. Assumes nothing.
-use Prim.Native.Nat.{ℕ, zero, suc, _+_, _-_, _*_, _/_, _%_, _^_, _≤_, _<_}
+use Prim.Native.Nat.{ℕ, zero, suc, _+_, _-_, _/_, _%_, _^_, _≤_, _<_}
 use mathlib.Core.Path.{_≡_, refl, sym, ap, _∙_}
 use mathlib.Core.Bool.{Bool, true, false, cond, _&&_}
 use mathlib.Core.List.{List, [], _∷_, _++_, append-assoc, append-nil}
 use native.Mathlib.Omega.{arith}
 use borrow.Author.Tests.{eqb-true}
-use lib.Dec.{eqb}
 use native.Mathlib.Nat.{add-zero}
 use lib.ListN.{length, drop, set, length-append, drop-of-length-le}
 use lib.Seq.{drop-at, drop-append-le, drop-length}

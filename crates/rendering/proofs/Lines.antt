@@ -1,13 +1,13 @@
 -- Laws of a record's line: its pieces, its length, and what a sound record says of them. Assumes nothing.
-use Prim.Native.Nat.{ℕ, suc, _+_, _-_, _≤_, _<_, _^_}
-use mathlib.Core.Path.{_≡_, refl, sym, ap, _∙_}
-use mathlib.Core.Bool.{Bool, true, false, cond, _&&_, _||_, true≢false}
+use Prim.Native.Nat.{ℕ, _+_, _-_, _≤_, _<_, _^_}
+use mathlib.Core.Path.{_≡_, refl, ap}
+use mathlib.Core.Bool.{Bool, true, false, cond, true≢false}
 use mathlib.Core.List.{List, [], _∷_, _++_, append-assoc}
 use native.Mathlib.Omega.{arith}
 use borrow.Author.Tests.{leb-true, ltb-true, le-leb, lt-leb}
-use lib.Dec.{eqb, leb, ltb}
+use lib.Dec.{leb, ltb}
 use lib.ListN.{length, take, drop, length-append, length-take, length-drop}
-use mathlib.Core.Logic.{_⊎_, inl, inr}
+use mathlib.Core.Logic.{inl, inr}
 use types.Run.{OneOf}
 use denote.Enum.Declared.{tagOf}
 use Rattle.text.proofs.Bools.{and-l, and-r, or-cases}
@@ -22,7 +22,7 @@ use Rattle.records.specs.declared.Parts.{Parts}
 use Rattle.records.specs.declared.Fields.{Fields}
 use Rattle.records.specs.Kinds.{shapeOf, isContent, marksOf}
 use Rattle.records.proofs.Shape.{the-type as shape-type}
-use Rattle.stores.specs.Contents.{contentBytes, contentLength, contentKept, ownRule, partsKept, exponentKept}
+use Rattle.stores.specs.Contents.{contentBytes, contentLength, ownRule, partsKept, exponentKept}
 use Rattle.stores.proofs.Filling.{content-kept}
 use Rattle.rendering.specs.Rendering.{decimalOf, tokenText, isEnd, lineOf}
 use Rattle.rendering.specs.Writing.{Short, sizeOf, markOf, openingText, bodyBy, bodyText, closingText, own, keepsDigits, lineLength}

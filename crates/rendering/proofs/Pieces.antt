@@ -1,14 +1,14 @@
 -- The pieces of a number: how each is spelled by the code's tests, and that they follow one another. Assumes nothing.
-use Prim.Native.Nat.{ℕ, zero, suc, _+_, _≤_, _<_, _^_}
+use Prim.Native.Nat.{ℕ, zero, suc, _+_, _≤_}
 use mathlib.Core.Path.{_≡_, refl, sym, ap, _∙_}
-use mathlib.Core.Bool.{Bool, true, false, cond}
+use mathlib.Core.Bool.{Bool, true, false}
 use mathlib.Core.List.{List, [], _∷_, _++_, append-assoc, append-nil}
 use native.Mathlib.Omega.{arith}
 use lib.ListN.{length, length-append}
 use Rattle.numbers.specs.declared.Decimal.{Decimal}
-use Rattle.numbers.specs.Spelling.{padded, trim, plain, signBytes, uncBytes, expBytes, fracBytes, renderNumber}
+use Rattle.numbers.specs.Spelling.{padded, plain, signBytes, uncBytes, expBytes, fracBytes, renderNumber}
 use Rattle.numbers.proofs.Spelled.{length-padded, length-trim}
-use Rattle.rendering.specs.Writing.{Wrote, Short}
+use Rattle.rendering.specs.Writing.{Short}
 
 pub sign-minus : (b : Bool) → b ≡ true → signBytes b ≡ 45 ∷ []
 unfolding signBytes

@@ -193,30 +193,30 @@ fn fraction_length(places: usize, fraction: u64) -> usize
     requires { ⌜ places ≤ 18 ⌝ }
     ensures { λ r. ⌜ r ≡ length (fracBytes places fraction []) ⌝ }
 {
-    if places == 0 {
-        return 0;
+    if 0 < places {
+        return 1 + places;
     }
-    1 + places
+    0
 }
 
 fn exponent_length(lowers: bool, exponent: u32) -> usize
     requires { ⌜ exponent < 10 ^ 9 ⌝ }
     ensures { λ r. ⌜ r ≡ length (expBytes lowers exponent []) ⌝ }
 {
-    if exponent == 0 {
-        return 0;
+    if 0 < exponent {
+        return 1 + sign_length(lowers) + digit_count(exponent);
     }
-    1 + sign_length(lowers) + digit_count(exponent)
+    0
 }
 
 fn uncertainty_length(uncertain: bool, uncertainty: u32) -> usize
     requires { ⌜ uncertainty < 10 ^ 9 ⌝ }
     ensures { λ r. ⌜ r ≡ length (uncBytes uncertain uncertainty) ⌝ }
 {
-    if !uncertain {
-        return 0;
+    if uncertain {
+        return 2 + digit_count(uncertainty);
     }
-    2 + digit_count(uncertainty)
+    0
 }
 
 fn number_length(d: Decimal) -> usize

@@ -3,8 +3,6 @@ use mathlib.Core.Path.{refl}
 use Rattle.text.specs.Reports.{noRoom}
 use Rattle.rendering.proofs.answer.Statement.{statement}
 use Rattle.rendering.proofs.answer.Tie as tie
-use Rattle.rendering.proofs.answer.Reads as reads
-use Rattle.rendering.proofs.answer.Lts as lts
 
 returns : tie.Need-returns
 unfolding noRoom

@@ -4,9 +4,6 @@ use Rattle.rendering.specs.Rendering.{decimalOf}
 use Rattle.rendering.specs.Writing.{sizeOf}
 use Rattle.rendering.proofs.decimal_of.Statement.{statement}
 use Rattle.rendering.proofs.decimal_of.Tie as tie
-use Rattle.rendering.proofs.decimal_of.Reads as reads
-use Rattle.rendering.proofs.decimal_of.Lts as lts
-use Rattle.rendering.proofs.size_of.Reads as size-of-reads
 
 cast-t7 : tie.Need-cast-t7
 cast-t7 c = search needs

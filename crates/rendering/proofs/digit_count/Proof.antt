@@ -3,8 +3,6 @@ use native.Mathlib.Omega.{arith}
 use Rattle.rendering.proofs.Digits.{Counted, counted-first, counted-more, counted-last}
 use Rattle.rendering.proofs.digit_count.Statement.{statement}
 use Rattle.rendering.proofs.digit_count.Tie as tie
-use Rattle.rendering.proofs.digit_count.Reads as reads
-use Rattle.rendering.proofs.digit_count.Lts as lts
 
 abbrev Inv-loop : tie.InvT-loop
 Inv-loop n rest₀ count₀ rest count = Counted n rest count

@@ -6,13 +6,6 @@ use lib.ListN.{length}
 use Rattle.rendering.proofs.Pieces.{exponent-none, exponent-size, sign-short, plain-short}
 use Rattle.rendering.proofs.exponent_length.Statement.{statement}
 use Rattle.rendering.proofs.exponent_length.Tie as tie
-use Rattle.rendering.proofs.exponent_length.Reads as reads
-use Rattle.rendering.proofs.exponent_length.Lts as lts
-use Rattle.rendering.proofs.digit_count.Reads as digit-count-reads
-use Rattle.rendering.proofs.sign_length.Reads as sign-length-reads
-
-returns : tie.Need-returns
-returns c = sym (ap length (exponent-none _ _ (c .if1 .taken)))
 
 sign-length-requires : tie.Need-sign-length-requires
 sign-length-requires c κs = search needs
@@ -26,10 +19,13 @@ digit-count-requires c κs = search needs
 add-result-2 : tie.Need-add-result-2
 add-result-2 c = omega (arith, c .before .sign-length .ensures, c .digit-count .ensures, sign-short (c .before .before .before .args .lowers), plain-short (c .before .before .before .args .exponent))
 
+returns : tie.Need-returns
+returns c = omega (arith, c .before .sign-length .ensures, c .digit-count .ensures, exponent-size (c .before .before .before .args .lowers) (c .before .before .before .args .exponent) (λ z. omega arith))
+
 returns-2 : tie.Need-returns-2
-returns-2 c = omega (arith, c .before .sign-length .ensures, c .digit-count .ensures, exponent-size (c .before .before .before .args .lowers) (c .before .before .before .args .exponent) (c .before .before .if1 .left))
+returns-2 c = sym (ap length (exponent-none _ _ (omega arith)))
 
 pub exponent-length-spec : {M : Type 1} → statement M
 exponent-length-spec =
     tie.close
-    (tie.spec returns sign-length-requires add-result digit-count-requires add-result-2 returns-2)
+    (tie.spec sign-length-requires add-result digit-count-requires add-result-2 returns returns-2)

@@ -7,8 +7,6 @@ use Rattle.records.proofs.Numbering.{told}
 use Rattle.rendering.specs.Rendering.{isEnd}
 use Rattle.rendering.proofs.is_end.Statement.{statement}
 use Rattle.rendering.proofs.is_end.Tie as tie
-use Rattle.rendering.proofs.is_end.Reads as reads
-use Rattle.rendering.proofs.is_end.Lts as lts
 
 returns : tie.Need-returns
 unfolding kindOf isEnd

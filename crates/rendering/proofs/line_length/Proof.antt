@@ -1,6 +1,6 @@
 -- `rendering::line_length` meets its contract: each arm at once for its kinds' numbers. Assumes nothing.
 use borrow.Author.Needs.{needs}
-use mathlib.Core.Path.{_≡_, refl, sym, ap, _∙_}
+use mathlib.Core.Path.{refl, ap, _∙_}
 use mathlib.Core.Bool.{true, false}
 use mathlib.Core.List.{[], _∷_}
 use native.Mathlib.Omega.{arith}
@@ -15,10 +15,6 @@ use Rattle.rendering.proofs.Lines.{digits-kept, parts-short}
 use Rattle.rendering.proofs.Pieces.{number-short}
 use Rattle.rendering.proofs.line_length.Statement.{statement}
 use Rattle.rendering.proofs.line_length.Tie as tie
-use Rattle.rendering.proofs.line_length.Reads as reads
-use Rattle.rendering.proofs.line_length.Lts as lts
-use Rattle.rendering.proofs.decimal_of.Reads as decimal-of-reads
-use Rattle.rendering.proofs.number_length.Reads as number-length-reads
 
 enum-told : tie.Need-enum-told
 enum-told c = search needs

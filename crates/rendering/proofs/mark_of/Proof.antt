@@ -7,8 +7,6 @@ use Rattle.records.proofs.Numbering.{told}
 use Rattle.rendering.specs.Writing.{markOf}
 use Rattle.rendering.proofs.mark_of.Statement.{statement}
 use Rattle.rendering.proofs.mark_of.Tie as tie
-use Rattle.rendering.proofs.mark_of.Reads as reads
-use Rattle.rendering.proofs.mark_of.Lts as lts
 
 enum-told : tie.Need-enum-told
 enum-told c = search needs

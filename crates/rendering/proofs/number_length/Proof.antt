@@ -4,13 +4,6 @@ use native.Mathlib.Omega.{arith}
 use Rattle.rendering.proofs.Pieces.{number-size, sign-short, plain-short, fraction-short, exponent-short, uncertainty-short}
 use Rattle.rendering.proofs.number_length.Statement.{statement}
 use Rattle.rendering.proofs.number_length.Tie as tie
-use Rattle.rendering.proofs.number_length.Reads as reads
-use Rattle.rendering.proofs.number_length.Lts as lts
-use Rattle.rendering.proofs.digit_count.Reads as digit-count-reads
-use Rattle.rendering.proofs.exponent_length.Reads as exponent-length-reads
-use Rattle.rendering.proofs.fraction_length.Reads as fraction-length-reads
-use Rattle.rendering.proofs.sign_length.Reads as sign-length-reads
-use Rattle.rendering.proofs.uncertainty_length.Reads as uncertainty-length-reads
 
 sign-length-requires : tie.Need-sign-length-requires
 sign-length-requires c κs = search needs

@@ -1,25 +1,17 @@
 -- `rendering::put_body` meets its contract: by the shape of the record. Assumes nothing.
 use borrow.Author.Needs.{needs}
-use Prim.Native.Nat.{_-_, _≤_}
-use mathlib.Core.Path.{_≡_, refl, sym, ap, _∙_}
+use Prim.Native.Nat.{_-_}
+use mathlib.Core.Path.{sym, ap, _∙_}
 use mathlib.Core.Bool.{true, false}
 use native.Mathlib.Omega.{arith}
 use lib.ListN.{length, take, drop, length-take, length-drop}
 use Rattle.numbers.specs.Spelling.{renderNumber}
-use Rattle.records.specs.Kinds.{shapeOf, isContent, marksOf}
-use Rattle.rendering.specs.Rendering.{decimalOf}
-use Rattle.rendering.specs.Writing.{Short, bodyText, bodyBy}
+use Rattle.records.specs.Kinds.{isContent, marksOf}
+use Rattle.rendering.specs.Writing.{bodyText}
 use Rattle.rendering.proofs.Wrote.{wrote-none, wrote-as, room-as}
 use Rattle.rendering.proofs.Lines.{body-content, body-parts, body-uncertain, body-none, own-content, own-parts, parts-short}
 use Rattle.rendering.proofs.put_body.Statement.{statement}
 use Rattle.rendering.proofs.put_body.Tie as tie
-use Rattle.rendering.proofs.put_body.Reads as reads
-use Rattle.rendering.proofs.put_body.Lts as lts
-use Rattle.records.proofs.Kind.marks.Reads as marks-reads
-use Rattle.records.proofs.Kind.shape.Reads as shape-reads
-use Rattle.rendering.proofs.decimal_of.Reads as decimal-of-reads
-use Rattle.rendering.proofs.put_number.Reads as put-number-reads
-use Rattle.rendering.proofs.put_part.Reads as put-part-reads
 
 shape-requires : tie.Need-shape-requires
 shape-requires c κs = search needs

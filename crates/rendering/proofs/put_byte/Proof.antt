@@ -5,8 +5,6 @@ use native.Mathlib.Omega.{arith}
 use Rattle.records.proofs.Putting.{set-put}
 use Rattle.rendering.proofs.put_byte.Statement.{statement}
 use Rattle.rendering.proofs.put_byte.Tie as tie
-use Rattle.rendering.proofs.put_byte.Reads as reads
-use Rattle.rendering.proofs.put_byte.Lts as lts
 
 slice-write-out : tie.Need-slice-write-out
 slice-write-out c = search needs

@@ -1,9 +1,8 @@
 -- `rendering::put_closing` meets its contract: each arm at once for its kinds' numbers. Assumes nothing.
 use borrow.Author.Needs.{needs}
-use Prim.Native.Nat.{_≤_}
-use mathlib.Core.Path.{_≡_, refl, sym, ap, _∙_}
+use mathlib.Core.Path.{refl, sym, ap}
 use mathlib.Core.Bool.{true}
-use mathlib.Core.List.{List, [], _∷_, _++_}
+use mathlib.Core.List.{[], _∷_}
 use native.Mathlib.Omega.{arith}
 use lib.Dec.{ltb}
 use lib.ListN.{length}
@@ -14,10 +13,6 @@ use Rattle.rendering.proofs.Wrote.{wrote-as, wrote-then, wrote-room, ro
 use Rattle.rendering.proofs.Lines.{closing-mark}
 use Rattle.rendering.proofs.put_closing.Statement.{statement}
 use Rattle.rendering.proofs.put_closing.Tie as tie
-use Rattle.rendering.proofs.put_closing.Reads as reads
-use Rattle.rendering.proofs.put_closing.Lts as lts
-use Rattle.rendering.proofs.mark_of.Reads as mark-of-reads
-use Rattle.rendering.proofs.put_byte.Reads as put-byte-reads
 
 mark-of-requires : tie.Need-mark-of-requires
 mark-of-requires c κs = search needs

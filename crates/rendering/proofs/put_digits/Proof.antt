@@ -1,6 +1,6 @@
 -- `rendering::put_digits` meets its contract: where the loop stands, all but the first digits are written, and those are the last of what is left. Assumes nothing.
-use Prim.Native.Nat.{_+_, _-_, _≤_}
-use mathlib.Core.Path.{_≡_, refl, sym, ap, _∙_}
+use Prim.Native.Nat.{_+_, _≤_}
+use mathlib.Core.Path.{_≡_, refl}
 use mathlib.Core.List.{_++_}
 use native.Mathlib.Omega.{arith}
 use lib.ListN.{length, drop, length-set}
@@ -10,8 +10,6 @@ use Rattle.records.specs.Put.{put}
 use Rattle.rendering.proofs.Digits.{digits-none, digits-more, digits-put, digits-all}
 use Rattle.rendering.proofs.put_digits.Statement.{statement}
 use Rattle.rendering.proofs.put_digits.Tie as tie
-use Rattle.rendering.proofs.put_digits.Reads as reads
-use Rattle.rendering.proofs.put_digits.Lts as lts
 
 abbrev Inv-loop : tie.InvT-loop
 Inv-loop out₀ at count n left₀ rest₀ out left rest = (left ≤ count) × (length out ≡ length out₀) × (padded count n ≡ padded left rest ++ drop left (padded count n)) × (out ≡ put (at + left) (drop left (padded count n)) out₀)

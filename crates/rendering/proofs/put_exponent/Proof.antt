@@ -1,20 +1,13 @@
 -- `rendering::put_exponent` meets its contract. Assumes nothing.
 use borrow.Author.Needs.{needs}
-use Prim.Native.Nat.{_+_, _≤_}
-use mathlib.Core.Path.{_≡_, sym, _∙_, ap}
+use mathlib.Core.Path.{sym}
 use mathlib.Core.List.{[], _∷_, _++_}
 use native.Mathlib.Omega.{arith}
-use lib.ListN.{length}
-use Rattle.numbers.specs.Spelling.{plain, signBytes, expBytes}
+use Rattle.numbers.specs.Spelling.{plain, signBytes}
 use Rattle.rendering.proofs.Wrote.{wrote-none, wrote-as, wrote-then, wrote-room, room-as, room-first}
 use Rattle.rendering.proofs.Pieces.{exponent-none, exponent-some}
 use Rattle.rendering.proofs.put_exponent.Statement.{statement}
 use Rattle.rendering.proofs.put_exponent.Tie as tie
-use Rattle.rendering.proofs.put_exponent.Reads as reads
-use Rattle.rendering.proofs.put_exponent.Lts as lts
-use Rattle.rendering.proofs.put_byte.Reads as put-byte-reads
-use Rattle.rendering.proofs.put_plain.Reads as put-plain-reads
-use Rattle.rendering.proofs.put_sign.Reads as put-sign-reads
 
 returns : tie.Need-returns
 returns c = wrote-as (sym (exponent-none _ _ (c .if1 .taken))) (wrote-none _ _)

@@ -1,20 +1,16 @@
 -- `rendering::put_fraction` meets its contract. Assumes nothing.
 use borrow.Author.Needs.{needs}
-use Prim.Native.Nat.{_+_, _≤_}
+use Prim.Native.Nat.{_≤_}
 use mathlib.Core.Path.{sym}
-use mathlib.Core.List.{[], _∷_, _++_}
+use mathlib.Core.List.{[], _∷_}
 use native.Mathlib.Omega.{arith}
 use lib.ListN.{length}
-use Rattle.numbers.specs.Spelling.{padded, fracBytes}
+use Rattle.numbers.specs.Spelling.{padded}
 use Rattle.numbers.proofs.Spelled.{length-padded}
 use Rattle.rendering.proofs.Wrote.{wrote-none, wrote-as, wrote-then, wrote-room, room-as, room-first}
 use Rattle.rendering.proofs.Pieces.{fraction-none, fraction-some}
 use Rattle.rendering.proofs.put_fraction.Statement.{statement}
 use Rattle.rendering.proofs.put_fraction.Tie as tie
-use Rattle.rendering.proofs.put_fraction.Reads as reads
-use Rattle.rendering.proofs.put_fraction.Lts as lts
-use Rattle.rendering.proofs.put_byte.Reads as put-byte-reads
-use Rattle.rendering.proofs.put_digits.Reads as put-digits-reads
 
 returns : tie.Need-returns
 returns c = wrote-as (sym (fraction-none _ _ (c .if1 .taken))) (wrote-none _ _)

@@ -8,13 +8,6 @@ use Rattle.rendering.proofs.Wrote.{wrote-as, wrote-then, wrote-room, ro
 use Rattle.rendering.proofs.Pieces.{number-pieces}
 use Rattle.rendering.proofs.put_number.Statement.{statement}
 use Rattle.rendering.proofs.put_number.Tie as tie
-use Rattle.rendering.proofs.put_number.Reads as reads
-use Rattle.rendering.proofs.put_number.Lts as lts
-use Rattle.rendering.proofs.put_exponent.Reads as put-exponent-reads
-use Rattle.rendering.proofs.put_fraction.Reads as put-fraction-reads
-use Rattle.rendering.proofs.put_plain.Reads as put-plain-reads
-use Rattle.rendering.proofs.put_sign.Reads as put-sign-reads
-use Rattle.rendering.proofs.put_uncertainty.Reads as put-uncertainty-reads
 
 put-sign-requires : tie.Need-put-sign-requires
 put-sign-requires c κs =

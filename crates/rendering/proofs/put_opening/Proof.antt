@@ -1,9 +1,8 @@
 -- `rendering::put_opening` meets its contract: each arm at once for its kinds' numbers. Assumes nothing.
 use borrow.Author.Needs.{needs}
-use Prim.Native.Nat.{_≤_}
-use mathlib.Core.Path.{_≡_, refl, sym, ap, _∙_}
+use mathlib.Core.Path.{refl, sym, ap, _∙_}
 use mathlib.Core.Bool.{true}
-use mathlib.Core.List.{List, [], _∷_}
+use mathlib.Core.List.{[], _∷_}
 use native.Mathlib.Omega.{arith}
 use lib.Dec.{ltb}
 use Rattle.words.specs.Keywords.{keyData, keyLoop, keySave}
@@ -14,11 +13,6 @@ use Rattle.rendering.proofs.Wrote.{wrote-none, wrote-as, room-as}
 use Rattle.rendering.proofs.Lines.{opening-mark}
 use Rattle.rendering.proofs.put_opening.Statement.{statement}
 use Rattle.rendering.proofs.put_opening.Tie as tie
-use Rattle.rendering.proofs.put_opening.Reads as reads
-use Rattle.rendering.proofs.put_opening.Lts as lts
-use Rattle.rendering.proofs.mark_of.Reads as mark-of-reads
-use Rattle.rendering.proofs.put_byte.Reads as put-byte-reads
-use Rattle.rendering.proofs.put_part.Reads as put-part-reads
 
 enum-told : tie.Need-enum-told
 enum-told c = search needs

@@ -1,14 +1,12 @@
 -- `rendering::put_part` meets its contract: where the loop stands, i bytes are copied. Assumes nothing.
-use Prim.Native.Nat.{_+_, _-_, _≤_}
-use mathlib.Core.Path.{_≡_, refl, sym, ap, _∙_}
+use Prim.Native.Nat.{_-_, _≤_}
+use mathlib.Core.Path.{_≡_, refl, sym}
 use native.Mathlib.Omega.{arith}
 use lib.ListN.{length, take, drop, length-set, length-take, length-drop}
 use Rattle.records.specs.Put.{put}
 use Rattle.rendering.proofs.Wrote.{put-none, part-more}
 use Rattle.rendering.proofs.put_part.Statement.{statement}
 use Rattle.rendering.proofs.put_part.Tie as tie
-use Rattle.rendering.proofs.put_part.Reads as reads
-use Rattle.rendering.proofs.put_part.Lts as lts
 
 abbrev Inv-loop : tie.InvT-loop
 Inv-loop out₀ at source from size i₀ out i = (i ≤ size) × (length out ≡ length out₀) × (out ≡ put at (take i (drop from source)) out₀)

@@ -6,10 +6,6 @@ use Rattle.rendering.proofs.Wrote.{wrote-as}
 use Rattle.rendering.proofs.Digits.{plain-padded}
 use Rattle.rendering.proofs.put_plain.Statement.{statement}
 use Rattle.rendering.proofs.put_plain.Tie as tie
-use Rattle.rendering.proofs.put_plain.Reads as reads
-use Rattle.rendering.proofs.put_plain.Lts as lts
-use Rattle.rendering.proofs.digit_count.Reads as digit-count-reads
-use Rattle.rendering.proofs.put_digits.Reads as put-digits-reads
 
 digit-count-requires : tie.Need-digit-count-requires
 digit-count-requires c κs = search needs

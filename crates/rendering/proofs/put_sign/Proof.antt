@@ -5,9 +5,6 @@ use Rattle.rendering.proofs.Wrote.{wrote-none, wrote-as, room-as}
 use Rattle.rendering.proofs.Pieces.{sign-minus, sign-plus}
 use Rattle.rendering.proofs.put_sign.Statement.{statement}
 use Rattle.rendering.proofs.put_sign.Tie as tie
-use Rattle.rendering.proofs.put_sign.Reads as reads
-use Rattle.rendering.proofs.put_sign.Lts as lts
-use Rattle.rendering.proofs.put_byte.Reads as put-byte-reads
 
 put-byte-requires : tie.Need-put-byte-requires
 put-byte-requires c κs = room-as _ _ (sign-minus _ (c .before .if1 .taken)) (c .before .before .before .pre)

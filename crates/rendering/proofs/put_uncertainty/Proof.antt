@@ -1,20 +1,14 @@
 -- `rendering::put_uncertainty` meets its contract. Assumes nothing.
 use borrow.Author.Needs.{needs}
-use Prim.Native.Nat.{_+_, _≤_}
-use mathlib.Core.Path.{_≡_, sym, _∙_, ap}
+use mathlib.Core.Path.{sym}
 use mathlib.Core.List.{[], _∷_, _++_}
 use borrow.Author.Tests.{not-true, not-false}
 use native.Mathlib.Omega.{arith}
-use lib.ListN.{length}
-use Rattle.numbers.specs.Spelling.{plain, uncBytes}
+use Rattle.numbers.specs.Spelling.{plain}
 use Rattle.rendering.proofs.Wrote.{wrote-none, wrote-as, wrote-then, wrote-room, room-as, room-first}
 use Rattle.rendering.proofs.Pieces.{uncertainty-none, uncertainty-some}
 use Rattle.rendering.proofs.put_uncertainty.Statement.{statement}
 use Rattle.rendering.proofs.put_uncertainty.Tie as tie
-use Rattle.rendering.proofs.put_uncertainty.Reads as reads
-use Rattle.rendering.proofs.put_uncertainty.Lts as lts
-use Rattle.rendering.proofs.put_byte.Reads as put-byte-reads
-use Rattle.rendering.proofs.put_plain.Reads as put-plain-reads
 
 returns : tie.Need-returns
 returns c = wrote-as (sym (uncertainty-none _ _ (not-true _ (c .if1 .taken)))) (wrote-none _ _)

@@ -1,17 +1,12 @@
 -- `rendering::render` meets its contract. Assumes nothing.
 use borrow.Author.Needs.{needs}
-use mathlib.Core.Path.{_≡_, sym, _∙_}
+use mathlib.Core.Path.{sym, _∙_}
 use native.Mathlib.Omega.{arith}
 use borrow.Author.Tests.{not-true, not-false}
 use Rattle.rendering.proofs.Passing.{owned-sound}
 use Rattle.rendering.proofs.Answers.{right-unsound, right-long, needed, right-room, right-done}
 use Rattle.rendering.proofs.render.Statement.{statement}
 use Rattle.rendering.proofs.render.Tie as tie
-use Rattle.rendering.proofs.render.Reads as reads
-use Rattle.rendering.proofs.render.Lts as lts
-use Rattle.rendering.proofs.rendered_length.Reads as rendered-length-reads
-use Rattle.rendering.proofs.write_lines.Reads as write-lines-reads
-use Rattle.stores.proofs.is_sound.Reads as is-sound-reads
 
 is-sound-requires : tie.Need-is-sound-requires
 is-sound-requires c κs = search needs

@@ -1,7 +1,7 @@
 -- `rendering::rendered_length` meets its contract: where the loop stands, the lines so far have the total as their length, and all are those and the ones that are left.
 -- Assumes nothing.
-use Prim.Native.Nat.{_-_, _≤_, _<_}
-use mathlib.Core.Path.{_≡_, refl, sym, ap, _∙_}
+use Prim.Native.Nat.{_-_}
+use mathlib.Core.Path.{_≡_, sym, _∙_}
 use native.Mathlib.Omega.{arith}
 use lib.ListN.{length}
 use borrow.Author.Needs.{needs}
@@ -9,13 +9,8 @@ use Rattle.records.specs.declared.Entry.the-variants.{Record}
 use Rattle.records.specs.Entries.{entryAt}
 use Rattle.stores.proofs.Walking.{next-at}
 use Rattle.rendering.proofs.Passing.{Summing, summing-first, summing-end, summing-none, summing-digits, summing-over, summing-more}
-use Rattle.rendering.specs.Writing.{lineLength}
 use Rattle.rendering.proofs.rendered_length.Statement.{statement}
 use Rattle.rendering.proofs.rendered_length.Tie as tie
-use Rattle.rendering.proofs.rendered_length.Reads as reads
-use Rattle.rendering.proofs.rendered_length.Lts as lts
-use Rattle.records.proofs.read_record.Reads as read-record-reads
-use Rattle.rendering.proofs.line_length.Reads as line-length-reads
 
 abbrev Inv-loop : tie.InvT-loop
 Inv-loop store area from₀ total₀ from total = Summing store area from total

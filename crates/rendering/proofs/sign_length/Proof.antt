@@ -4,8 +4,6 @@ use lib.ListN.{length}
 use Rattle.rendering.proofs.Pieces.{sign-minus, sign-plus}
 use Rattle.rendering.proofs.sign_length.Statement.{statement}
 use Rattle.rendering.proofs.sign_length.Tie as tie
-use Rattle.rendering.proofs.sign_length.Reads as reads
-use Rattle.rendering.proofs.sign_length.Lts as lts
 
 returns : tie.Need-returns
 returns c = sym (ap length (sign-minus _ (c .if1 .taken)))

@@ -1,13 +1,10 @@
 -- `rendering::size_of` meets its contract. Assumes nothing.
 use borrow.Author.Needs.{needs}
-use mathlib.Core.Path.{_≡_}
 use native.Mathlib.Omega.{arith}
 use borrow.Author.Tests.{le-leb, lt-leb}
 use Rattle.rendering.specs.Writing.{sizeOf}
 use Rattle.rendering.proofs.size_of.Statement.{statement}
 use Rattle.rendering.proofs.size_of.Tie as tie
-use Rattle.rendering.proofs.size_of.Reads as reads
-use Rattle.rendering.proofs.size_of.Lts as lts
 
 sub-result : tie.Need-sub-result
 sub-result c = search needs

@@ -8,12 +8,6 @@ use Rattle.rendering.proofs.Wrote.{wrote-none, wrote-as, wrote-then, wr
 use Rattle.rendering.proofs.Lines.{line-pieces, line-none}
 use Rattle.rendering.proofs.write_line.Statement.{statement}
 use Rattle.rendering.proofs.write_line.Tie as tie
-use Rattle.rendering.proofs.write_line.Reads as reads
-use Rattle.rendering.proofs.write_line.Lts as lts
-use Rattle.rendering.proofs.is_end.Reads as is-end-reads
-use Rattle.rendering.proofs.put_body.Reads as put-body-reads
-use Rattle.rendering.proofs.put_closing.Reads as put-closing-reads
-use Rattle.rendering.proofs.put_opening.Reads as put-opening-reads
 
 is-end-requires : tie.Need-is-end-requires
 is-end-requires c κs = search needs

@@ -1,6 +1,6 @@
 -- `rendering::write_lines` meets its contract: where the loop stands, the lines so far are written, and the others are left. Assumes nothing.
-use Prim.Native.Nat.{_-_, _≤_, _<_}
-use mathlib.Core.Path.{_≡_, refl, sym, ap, _∙_}
+use Prim.Native.Nat.{_-_}
+use mathlib.Core.Path.{_≡_, sym, _∙_}
 use native.Mathlib.Omega.{arith}
 use lib.ListN.{length}
 use borrow.Author.Needs.{needs}
@@ -10,10 +10,6 @@ use Rattle.stores.proofs.Walking.{next-at}
 use Rattle.rendering.proofs.Passing.{Writing, writing-first, writing-length, writing-end, writing-none, writing-own, writing-room, writing-more}
 use Rattle.rendering.proofs.write_lines.Statement.{statement}
 use Rattle.rendering.proofs.write_lines.Tie as tie
-use Rattle.rendering.proofs.write_lines.Reads as reads
-use Rattle.rendering.proofs.write_lines.Lts as lts
-use Rattle.records.proofs.read_record.Reads as read-record-reads
-use Rattle.rendering.proofs.write_line.Reads as write-line-reads
 
 abbrev Inv-loop : tie.InvT-loop
 Inv-loop store area out₀ from₀ at₀ out from at = Writing store area out₀ out from at

@@ -1,13 +1,9 @@
 -- `rendering::Rendered::report` meets its contract. Assumes nothing.
 use borrow.Author.Needs.{needs}
-use mathlib.Core.Path.{_∙_, sym, ap}
 use Rattle.text.specs.Reports.{success, refusedBare, noRoom}
 use Rattle.rendering.specs.Rendering.{renderedReport}
 use Rattle.rendering.proofs.Rendered.report.Statement.{statement}
 use Rattle.rendering.proofs.Rendered.report.Tie as tie
-use Rattle.rendering.proofs.Rendered.report.Reads as reads
-use Rattle.rendering.proofs.Rendered.report.Lts as lts
-use Rattle.rendering.proofs.answer.Reads as answer-reads
 
 enum-known-self : tie.Need-enum-known-self
 enum-known-self c = search needs
