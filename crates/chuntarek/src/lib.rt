@@ -10,7 +10,8 @@ ghost use Rattle.naming.specs.Names.{nameCheck, namingReport};
 ghost use Rattle.rendering.specs.Rendering.{renderAnswer, renderOut};
 ghost use Rattle.chuntarek.specs.Exports.{exported, exportedPart, exportedRecord, exportedFields, noRecord, isNegative, magnitude};
 use records::Fields;
-use stores::{Content, Walked};
+use stores::Content;
+use stores::Walked;
 use text::Report;
 
 // chuntarek_answer.
@@ -76,8 +77,14 @@ fn part_of(c: Content) -> Part
             start: from as u64,
             length: size as u64,
         },
-        Content::NotSound => Part { start: 0, length: 0 },
-        Content::NoContent => Part { start: 0, length: 0 },
+        Content::NotSound => Part {
+            start: 0,
+            length: 0,
+        },
+        Content::NoContent => Part {
+            start: 0,
+            length: 0,
+        },
     }
 }
 
