@@ -246,14 +246,27 @@ frame-closes s a o p d e =
       fits = one-fits 3 5 (gapEnd s (p + 5) - o) (omega arith) (omega (arith, d .onward));
     }
 
+-- what holds of both branches holds of the one taken
+either :
+    (s : List ℕ) (o : ℕ) (t : Bool) (x y : Step)
+    → (t ≡ true → Stepped s o x)
+    → (t ≡ false → Stepped s o y)
+    → Stepped s o (cond t x y)
+either s o true x y p q = p refl
+either s o false x y p q = q refl
+
 -- a frame that has been read up to o ends with the item that was dropped there
-pub frame-ends : (s : List ℕ) (a o p : ℕ) (z : Sizes) → Passed s none a (some a) o z → DroppedAt s a o p → Stepped s a (frameEnd s a z p)
-unfolding frameEnd
-frame-ends s a o p z h d = by (startsAt keySave s p) refl
-  where
-    by : (b : Bool) → startsAt keySave s p ≡ b → Stepped s a (cond b (Read (gapEnd s (p + 5)) (added z 3 5)) (Refused (OpenFrame a)))
-    by true e = unfold Stepped in rw (← added-none z 3 5) (passed-then s none (some a) none a o (gapEnd s (p + 5)) z (added noSizes 3 5) h (frame-closes s a o p d e))
-    by false e = unfold Stepped told tells in λ out. rw (h .reads out, d .reads (out ++ h .kept), open-answer s a p (out ++ h .kept) (d .bare) e)
+pub frame-ends :
+    (s : List ℕ) (a o p : ℕ) (z : Sizes)
+    → Passed s none a (some a) o z
+    → DroppedAt s a o p
+    → Stepped s a (frameEnd s a z p)
+unfolding frameEnd Stepped told tells
+frame-ends s a o p z h d =
+    either s a (startsAt keySave s p) _ _
+    (λ e. rw (← added-none z 3 5)
+    (passed-then s none (some a) none a o (gapEnd s (p + 5)) z (added noSizes 3 5) h (frame-closes s a o p d e)))
+    (λ e out. rw (h .reads out, d .reads (out ++ h .kept), open-answer s a p (out ++ h .kept) (d .bare) e))
 
 -- a frame's refusal is the text's
 pub frame-refused : (s : List ℕ) (a o : ℕ) (z : Sizes) (d : Decision) → Passed s none a (some a) o z → ((out : List Rec) → told d ≡ tells (left (some a) s o out)) → Stepped s a (Refused d)

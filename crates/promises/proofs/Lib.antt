@@ -26,4 +26,6 @@ pub mod Again
 pub mod Contents
 pub mod Refusals
 pub mod ReadIsSound
+pub mod NumbersRead
 pub mod Readings
+pub mod Examples

@@ -20,10 +20,14 @@ use Rattle.records.specs.declared.Kind.the-variants.{NoKind, Block, FrameOpen, 
 use Rattle.records.specs.declared.Shape.{Shape}
 use Rattle.records.specs.declared.Shape.the-variants.{Empty, Place, Content, Count, Parts as PartsShape, PartsUncertain}
 use Rattle.records.specs.Kinds.{kindOf, numberOf, shapeOf, shapeLength, bodyLength, isContent}
-use Rattle.records.specs.Entries.{de32, partsOf, noParts, fieldsOf, isKind, entryOf, entryAt}
+use Rattle.records.specs.Entries.{de32, partsOf, plainFields, partsFields, fieldsOf, isKind, entryOf, entryAt}
 use Rattle.values.specs.Values.{tag, loop, save, value}
 use Rattle.stores.specs.Walk.{onward, entriesFrom, entries}
-use Rattle.stores.specs.Nesting.{Where, start, items, names, values, wants, Stand, stands, falls, isValueKind, opensLoop, atItems, afterName, atNames, atValues, standing, ended, follow, nestedFrom}
+use Rattle.stores.specs.declared.Stand.{Stand}
+use Rattle.stores.specs.declared.Stand.the-variants.{Stands, Falls}
+use Rattle.stores.specs.declared.Where.{Where}
+use Rattle.stores.specs.declared.Where.the-variants.{Start, Items, Names, Values, Wants}
+use Rattle.stores.specs.Nesting.{isValueKind, opensLoop, atItems, afterName, atNames, atValues, standing, ended, follow, nestedFrom}
 use Rattle.stores.specs.Contents.{readableBy, readable, contentBytes, ownRule, takes, filledFrom}
 use Rattle.rendering.specs.Rendering.{tokenText, isEnd, lineOf, linesOf}
 use Rattle.promises.specs.Sayings.{Bytes}
@@ -47,7 +51,7 @@ unfolding de32 Bytes
 de32-small s h = omega (arith, h 0, h 1, h 2, h 3)
 
 fields-stored : (k : Kind) (x : Shape) (b : List ℕ) → shapeOf k ≡ x → isKind k ≡ true → Bytes b → Stored k (fieldsOf x b)
-unfolding fieldsOf hasParts partsOf shapeOf
+unfolding fieldsOf plainFields partsFields hasParts partsOf shapeOf
 fields-stored k Empty b e y h = record { known = y; exponent = omega arith; certain = λ _. refl; none = λ _. refl }
 fields-stored k Place b e y h = record { known = y; exponent = omega arith; certain = λ _. refl; none = λ _. refl }
 fields-stored k Content b e y h = record { known = y; exponent = omega arith; certain = λ _. refl; none = λ _. refl }
@@ -166,18 +170,18 @@ value-line Uncertain e = refl
 
 -- where the store's walk stands, and where the machine's
 data Meets : Where → Spot → Type 0 where
-  meet-items : (e : Bool) → Meets (items e) (at-items e)
-  meet-names : (total n left : ℕ) → total ≡ n + suc left → Meets (names total (suc left)) (at-names n)
-  meet-none : (n : ℕ) → Meets (values (suc n) 0) (at-names (suc n))
-  meet-values : (total j : ℕ) → Meets (values total (suc j)) (at-values total (suc j))
-  meet-wants : Meets wants at-value
+  meet-items : (e : Bool) → Meets (Items e) (at-items e)
+  meet-names : (total n left : ℕ) → total ≡ n + suc left → Meets (Names total (suc left)) (at-names n)
+  meet-none : (n : ℕ) → Meets (Values (suc n) 0) (at-names (suc n))
+  meet-values : (total j : ℕ) → Meets (Values total (suc j)) (at-values total (suc j))
+  meet-wants : Meets Wants at-value
 
 -- the way that a test leads to
 follow-cond : {A : Type 0} (t : Bool) (x y : Stand) (go : Bool → Where → Bool) → (t ≡ true → follow x go ≡ true → A) → (t ≡ false → follow y go ≡ true → A) → follow (cond t x y) go ≡ true → A
 follow-cond true x y go p q e = p refl e
 follow-cond false x y go p q e = q refl e
 
-follow-falls : {A : Type 0} (go : Bool → Where → Bool) → follow falls go ≡ true → A
+follow-falls : {A : Type 0} (go : Bool → Where → Bool) → follow Falls go ≡ true → A
 unfolding follow
 follow-falls go e = absurd (false≢true e)
 
@@ -189,11 +193,11 @@ module _ (ar : List ℕ) (es : List Entry) (then : (f : Bool) (w : Where) (x : S
   Here : Bool → Spot → Type 0
   Here f x = Nested f x (lineFor ar (Record k r next) ∷ linesFor ar es)
 
-  want : (f : Bool) → follow (cond (isValueKind (numberOf k)) (stands f (items false)) falls) onto ≡ true → Here f at-value
+  want : (f : Bool) → follow (cond (isValueKind (numberOf k)) (Stands f (Items false)) Falls) onto ≡ true → Here f at-value
   unfolding follow onto Here lineFor
   want f =
       follow-cond (isValueKind (numberOf k)) _ _ onto
-      (λ t e. rw (value-line k t) (valued (numberOf k) (wordFor ar k r) (reads-value ar f r k t h) (then f (items false) (at-items false) (meet-items false) e)))
+      (λ t e. rw (value-line k t) (valued (numberOf k) (wordFor ar k r) (reads-value ar f r k t h) (then f (Items false) (at-items false) (meet-items false) e)))
       (λ t. follow-falls onto)
 
   -- a name of a loop
@@ -205,17 +209,17 @@ module _ (ar : List ℕ) (es : List Entry) (then : (f : Bool) (w : Where) (x : S
       (λ t. follow-falls onto)
     where
       by : (left : ℕ) → total ≡ n + suc left → follow (afterName f total left) onto ≡ true → Nested f (at-names (suc n)) (linesFor ar es)
-      by zero q e = unfold afterName in let z : total ≡ suc n = omega arith in then f (values total 0) (at-names (suc n)) (rw z (meet-none n)) e
-      by (suc l) q e = unfold afterName in then f (names total (suc l)) (at-names (suc n)) (meet-names total (suc n) l (omega arith)) e
+      by zero q e = unfold afterName in let z : total ≡ suc n = omega arith in then f (Values total 0) (at-names (suc n)) (rw z (meet-none n)) e
+      by (suc l) q e = unfold afterName in then f (Names total (suc l)) (at-names (suc n)) (meet-names total (suc n) l (omega arith)) e
 
   -- the first value of a loop, or its end
   first : (f : Bool) (n : ℕ) → follow (atValues f (suc n) 0 (numberOf k)) onto ≡ true → Here f (at-names (suc n))
   unfolding follow onto Here lineFor atValues kindOf isEnd
   first f n =
       follow-cond (eqb (numberOf k) 7) _ _ onto
-      (λ t. let z : k ≡ LoopEnd = of-number k 7 t in follow-cond (eqb (0 % suc n) 0) _ _ onto (λ u e. rw z (no-rows n (then f (items true) (at-items true) (meet-items true) e))) (λ u. follow-falls onto))
+      (λ t. let z : k ≡ LoopEnd = of-number k 7 t in follow-cond (eqb (0 % suc n) 0) _ _ onto (λ u e. rw z (no-rows n (then f (Items true) (at-items true) (meet-items true) e))) (λ u. follow-falls onto))
       (λ t. follow-cond (isValueKind (numberOf k)) _ _ onto
-      (λ u e. rw (value-line k u) (first-value n (numberOf k) (wordFor ar k r) (reads-value ar f r k u h) (then f (values (suc n) 1) (at-values (suc n) 1) (meet-values (suc n) 0) e)))
+      (λ u e. rw (value-line k u) (first-value n (numberOf k) (wordFor ar k r) (reads-value ar f r k u h) (then f (Values (suc n) 1) (at-values (suc n) 1) (meet-values (suc n) 0) e)))
       (λ u. follow-falls onto))
 
   -- a further value, or the end
@@ -224,10 +228,10 @@ module _ (ar : List ℕ) (es : List Entry) (then : (f : Bool) (w : Where) (x : S
   further f total j =
       follow-cond (eqb (numberOf k) 7) _ _ onto
       (λ t. let z : k ≡ LoopEnd = of-number k 7 t in follow-cond (eqb (suc j % total) 0) _ _ onto
-      (λ u e. rw z (rows total (suc j) (eqb-true (suc j % total) 0 u) (then f (items false) (at-items false) (meet-items false) (rw (ne-eqb (suc j) 0 (λ y. omega arith)) at e))))
+      (λ u e. rw z (rows total (suc j) (eqb-true (suc j % total) 0 u) (then f (Items false) (at-items false) (meet-items false) (rw (ne-eqb (suc j) 0 (λ y. omega arith)) at e))))
       (λ u. follow-falls onto))
       (λ t. follow-cond (isValueKind (numberOf k)) _ _ onto
-      (λ u e. rw (value-line k u) (next-value total (suc j) (numberOf k) (wordFor ar k r) (reads-value ar f r k u h) (then f (values total (suc (suc j))) (at-values total (suc (suc j))) (meet-values total (suc j)) e)))
+      (λ u e. rw (value-line k u) (next-value total (suc j) (numberOf k) (wordFor ar k r) (reads-value ar f r k u h) (then f (Values total (suc (suc j))) (at-values total (suc (suc j))) (meet-values total (suc j)) e)))
       (λ u. follow-falls onto))
 
   -- an item, a frame or a frame's end
@@ -239,20 +243,20 @@ module _ (ar : List ℕ) (es : List Entry) (then : (f : Bool) (w : Where) (x : S
       (λ _. follow-cond (eqb (numberOf k) 2) _ _ onto (λ t. let z : k ≡ FrameOpen = of-number k 2 t in by-open z f)
       (λ _. follow-cond (eqb (numberOf k) 3) _ _ onto (λ t. let z : k ≡ FrameClose = of-number k 3 t in by-shut z f) (λ _. follow-falls onto))))
     where
-      by-tag : k ≡ Tag → (e : Bool) → follow (cond e falls (stands f wants)) onto ≡ true → Here f (at-items e)
+      by-tag : k ≡ Tag → (e : Bool) → follow (cond e Falls (Stands f Wants)) onto ≡ true → Here f (at-items e)
       by-tag z true q = follow-falls onto q
-      by-tag z false q = rw z (tagged (95 ∷ contentBytes ar Tag r) (reads-tag f (contentBytes ar Tag r) (by-kind ar r Tag refl (rw z at h))) (then f wants at-value meet-wants q))
+      by-tag z false q = rw z (tagged (95 ∷ contentBytes ar Tag r) (reads-tag f (contentBytes ar Tag r) (by-kind ar r Tag refl (rw z at h))) (then f Wants at-value meet-wants q))
 
       by-loop : k ≡ Loop → (n : ℕ) → follow (opensLoop f n) onto ≡ true → Here f (at-items e)
       by-loop z zero q = unfold opensLoop in follow-falls onto q
-      by-loop z (suc n) q = unfold opensLoop in rw z (looped e _ (reads-loop f) (then f (names (suc n) (suc n)) (at-names 0) (meet-names (suc n) 0 n (omega arith)) q))
+      by-loop z (suc n) q = unfold opensLoop in rw z (looped e _ (reads-loop f) (then f (Names (suc n) (suc n)) (at-names 0) (meet-names (suc n) 0 n (omega arith)) q))
 
-      by-open : k ≡ FrameOpen → (f : Bool) → follow (cond f falls (stands true (items false))) onto ≡ true → Here f (at-items e)
+      by-open : k ≡ FrameOpen → (f : Bool) → follow (cond f Falls (Stands true (Items false))) onto ≡ true → Here f (at-items e)
       by-open z true q = follow-falls onto q
-      by-open z false q = rw z (opened e _ (reads-open (contentBytes ar FrameOpen r) (by-kind ar r FrameOpen refl (rw z at h))) (then true (items false) (at-items false) (meet-items false) q))
+      by-open z false q = rw z (opened e _ (reads-open (contentBytes ar FrameOpen r) (by-kind ar r FrameOpen refl (rw z at h))) (then true (Items false) (at-items false) (meet-items false) q))
 
-      by-shut : k ≡ FrameClose → (f : Bool) → follow (cond f (stands false (items false)) falls) onto ≡ true → Here f (at-items e)
-      by-shut z true q = rw z (shut e _ reads-shut (then false (items false) (at-items false) (meet-items false) q))
+      by-shut : k ≡ FrameClose → (f : Bool) → follow (cond f (Stands false (Items false)) Falls) onto ≡ true → Here f (at-items e)
+      by-shut z true q = rw z (shut e _ reads-shut (then false (Items false) (at-items false) (meet-items false) q))
       by-shut z false q = follow-falls onto q
 
 nested-from : (ar : List ℕ) {a n : ℕ} {es : List Entry} → Filled ar a n es → (f : Bool) (w : Where) (x : Spot) → Meets w x → nestedFrom es f w ≡ true → Nested f x (linesFor ar es)
@@ -270,5 +274,5 @@ nested-from ar (more {es = es} {k = k} {f = r} {next = next} h z g) f w x (meet-
 nested-from ar (more {es = es} {k = k} {f = r} {next = next} h z g) f w x meet-wants q = want ar es (λ f w x m q. nested-from ar g f w x m q) k r next h f q
 
 -- NESTED AS A STORE, nested as the machine reads
-pub nested-lines : (ar : List ℕ) {a n : ℕ} {es : List Entry} → Filled ar a n es → nestedFrom es false (items false) ≡ true → Nested false (at-items false) (linesFor ar es)
-nested-lines ar h q = nested-from ar h false (items false) (at-items false) (meet-items false) q
+pub nested-lines : (ar : List ℕ) {a n : ℕ} {es : List Entry} → Filled ar a n es → nestedFrom es false (Items false) ≡ true → Nested false (at-items false) (linesFor ar es)
+nested-lines ar h q = nested-from ar h false (Items false) (at-items false) (meet-items false) q

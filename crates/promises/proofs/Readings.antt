@@ -23,7 +23,7 @@ use Rattle.reading.specs.Services.{refusal, readRoom, readBy, readAnswer}
 use Rattle.promises.specs.Readings.{bytes, rowOf, seen, asked, reads, means, done-with, decimal, whole, readings, ReadingsHold}
 
 -- one name for all that a reading computes with: to unfold it is to unfold whatever its line names
-unfoldable opened : ℕ
+unfoldable pub opened : ℕ
 unfolding is isAscii isDigit isEol isSpace endsWord span gapByte gapThen gapIn gap scanStep scan scanAt placeAt success refusedAt refusedBare noRoom inWord word isOrdinary lower starts keyData keyGlobal keyLoop keySave keyStop reserved more quoted fieldIn field cut consGot digits sign point absent signedDigits isEmpty exponent close bracket parts isNumber within valueFrom value minus meaning kindOf shapeOf shapeLength marksOf opening bodyLength isContent hasContent lexed numberOr wordOr closed lexValue lexAsValue whyOf answer valueAnswer saveSize lexIn lex after tok emit step tokensFrom tokens config rec loopEnd closes fails atItem loopEnds atValue noMoreNames atName atWant atStart move follow run contentSize storeSize areaSize limit decided outline contentOf areaOf refusal readRoom readBy readAnswer
 opened = 0
 

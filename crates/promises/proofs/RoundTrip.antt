@@ -36,7 +36,9 @@ use Rattle.items.proofs.Advance.{advance₀}
 use Rattle.writing.specs.Writing.{storeOf, areaOf}
 use Rattle.reading.specs.Services.{readAnswer}
 use Rattle.stores.specs.Walk.{entries}
-use Rattle.stores.specs.Nesting.{nested, nestedFrom, start as first, standing, stands, falls, items, ended, follow as follows}
+use Rattle.stores.specs.declared.Stand.the-variants.{Stands, Falls}
+use Rattle.stores.specs.declared.Where.the-variants.{Start, Items}
+use Rattle.stores.specs.Nesting.{nested, nestedFrom, standing, ended, follow as follows}
 use Rattle.stores.specs.Contents.{readableBy, contentBytes, filled, isName}
 use Rattle.stores.specs.Soundness.{sound}
 use Rattle.rendering.specs.Rendering.{isEnd, tokenText, linesOf, rendering, limit as renderLimit, renderRoom, renderAnswer, renderOut}
@@ -95,12 +97,12 @@ head-of ar f h =
     record { opens = refl; fills = ap (λ (n : ℕ). suc (suc (suc (suc (suc n))))) (eqb-true (word c) (length c) (by-kind ar f Block refl h)) }
 
 -- what the machine reads of a sound store's rendering
-lines-read : (ar : List ℕ) {a n : ℕ} {es : List Entry} → Filled ar a n es → nestedFrom es false first ≡ true → run (tokensFrom (render (linesFor ar es)) 0 before 0) (config start none [] []) ≡ done (recsAt 0 (linesFor ar es))
+lines-read : (ar : List ℕ) {a n : ℕ} {es : List Entry} → Filled ar a n es → nestedFrom es false Start ≡ true → run (tokensFrom (render (linesFor ar es)) 0 before 0) (config start none [] []) ≡ done (recsAt 0 (linesFor ar es))
 unfolding nestedFrom ended standing follows linesFor lineFor isEnd
 lines-read ar (full e) q = absurd (false≢true q)
 lines-read ar (more {es = es} {k = k} {f = f} {next = next} h z g) q = by (eqb (numberOf k) 1) refl q
   where
-    by : (t : Bool) → eqb (numberOf k) 1 ≡ t → follows (cond t (stands false (items false)) falls) (λ f w. nestedFrom es f w) ≡ true
+    by : (t : Bool) → eqb (numberOf k) 1 ≡ t → follows (cond t (Stands false (Items false)) Falls) (λ f w. nestedFrom es f w) ≡ true
         → run (tokensFrom (render (lineFor ar (Record k f next) ∷ linesFor ar es)) 0 before 0) (config start none [] []) ≡ done (recsAt 0 (lineFor ar (Record k f next) ∷ linesFor ar es))
     by true t q = let e : k ≡ Block = unfold kindOf in of-number k 1 t in rw e (run-reads (wordFor ar Block f) (linesFor ar es) (head-of ar f (rw e at h)) (nested-lines ar g q))
     by false t q = absurd (false≢true q)
@@ -108,7 +110,7 @@ lines-read ar (more {es = es} {k = k} {f = f} {next = next} h z g) q = by (eqb (
 -- a sound store of bytes
 record Sound (st ar : List ℕ) : Type 0 where
   filling : Filled ar 0 (length st) (entries st)
-  nesting : nestedFrom (entries st) false first ≡ true
+  nesting : nestedFrom (entries st) false Start ≡ true
 
 sound-of : (st ar : List ℕ) → Bytes st → sound st ar ≡ true → Sound st ar
 unfolding sound nested filled entries

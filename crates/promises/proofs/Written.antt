@@ -26,7 +26,7 @@ use Rattle.records.specs.declared.Shape.the-variants.{Empty, Place, Content, Co
 use Rattle.records.specs.declared.Token.{Token}
 use Rattle.records.specs.Kinds.{kindOf, numberOf, shapeOf, shapeLength, bodyLength}
 use Rattle.records.specs.Records.{endRecord}
-use Rattle.records.specs.Entries.{stored, noToken, noParts, entryAt}
+use Rattle.records.specs.Entries.{stored, noParts, noFields, entryAt}
 use Rattle.records.proofs.Forms.{length-place, length-content, length-loop, length-number, length-uncertain}
 use Rattle.records.proofs.Back.{Fits, Small, end-back, place-back, content-back, loop-back, number-back, uncertain-back}
 use Rattle.items.specs.Machine.{Rec}
@@ -40,7 +40,7 @@ use Rattle.promises.proofs.Sources.{Each, none, also, each-map, sources
 
 -- the fields that a record is written with: a is the area offset, n the number of tags
 unfoldable pub fieldsIn : Shape → List ℕ → ℕ → ℕ → Rec → Fields
-fieldsIn Empty s a n r = record { token = noToken; number = 0; parts = noParts }
+fieldsIn Empty s a n r = noFields
 fieldsIn Place s a n r = record { token = tokenOf s r; number = 0; parts = noParts }
 fieldsIn Content s a n r = record { token = tokenOf s r; number = a; parts = noParts }
 fieldsIn Count s a n r = record { token = tokenOf s r; number = n; parts = noParts }

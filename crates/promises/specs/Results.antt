@@ -1,7 +1,8 @@
 -- What the services leave in lent buffers: the bytes that they count. Assumes nothing.
 use Prim.Native.Nat.{ℕ}
 use mathlib.Core.List.{List}
-use lib.ListN.{length, take}
+use lib.ListN.{length, take, drop}
+use Rattle.records.specs.declared.Fields.{Fields}
 use Rattle.reading.specs.Services.{readAnswer, readStore, readArea}
 use Rattle.rendering.specs.Rendering.{renderAnswer, renderOut}
 
@@ -15,3 +16,7 @@ storeBytes s store area = take (readAnswer s (length store) (length area) .first
 
 unfoldable pub areaBytes : (s store area : List ℕ) → List ℕ
 areaBytes s store area = take (readAnswer s (length store) (length area) .second) (readArea s (length store) area)
+
+-- the bytes of the token that a record of the text s tells of
+unfoldable pub tokenIn : List ℕ → Fields → List ℕ
+tokenIn s f = take (f .token .length) (drop (f .token .offset) s)

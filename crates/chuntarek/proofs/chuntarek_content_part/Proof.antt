@@ -1,0 +1,21 @@
+use mathlib.Core.Path.{_∙_, ap}
+use Rattle.chuntarek.specs.Exports.{exportedPart}
+use borrow.Author.Needs.{needs}
+use Rattle.chuntarek.proofs.chuntarek_content_part.Statement.{statement}
+use Rattle.chuntarek.proofs.chuntarek_content_part.Tie as tie
+use Rattle.chuntarek.proofs.chuntarek_content_part.Reads as reads
+use Rattle.chuntarek.proofs.chuntarek_content_part.Lts as lts
+use Rattle.chuntarek.proofs.part_of.Reads as part-of-reads
+use Rattle.stores.proofs.find_content.Reads as find-content-reads
+
+find-content-requires : tie.Need-find-content-requires
+find-content-requires c κs = search needs
+
+part-of-requires : tie.Need-part-of-requires
+part-of-requires c κs = search needs
+
+returns : tie.Need-returns
+returns c = c .part-of .ensures ∙ ap exportedPart (c .before .find-content .ensures)
+
+pub chuntarek-content-part-spec : {M : Type 1} → statement M
+chuntarek-content-part-spec = tie.close (tie.spec find-content-requires part-of-requires returns)

@@ -1,0 +1,21 @@
+use mathlib.Core.Path.{_∙_, ap}
+use Rattle.chuntarek.specs.Exports.{exportedRecord}
+use borrow.Author.Needs.{needs}
+use Rattle.chuntarek.proofs.chuntarek_record_at.Statement.{statement}
+use Rattle.chuntarek.proofs.chuntarek_record_at.Tie as tie
+use Rattle.chuntarek.proofs.chuntarek_record_at.Reads as reads
+use Rattle.chuntarek.proofs.chuntarek_record_at.Lts as lts
+use Rattle.chuntarek.proofs.record_of.Reads as record-of-reads
+use Rattle.stores.proofs.record_at.Reads as record-at-reads
+
+record-at-requires : tie.Need-record-at-requires
+record-at-requires c κs = search needs
+
+record-of-requires : tie.Need-record-of-requires
+record-of-requires c κs = search needs
+
+returns : tie.Need-returns
+returns c = cc
+
+pub chuntarek-record-at-spec : {M : Type 1} → statement M
+chuntarek-record-at-spec = tie.close (tie.spec record-at-requires record-of-requires returns)

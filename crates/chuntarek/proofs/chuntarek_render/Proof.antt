@@ -1,0 +1,29 @@
+use mathlib.Core.Path.{_∙_, ap}
+use Rattle.chuntarek.specs.Exports.{exported}
+use borrow.Author.Needs.{needs}
+use Rattle.chuntarek.proofs.chuntarek_render.Statement.{statement}
+use Rattle.chuntarek.proofs.chuntarek_render.Tie as tie
+use Rattle.chuntarek.proofs.chuntarek_render.Reads as reads
+use Rattle.chuntarek.proofs.chuntarek_render.Lts as lts
+use Rattle.chuntarek.proofs.numbers_of.Reads as numbers-of-reads
+use Rattle.rendering.proofs.Rendered.report.Reads as report-reads
+use Rattle.rendering.proofs.render.Reads as render-reads
+
+render-requires : tie.Need-render-requires
+render-requires c κs = search needs
+
+report-requires : tie.Need-report-requires
+report-requires c κs = search needs
+
+numbers-of-requires : tie.Need-numbers-of-requires
+numbers-of-requires c κs = search needs
+
+same-length : tie.Need-same-length
+same-length c = search needs
+
+returns : tie.Need-returns
+returns c = (c .numbers-of .ensures ∙ ap exported (c .before .report .ensures ∙ c .before .before .before .before .render .ensures .0), c .before .before .before .before .render .ensures .1)
+
+pub chuntarek-render-spec : {M : Type 1} → statement M
+chuntarek-render-spec =
+    tie.close (tie.spec render-requires report-requires numbers-of-requires same-length returns)

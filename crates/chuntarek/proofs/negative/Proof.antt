@@ -1,0 +1,17 @@
+use Rattle.chuntarek.specs.Exports.{isNegative}
+use borrow.Author.Tests.{le-leb, lt-leb}
+use Rattle.chuntarek.proofs.negative.Statement.{statement}
+use Rattle.chuntarek.proofs.negative.Tie as tie
+use Rattle.chuntarek.proofs.negative.Reads as reads
+use Rattle.chuntarek.proofs.negative.Lts as lts
+
+returns : tie.Need-returns
+unfolding isNegative
+returns c = rw (le-leb _ _ (c .if1 .taken))
+
+returns-2 : tie.Need-returns-2
+unfolding isNegative
+returns-2 c = rw (lt-leb _ _ (c .if1 .left))
+
+pub negative-spec : {M : Type 1} → statement M
+negative-spec = tie.close (tie.spec returns returns-2)

@@ -1,0 +1,13 @@
+use Rattle.chuntarek.specs.Exports.{exported}
+use mathlib.Core.Path.{refl}
+use Rattle.chuntarek.proofs.numbers_of.Statement.{statement}
+use Rattle.chuntarek.proofs.numbers_of.Tie as tie
+use Rattle.chuntarek.proofs.numbers_of.Reads as reads
+use Rattle.chuntarek.proofs.numbers_of.Lts as lts
+
+returns : tie.Need-returns
+unfolding exported
+returns c = refl
+
+pub numbers-of-spec : {M : Type 1} → statement M
+numbers-of-spec = tie.close (tie.spec returns)

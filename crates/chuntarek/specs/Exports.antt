@@ -1,0 +1,80 @@
+-- What C and Rust see: document 01's numbers of an answer, a part of an area, and one record of a store, each as numbers of 64 bits. Assumes nothing.
+use Prim.Native.Nat.{ℕ, _-_}
+use mathlib.Core.Bool.{Bool, cond}
+use lib.Dec.{eqb, leb}
+use Rattle.text.specs.declared.Report.{Report}
+use Rattle.records.specs.declared.Fields.{Fields}
+use Rattle.stores.specs.declared.Content.{Content}
+use Rattle.stores.specs.declared.Content.the-variants.{Part as Found, NotSound, NoContent}
+use Rattle.stores.specs.declared.Walked.{Walked}
+use Rattle.stores.specs.declared.Walked.the-variants.{Record as Met, NoRecord}
+use Rattle.chuntarek.specs.declared.Answer.{Answer}
+use Rattle.chuntarek.specs.declared.Part.{Part}
+use Rattle.chuntarek.specs.declared.Record.{Record}
+
+-- an answer, number for number
+unfoldable pub exported : Report → Answer
+exported r =
+    record { number = r .number; offset = r .offset; line = r .line; column = r .column; detail = r .detail; first = r .first; second = r .second }
+
+-- a content's part, an empty one at 0 on refusal
+unfoldable pub exportedPart : Content → Part
+exportedPart (Found from size) = record { start = from; length = size }
+exportedPart NotSound = record { start = 0; length = 0 }
+exportedPart NoContent = record { start = 0; length = 0 }
+
+-- an exponent is stored in two's complement
+unfoldable pub isNegative : ℕ → Bool
+isNegative e = leb 2147483648 e
+
+unfoldable pub magnitude : ℕ → ℕ
+magnitude e = cond (isNegative e) (4294967296 - e) e
+
+unfoldable pub exportedFields : ℕ → Fields → ℕ → ℕ → ℕ → Record
+exportedFields k f from size next =
+    record {
+      number = 0;
+      kind = k;
+      offset = f .token .offset;
+      length = f .token .length;
+      line = f .token .line;
+      column = f .token .column;
+      start = from;
+      content = size;
+      tags = cond (eqb k 5) (f .number) 0;
+      sign = f .parts .sign;
+      integer = f .parts .integer;
+      fraction = f .parts .fraction;
+      digits = f .parts .places;
+      lowers = cond (isNegative (f .parts .exponent)) 1 0;
+      exponent = magnitude (f .parts .exponent);
+      uncertainty = f .parts .uncertainty;
+      next = next;
+    }
+
+-- 14 where no record stands, and all else 0
+unfoldable pub noRecord : Record
+noRecord =
+    record {
+      number = 14;
+      kind = 0;
+      offset = 0;
+      length = 0;
+      line = 0;
+      column = 0;
+      start = 0;
+      content = 0;
+      tags = 0;
+      sign = 0;
+      integer = 0;
+      fraction = 0;
+      digits = 0;
+      lowers = 0;
+      exponent = 0;
+      uncertainty = 0;
+      next = 0;
+    }
+
+unfoldable pub exportedRecord : Walked → Record
+exportedRecord NoRecord = noRecord
+exportedRecord (Met k f from size next) = exportedFields k f from size next

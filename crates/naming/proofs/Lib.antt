@@ -1,0 +1,5 @@
+pub mod Same
+pub mod Repeats
+pub mod Steps
+pub mod Slots
+pub mod Passes

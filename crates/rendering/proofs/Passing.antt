@@ -1,0 +1,194 @@
+-- Laws of the two walks over a sound store: one adds the lengths of the lines, one writes them. Assumes nothing.
+use Prim.Native.Nat.{ℕ, _+_, _-_, _≤_, _<_}
+use mathlib.Core.Path.{_≡_, sym, ap, _∙_}
+use mathlib.Core.Bool.{Bool, true, false, cond, true≢false}
+use mathlib.Core.List.{List, [], _∷_, _++_}
+use native.Mathlib.Omega.{arith}
+use borrow.Author.Tests.{lt-ltb, le-ltb}
+use lib.ListN.{length, take, drop, length-append, length-take, length-drop}
+use lib.Seq.{take-all, take-add, drop-drop, take-append-seam, drop-append-seam}
+use Rattle.text.proofs.Bools.{and-l, and-r}
+use Rattle.records.specs.declared.Entry.{Entry}
+use Rattle.records.specs.declared.Entry.the-variants.{Record, Nothing}
+use Rattle.records.specs.declared.Kind.{Kind}
+use Rattle.records.specs.declared.Fields.{Fields}
+use Rattle.records.specs.Entries.{entryAt}
+use Rattle.records.specs.Kinds.{shapeOf, isContent}
+use Rattle.records.specs.Put.{front, put}
+use Rattle.records.proofs.Putting.{length-front, front-none, front-next}
+use Rattle.stores.specs.Walk.{entries}
+use Rattle.stores.specs.Nesting.{nested}
+use Rattle.stores.specs.Contents.{contentKept, ownRule, takes, partsKept, filledFrom, filled}
+use Rattle.stores.specs.Soundness.{sound}
+use Rattle.stores.proofs.Walking.{rest, rest-all, rest-over, rest-none, next-at}
+use Rattle.stores.proofs.Filling.{content-kept}
+use Rattle.rendering.specs.Rendering.{lineOf, linesOf, rendering, limit}
+use Rattle.rendering.specs.Writing.{Wrote, own, Owned, none, more, keepsDigits, lineLength, capped}
+use Rattle.rendering.proofs.Lines.{own-digits, line-size}
+
+-- Every record of a sound store keeps its own rule
+
+own-here : (ar : List ℕ) (a : ℕ) (k : Kind) (f : Fields) → ownRule ar a k f ≡ true → own ar k f ≡ true
+unfolding own ownRule
+own-here ar a k f h = by (isContent (shapeOf k)) h
+  where
+    by : (t : Bool) → cond t (contentKept ar a k f) (partsKept (f .parts)) ≡ true → cond t (contentKept ar (f .number) k f) (partsKept (f .parts)) ≡ true
+    by true e = ap (λ (z : ℕ). contentKept ar z k f) (content-kept ar a k f e .here) ∙ e
+    by false e = e
+
+owned-filled : (ar : List ℕ) (es : List Entry) (a : ℕ) → filledFrom es ar a ≡ true → Owned ar es
+unfolding filledFrom
+owned-filled ar [] a h = none
+owned-filled ar (Nothing ∷ es) a h = absurd (true≢false (sym h))
+owned-filled ar (Record k f next ∷ es) a h =
+    more (own-here ar a k f (and-l (ownRule ar a k f) _ h)) (owned-filled ar es (a + takes k f) (and-r (ownRule ar a k f) _ h))
+
+pub owned-sound : (st ar : List ℕ) → sound st ar ≡ true → Owned ar (entries st)
+unfolding sound filled
+owned-sound st ar h = owned-filled ar (entries st) 0 (and-r (nested (entries st)) _ h)
+
+-- The lines from an offset of the store on
+
+owned-first : (ar : List ℕ) (k : Kind) (f : Fields) (n : ℕ) (es : List Entry) → Owned ar (Record k f n ∷ es) → (own ar k f ≡ true) × Owned ar es
+owned-first ar k f n es (more h o) = (h, o)
+
+pub lines : List ℕ → List ℕ → ℕ → List ℕ
+lines st ar from = linesOf ar (rest st from)
+
+module _ (st ar : List ℕ) (from : ℕ) where
+  lines-over : length st ≤ from → lines st ar from ≡ []
+  unfolding lines linesOf
+  lines-over h = rw (rest-over st from h)
+
+  lines-none : from < length st → entryAt st from ≡ Nothing → lines st ar from ≡ []
+  unfolding lines linesOf lineOf
+  lines-none h e = rw (rest-none st from h e)
+
+  module _ (k : Kind) (f : Fields) (next : ℕ) (h : from < length st) (e : entryAt st from ≡ Record k f next) where
+    lines-next : lines st ar from ≡ lineOf ar (Record k f 0) ++ lines st ar next
+    unfolding lines linesOf lineOf
+    lines-next = rw (next-at st from k f next h e .here)
+
+    owned-next : Owned ar (rest st from) → (own ar k f ≡ true) × Owned ar (rest st next)
+    owned-next o = owned-first ar k f (next - from) (rest st next) (rw (next-at st from k f next h e .here) at o)
+
+-- The first walk: the lines so far have the total as their length, which keeps the limit
+
+pub record Summing (st ar : List ℕ) (from total : ℕ) : Type 0 where
+  pub owned : Owned ar (rest st from)
+  pub few : total ≤ 16777216
+  pub sum : length (rendering st ar) ≡ total + length (lines st ar from)
+
+pub summing-first : (st ar : List ℕ) → Owned ar (entries st) → Summing st ar 0 0
+unfolding rendering lines
+summing-first st ar o =
+    record { owned = rw (← rest-all st) o; few = omega arith; sum = omega (arith, ap (λ (es : List Entry). length (linesOf ar es)) (rest-all st)) }
+
+capped-few : (n : ℕ) → n ≤ 16777216 → n ≡ capped n
+unfolding capped limit
+capped-few n h = rw (le-ltb 16777216 n h)
+
+capped-over : (n : ℕ) → 16777216 < n → 16777216 + 1 ≡ capped n
+unfolding capped limit
+capped-over n h = rw (lt-ltb 16777216 n h)
+
+summed : (st ar : List ℕ) (from total : ℕ) → lines st ar from ≡ [] → Summing st ar from total → total ≡ capped (length (rendering st ar))
+summed st ar from total e w =
+    let sum : length (rendering st ar) ≡ total = w .sum ∙ rw e (omega arith) in
+    rw sum (capped-few total (w .few))
+
+pub summing-end : (st ar : List ℕ) (from total : ℕ) → length st ≤ from → Summing st ar from total → total ≡ capped (length (rendering st ar))
+summing-end st ar from total h w = summed st ar from total (lines-over st ar from h) w
+
+pub summing-none : (st ar : List ℕ) (from total : ℕ) → from < length st → entryAt st from ≡ Nothing → Summing st ar from total → total ≡ capped (length (rendering st ar))
+summing-none st ar from total h e w = summed st ar from total (lines-none st ar from h e) w
+
+module _ (st ar : List ℕ) (from total : ℕ) (k : Kind) (f : Fields) (next : ℕ) (h : from < length st) (e : entryAt st from ≡ Record k f next) (w : Summing st ar from total) where
+  pub summing-digits : keepsDigits k f ≡ true
+  summing-digits = own-digits ar k f (owned-next st ar from k f next h e (w .owned) .0)
+
+  -- the next line is one more of them
+  more-lines : length (rendering st ar) ≡ total + (lineLength k f + length (lines st ar next))
+  more-lines =
+      let size = line-size ar k f (owned-next st ar from k f next h e (w .owned) .0) in
+      let line : length (lines st ar from) ≡ lineLength k f + length (lines st ar next) =
+      ap length (lines-next st ar from k f next h e) ∙ (length-append (lineOf ar (Record k f 0)) (lines st ar next) ∙ rw size) in
+      omega (arith, w .sum, line)
+
+  pub summing-over : 16777216 - total < lineLength k f → 16777216 + 1 ≡ capped (length (rendering st ar))
+  summing-over o = capped-over (length (rendering st ar)) (omega (arith, more-lines, w .few))
+
+  pub summing-more : lineLength k f ≤ 16777216 - total → Summing st ar next (total + lineLength k f)
+  summing-more o =
+      record { owned = owned-next st ar from k f next h e (w .owned) .1; few = omega (arith, w .few); sum = omega (arith, more-lines) }
+
+-- The second walk: the lines so far are written over l, which gives m, and the others are left
+
+pub record Writing (st ar l m : List ℕ) (from at : ℕ) : Type 0 where
+  pub owned : Owned ar (rest st from)
+  pub room : length (rendering st ar) ≤ length l
+  pub within : at ≤ length (rendering st ar)
+  pub done : m ≡ front (take at (rendering st ar)) l
+  pub left : drop at (rendering st ar) ≡ lines st ar from
+
+pub writing-first : (st ar l : List ℕ) → Owned ar (entries st) → length (rendering st ar) ≤ length l → Writing st ar l l 0 0
+unfolding rendering lines
+writing-first st ar l o h =
+    record {
+      owned = rw (← rest-all st) o;
+      room = h;
+      within = omega arith;
+      done = sym (front-none l);
+      left = ap (linesOf ar) (rest-all st);
+    }
+
+module _ (st ar l m : List ℕ) (from at : ℕ) (w : Writing st ar l m from at) where
+  so-far : length (take at (rendering st ar)) ≡ at
+  so-far = omega (arith, w .within, length-take at (rendering st ar))
+
+  pub writing-length : length m ≡ length l
+  writing-length = ap length (w .done) ∙ length-front (take at (rendering st ar)) l (omega (arith, so-far, w .within, w .room))
+
+  written : lines st ar from ≡ [] → m ≡ front (rendering st ar) l
+  written e =
+      let none : length (drop at (rendering st ar)) ≡ 0 = ap length (w .left ∙ e) in
+      w .done ∙ rw (take-all at (rendering st ar) (omega (arith, length-drop at (rendering st ar))))
+
+  pub writing-end : length st ≤ from → m ≡ front (rendering st ar) l
+  writing-end h = written (lines-over st ar from h)
+
+  pub writing-none : from < length st → entryAt st from ≡ Nothing → m ≡ front (rendering st ar) l
+  writing-none h e = written (lines-none st ar from h e)
+
+  module _ (k : Kind) (f : Fields) (next : ℕ) (h : from < length st) (e : entryAt st from ≡ Record k f next) where
+    pub writing-own : own ar k f ≡ true
+    writing-own = owned-next st ar from k f next h e (w .owned) .0
+
+    line-first : drop at (rendering st ar) ≡ lineOf ar (Record k f 0) ++ lines st ar next
+    line-first = w .left ∙ lines-next st ar from k f next h e
+
+    pub writing-room : at + length (lineOf ar (Record k f 0)) ≤ length m
+    writing-room =
+        omega (
+          arith,
+          w .within,
+          w .room,
+          writing-length,
+          length-drop at (rendering st ar),
+          ap length line-first,
+          length-append (lineOf ar (Record k f 0)) (lines st ar next),
+        )
+
+    pub writing-more : (n : List ℕ) (r : ℕ) → Wrote at (lineOf ar (Record k f 0)) m n r → Writing st ar l n next r
+    writing-more n r p =
+        let line = lineOf ar (Record k f 0) in
+        let all = rendering st ar in
+        let taken : take r all ≡ take at all ++ line =
+        ap (λ (i : ℕ). take i all) (p .next) ∙ (take-add at (length line) all ∙ rw (line-first, take-append-seam)) in
+        record {
+          owned = owned-next st ar from k f next h e (w .owned) .1;
+          room = w .room;
+          within = omega (arith, p .next, w .within, length-drop at all, ap length line-first, length-append line (lines st ar next));
+          done = p .bytes ∙ (ap (put at line) (w .done) ∙ (front-next at (take at all) line l so-far ∙ rw taken));
+          left = ap (λ (i : ℕ). drop i all) (p .next) ∙ (sym (drop-drop (length line) at all) ∙ rw (line-first, drop-append-seam));
+        }

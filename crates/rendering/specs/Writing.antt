@@ -1,0 +1,143 @@
+-- How a rendering is written: the pieces of a line, what a step of writing leaves, and what a sound store says of each of its records. Assumes nothing.
+use Prim.Native.Nat.{ℕ, _+_, _-_, _≤_, _<_, _^_}
+use mathlib.Core.Path.{_≡_}
+use mathlib.Core.Bool.{Bool, true, false, cond}
+use mathlib.Core.List.{List, [], _∷_}
+use lib.Dec.{ltb, leb}
+use lib.ListN.{length}
+use Rattle.words.specs.Keywords.{keyData, keyLoop, keySave}
+use Rattle.numbers.specs.declared.Decimal.{Decimal}
+use Rattle.numbers.specs.Spelling.{renderNumber}
+use Rattle.records.specs.declared.Entry.{Entry}
+use Rattle.records.specs.declared.Entry.the-variants.{Record}
+use Rattle.records.specs.declared.Kind.{Kind}
+use Rattle.records.specs.declared.Kind.the-variants.{NoKind, Block, FrameOpen, FrameClose, Tag, Loop, LoopTag, LoopEnd, Inapplicable, Unknown, Bare, SingleQuoted, DoubleQuoted, Multiline, Number, Uncertain}
+use Rattle.records.specs.declared.Shape.{Shape}
+use Rattle.records.specs.declared.Shape.the-variants.{Empty, Place, Content, Count, Parts as PartsShape, PartsUncertain}
+use Rattle.records.specs.declared.Parts.{Parts}
+use Rattle.records.specs.declared.Fields.{Fields}
+use Rattle.records.specs.Kinds.{shapeOf, isContent}
+use Rattle.records.specs.Put.{put}
+use Rattle.stores.specs.Contents.{contentBytes, ownRule, partsKept}
+use Rattle.rendering.specs.Rendering.{decimalOf, limit}
+
+-- the bytes vs are written over l from at on, which gives m, and r is behind them
+pub record Wrote (at : ℕ) (vs l m : List ℕ) (r : ℕ) : Type 0 where
+  pub bytes : m ≡ put at vs l
+  pub next : r ≡ at + length vs
+
+-- the digits that a decimal has, so few that they can be written
+pub record Short (d : Decimal) : Type 0 where
+  pub integer : d .integer < 10 ^ 9
+  pub places : d .places ≤ 18
+  pub exponent : d .exponent < 10 ^ 9
+  pub uncertainty : d .uncertainty < 10 ^ 9
+
+-- the size of an exponent that is kept in two's complement
+unfoldable pub sizeOf : ℕ → ℕ
+sizeOf e = cond (leb 2147483648 e) (4294967296 - e) e
+
+-- the one byte that opens a token; 0 where none does
+unfoldable pub markOf : Kind → ℕ
+markOf NoKind = 0
+markOf Block = 0
+markOf FrameOpen = 0
+markOf FrameClose = 0
+markOf Tag = 95
+markOf Loop = 0
+markOf LoopTag = 95
+markOf LoopEnd = 0
+markOf Inapplicable = 46
+markOf Unknown = 63
+markOf Bare = 0
+markOf SingleQuoted = 39
+markOf DoubleQuoted = 34
+markOf Multiline = 59
+markOf Number = 0
+markOf Uncertain = 0
+
+-- what opens a token
+unfoldable pub openingText : Kind → List ℕ
+openingText NoKind = []
+openingText Block = keyData
+openingText FrameOpen = keySave
+openingText FrameClose = keySave
+openingText Tag = 95 ∷ []
+openingText Loop = keyLoop
+openingText LoopTag = 95 ∷ []
+openingText LoopEnd = []
+openingText Inapplicable = 46 ∷ []
+openingText Unknown = 63 ∷ []
+openingText Bare = []
+openingText SingleQuoted = 39 ∷ []
+openingText DoubleQuoted = 34 ∷ []
+openingText Multiline = 59 ∷ []
+openingText Number = []
+openingText Uncertain = []
+
+-- what stands in it: its content or its number
+unfoldable pub bodyBy : Shape → List ℕ → Parts → List ℕ
+bodyBy Empty c p = []
+bodyBy Place c p = []
+bodyBy Content c p = c
+bodyBy Count c p = []
+bodyBy PartsShape c p = renderNumber (decimalOf false p)
+bodyBy PartsUncertain c p = renderNumber (decimalOf true p)
+
+unfoldable pub bodyText : List ℕ → Kind → Fields → List ℕ
+bodyText ar k f = bodyBy (shapeOf k) (contentBytes ar k f) (f .parts)
+
+-- what closes it, and the line's end
+unfoldable pub closingText : Kind → List ℕ
+closingText NoKind = 10 ∷ []
+closingText Block = 10 ∷ []
+closingText FrameOpen = 10 ∷ []
+closingText FrameClose = 10 ∷ []
+closingText Tag = 10 ∷ []
+closingText Loop = 10 ∷ []
+closingText LoopTag = 10 ∷ []
+closingText LoopEnd = 10 ∷ []
+closingText Inapplicable = 10 ∷ []
+closingText Unknown = 10 ∷ []
+closingText Bare = 10 ∷ []
+closingText SingleQuoted = 39 ∷ 10 ∷ []
+closingText DoubleQuoted = 34 ∷ 10 ∷ []
+closingText Multiline = 59 ∷ 10 ∷ []
+closingText Number = 10 ∷ []
+closingText Uncertain = 10 ∷ []
+
+-- a record keeps its own rule, its content starting where it says
+unfoldable pub own : List ℕ → Kind → Fields → Bool
+own ar k f = ownRule ar (f .number) k f
+
+-- every entry is a record that does
+pub data Owned (ar : List ℕ) : List Entry → Type 0 where
+  none : Owned ar []
+  more : {k : Kind} {f : Fields} {next : ℕ} {es : List Entry} → own ar k f ≡ true → Owned ar es → Owned ar (Record k f next ∷ es)
+
+-- a number has no more digits than can be written
+unfoldable pub keepsDigits : Kind → Fields → Bool
+keepsDigits k f = cond (isContent (shapeOf k)) true (partsKept (f .parts))
+
+-- the length of a record's line: P's length is that of a token with content
+unfoldable pub lineLength : Kind → Fields → ℕ
+lineLength NoKind f = 0
+lineLength Block f = 1 + f .token .length
+lineLength FrameOpen f = 1 + f .token .length
+lineLength FrameClose f = 6
+lineLength Tag f = 1 + f .token .length
+lineLength Loop f = 6
+lineLength LoopTag f = 1 + f .token .length
+lineLength LoopEnd f = 0
+lineLength Inapplicable f = 2
+lineLength Unknown f = 2
+lineLength Bare f = 1 + f .token .length
+lineLength SingleQuoted f = 1 + f .token .length
+lineLength DoubleQuoted f = 1 + f .token .length
+lineLength Multiline f = 1 + f .token .length
+lineLength Number f = 1 + length (renderNumber (decimalOf false (f .parts)))
+lineLength Uncertain f = 1 + length (renderNumber (decimalOf true (f .parts)))
+
+-- a length, or one over the limit for all that are over it
+unfoldable pub capped : ℕ → ℕ
+capped n = cond (ltb limit n) (limit + 1) n
