@@ -1,11 +1,13 @@
 -- Judging a text, before any room is looked at: a refusal, 1 to 9, or the room that its records need. Assumes nothing.
 use Prim.Native.Nat.{ℕ}
 use mathlib.Core.Bool.{Bool, true, false, cond}
+use mathlib.Core.Path.{_≡_}
 use mathlib.Core.List.{List}
 use Rattle.text.specs.declared.Report.{Report}
 use Rattle.text.specs.Reports.{success}
 use Rattle.items.specs.Machine.{Rec, Answer, refused, done}
 use Rattle.items.specs.Decisions.{Told}
+use Rattle.items.specs.Reading.{outline}
 use Rattle.items.specs.Sizes.{sizesOf}
 use Rattle.items.specs.declared.Sizes.{Sizes}
 use Rattle.reading.specs.Services.{refusal, refusalReport}
@@ -33,3 +35,9 @@ unfoldable pub declined : List ℕ → Told → Judgement
 declined s t =
     cond (t .isRead) (record { isRead = true; report = success 0 0; sizes = record { store = t .store; outline = t .outline; area = t .area } })
     (record { isRead = false; report = refusal s (t .number) (t .offset) (t .detail); sizes = noSizes })
+
+-- s is read, and its records take this room
+pub record IsRead (s : List ℕ) (z : Sizes) : Type 0 where
+  pub records : List Rec
+  pub answer : outline s ≡ done records
+  pub sizes : z ≡ sizesOf records

@@ -1,17 +1,11 @@
 // The services Read and Outline: a text in, records and copied contents out.
 ghost use mathlib.Core.Path.{_≡_};
-ghost use mathlib.Core.Bool.{Bool, true};
-ghost use mathlib.Core.List.{List};
-ghost use Prim.Native.Nat.{ℕ, _≤_};
 ghost use lib.ListN.{length};
-ghost use Rattle.text.specs.Reports.{success, refusedAt, refusedBare, noRoom};
-ghost use Rattle.records.specs.Put.{front};
-ghost use Rattle.items.specs.Machine.{Rec, done};
-ghost use Rattle.items.specs.Reading.{outline as outlineOf, decided, limit};
+ghost use Rattle.text.specs.Reports.{refusedAt, noRoom};
+ghost use Rattle.items.specs.Reading.{outline as outlineOf};
 ghost use Rattle.items.specs.Decisions.{told};
-ghost use Rattle.writing.specs.Writing.{storeOf, areaIn};
 ghost use Rattle.reading.specs.Services.{readAnswer, readStore, readArea, outlineAnswer, outlineStore, refusalReport, readingReport, outlinedReport};
-ghost use Rattle.reading.specs.Judging.{judgement, judgedAs, declined};
+ghost use Rattle.reading.specs.Judging.{judgement, judgedAs, declined, IsRead};
 use items::Decision;
 use items::Sizes;
 use text::Place;
@@ -187,4 +181,72 @@ fn judge(s: &[u8]) -> Judged
         };
     }
     placed(s, items::lex_cif(s))
+}
+
+// Read of a text that is read: room, then the records.
+fn read_fitting(s: &[u8], store: &mut [u8], area: &mut [u8], sizes: Sizes) -> Reading
+    requires { ⌜ IsRead (now s) sizes ⌝ }
+    ensures { λ r. ⌜ readingReport r ≡ readAnswer (now (s .entry)) (length (now (store .entry))) (length (now (area .entry))) ⌝ }
+    ensures { λ r. ⌜ now (store .exit) ≡ readStore (now (s .entry)) (now (store .entry)) (length (now (area .entry))) ⌝ }
+    ensures { λ r. ⌜ now (area .exit) ≡ readArea (now (s .entry)) (length (now (store .entry))) (now (area .entry)) ⌝ }
+{
+    let room = sizes.store;
+    let contents = sizes.area;
+    if store.len() < room {
+        return Reading::StoreFull {
+            store: room,
+            area: contents,
+        };
+    }
+    if area.len() < contents {
+        return Reading::AreaFull {
+            store: room,
+            area: contents,
+        };
+    }
+    writing::write_block(s, true, store, area);
+    Reading::Done {
+        store: room,
+        area: contents,
+    }
+}
+
+// READ: 1, 2, the first of 3 to 9, then 10, then 11; a refusal writes nothing.
+pub fn read(text: &[u8], store: &mut [u8], area: &mut [u8]) -> Reading
+    ensures answers { λ r. ⌜ readingReport r ≡ readAnswer (now (text .entry)) (length (now (store .entry))) (length (now (area .entry))) ⌝ }
+    ensures stored { λ r. ⌜ now (store .exit) ≡ readStore (now (text .entry)) (now (store .entry)) (length (now (area .entry))) ⌝ }
+    ensures copied { λ r. ⌜ now (area .exit) ≡ readArea (now (text .entry)) (length (now (store .entry))) (now (area .entry)) ⌝ }
+{
+    let judged = judge(text);
+    match judged {
+        Judged::Declines { refusal } => Reading::Refused { refusal },
+        Judged::Fits { sizes } => read_fitting(text, store, area, sizes),
+    }
+}
+
+// Outline of a text that is read. The outline has no area.
+fn outline_fitting(s: &[u8], store: &mut [u8], sizes: Sizes) -> Outlined
+    requires { ⌜ IsRead (now s) sizes ⌝ }
+    ensures { λ r. ⌜ outlinedReport r ≡ outlineAnswer (now (s .entry)) (length (now (store .entry))) ⌝ }
+    ensures { λ r. ⌜ now (store .exit) ≡ outlineStore (now (s .entry)) (now (store .entry)) ⌝ }
+{
+    let room = sizes.outline;
+    if store.len() < room {
+        return Outlined::NoRoom { store: room };
+    }
+    let mut area = [0u8; 1];
+    writing::write_block(s, false, store, &mut area);
+    Outlined::Written { store: room }
+}
+
+// OUTLINE: the same without 11; kinds and places only.
+pub fn outline(text: &[u8], store: &mut [u8]) -> Outlined
+    ensures answers { λ r. ⌜ outlinedReport r ≡ outlineAnswer (now (text .entry)) (length (now (store .entry))) ⌝ }
+    ensures writes { λ r. ⌜ now (store .exit) ≡ outlineStore (now (text .entry)) (now (store .entry)) ⌝ }
+{
+    let judged = judge(text);
+    match judged {
+        Judged::Declines { refusal } => Outlined::Declined { refusal },
+        Judged::Fits { sizes } => outline_fitting(text, store, sizes),
+    }
 }

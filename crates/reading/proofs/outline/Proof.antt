@@ -1,0 +1,41 @@
+use Rattle.reading.proofs.Served.{fits-read, declines-refuses, outline-refused}
+use borrow.Author.Needs.{needs}
+use Rattle.reading.proofs.outline.Statement.{statement}
+use Rattle.reading.proofs.outline.Tie as tie
+use Rattle.reading.proofs.outline.Reads as reads
+use Rattle.reading.proofs.outline.Lts as lts
+use Rattle.reading.proofs.judge.Reads as judge-reads
+use Rattle.reading.proofs.outline_fitting.Reads as outline-fitting-reads
+
+judge-requires : tie.Need-judge-requires
+judge-requires c κs = search needs
+
+enum-known-judged : tie.Need-enum-known-judged
+enum-known-judged c = search needs
+
+enum-known-judged-2 : tie.Need-enum-known-judged-2
+enum-known-judged-2 c = search needs
+
+outline-fitting-requires : tie.Need-outline-fitting-requires
+outline-fitting-requires c κs = fits-read _ _ _ (c .before .before .before .before .judge .ensures) (c .before .before .judged2 .given .1)
+
+returns : tie.Need-returns
+returns c = outline-refused _ _ _ (declines-refuses _ _ _ (c .before .before .before .judge .ensures) (c .before .judged .given .1))
+
+same-length : tie.Need-same-length
+same-length c = search needs
+
+returns-2 : tie.Need-returns-2
+returns-2 c = search needs
+
+pub outline-spec : {M : Type 1} → statement M
+outline-spec =
+    tie.close
+    (tie.spec
+    judge-requires
+    enum-known-judged
+    enum-known-judged-2
+    outline-fitting-requires
+    returns
+    same-length
+    returns-2)

@@ -1,0 +1,42 @@
+use mathlib.Core.Bool.{true}
+use native.Mathlib.Omega.{arith}
+use Rattle.writing.specs.Walk.{storeLength}
+use Rattle.reading.proofs.Served.{write-asks, writes, no-store, no-area, all-read, need-store, need-area}
+use borrow.Author.Needs.{needs}
+use Rattle.reading.proofs.read_fitting.Statement.{statement}
+use Rattle.reading.proofs.read_fitting.Tie as tie
+use Rattle.reading.proofs.read_fitting.Reads as reads
+use Rattle.reading.proofs.read_fitting.Lts as lts
+use Rattle.writing.proofs.write_block.Reads as write-block-reads
+
+returns : tie.Need-returns
+returns c =
+    let i = c .before .before .before .before .pre in
+    no-store _ _ _ (i .records) (i .answer) _ _ (need-store _ _ i) (need-area _ _ i) (c .if1 .taken)
+
+returns-2 : tie.Need-returns-2
+returns-2 c =
+    let i = c .before .before .before .before .before .pre in
+    no-area _ _ _ (i .records) (i .answer) _ _ (need-store _ _ i) (need-area _ _ i) (c .before .if1 .left) (c .if2 .taken)
+
+write-block-requires : tie.Need-write-block-requires
+write-block-requires c κs =
+    let i = c .before .before .before .before .before .before .before .pre in
+    write-asks true _ (i .records) _ _ (i .answer) (unfold storeLength in omega (arith, need-store _ _ i, c .before .before .before .if1 .left))
+    (λ h. omega (arith, need-area _ _ i, c .before .before .if2 .left))
+
+same-length : tie.Need-same-length
+same-length c = search needs
+
+same-length-2 : tie.Need-same-length-2
+same-length-2 c = search needs
+
+returns-3 : tie.Need-returns-3
+returns-3 c =
+    let i = c .before .before .before .before .before .before .before .before .before .before .before .before .pre in
+    let w = rw (writes _ _ (i .answer)) at (c .before .before .before .before .write-block .ensures) in
+    all-read _ _ _ (i .records) (i .answer) _ _ (need-store _ _ i) (need-area _ _ i) _ _ (c .before .before .before .before .before .before .before .before .if1 .left) (c .before .before .before .before .before .before .before .if2 .left) (w .0) (w .1)
+
+pub read-fitting-spec : {M : Type 1} → statement M
+read-fitting-spec =
+    tie.close (tie.spec returns returns-2 write-block-requires same-length same-length-2 returns-3)
