@@ -4,6 +4,7 @@ ghost use mathlib.Core.Bool.{cond};
 ghost use lib.Dec.{eqb};
 ghost use Prim.Native.Nat.{ℕ, _≤_};
 ghost use lib.ListN.{length};
+ghost use Rattle.reading.specs.Services.{readAnswer, readStore, readArea, outlineAnswer, outlineStore};
 ghost use Rattle.stores.specs.Content.{contentAt, contentReport};
 ghost use Rattle.stores.specs.Records.{walkedAt};
 ghost use Rattle.naming.specs.Names.{nameCheck, namingReport};
@@ -181,6 +182,23 @@ fn record_of(w: Walked) -> Record
         } => met(number, fields, from, size, next),
         Walked::NoRecord => none(),
     }
+}
+
+#[no_mangle]
+pub extern "C" fn chuntarek_read(text: &[u8], store: &mut [u8], area: &mut [u8]) -> Answer
+    ensures answers { λ r. ⌜ r ≡ exported (readAnswer (now (text .entry)) (length (now (store .entry))) (length (now (area .entry)))) ⌝ }
+    ensures stored { λ r. ⌜ now (store .exit) ≡ readStore (now (text .entry)) (now (store .entry)) (length (now (area .entry))) ⌝ }
+    ensures copied { λ r. ⌜ now (area .exit) ≡ readArea (now (text .entry)) (length (now (store .entry))) (now (area .entry)) ⌝ }
+{
+    numbers_of(reading::read(text, store, area).report())
+}
+
+#[no_mangle]
+pub extern "C" fn chuntarek_outline(text: &[u8], store: &mut [u8]) -> Answer
+    ensures answers { λ r. ⌜ r ≡ exported (outlineAnswer (now (text .entry)) (length (now (store .entry)))) ⌝ }
+    ensures writes { λ r. ⌜ now (store .exit) ≡ outlineStore (now (text .entry)) (now (store .entry)) ⌝ }
+{
+    numbers_of(reading::outline(text, store).report())
 }
 
 #[no_mangle]

@@ -129,12 +129,12 @@ one-moved full s f g d e h r q a l t c w z =
     let same : recsLeft g s (h .place .offset) ≡ ls = ap (recsLeft g s) y in
     record {
       ahead =
-        record {
-          going = trim-going s (e .cursor) h z (w .going);
-          bare = rw y (gap-none s q);
-          reads = ap (λ (p : ℕ). isDone (left g s p [])) y ∙ t .reads;
-          room = rw same (room-onward full s (recsLeft f s o) ls d (desk h (e .store) (e .area)) (a .room) all);
-        };
+          record {
+            going = trim-going s (e .cursor) h z (w .going);
+            bare = rw y (gap-none s q);
+            reads = ap (λ (p : ℕ). isDone (left g s p [])) y ∙ t .reads;
+            room = rw same (room-onward full s (recsLeft f s o) ls d (desk h (e .store) (e .area)) (a .room) all);
+          };
       onward = rw same all;
       further = omega (arith, gap-from s q);
     }
@@ -154,12 +154,12 @@ item-moved full s f d e a r t w =
     let same : recsLeft f s (e .cursor .place .offset) ≡ ls = ap (recsLeft f s) y in
     record {
       ahead =
-        record {
-          going = w .going;
-          bare = rw y (i .bare);
-          reads = ap (λ (q : ℕ). isDone (left f s q [])) y ∙ t .reads;
-          room = rw same (room-onward full s (recsLeft f s o) ls d e (a .room) all);
-        };
+          record {
+            going = w .going;
+            bare = rw y (i .bare);
+            reads = ap (λ (q : ℕ). isDone (left f s q [])) y ∙ t .reads;
+            room = rw same (room-onward full s (recsLeft f s o) ls d e (a .room) all);
+          };
       onward = rw same all;
       further = omega (arith, i .onward);
     }
@@ -211,9 +211,10 @@ module _ (full : Bool) (s : List ℕ) (b : ℕ) (d : Desk) (a : Ahead full s (so
   pub frame-closing : (p : ℕ) → nextOf (itemAt s here) ≡ Stop p → Closing s here p × Room full (recAt 3 p 5 ∷ []) d
   frame-closing p n =
       let h = next-stop s b here p (a .going .place .within) (a .bare) (a .reads) n in
-      let c = close-steps s b here p h (a .reads) in
-      (record { onward = h .onward; within = h .within; bare = h .bare; key = c .0 },
-      room-first full (recAt 3 p 5) (recsLeft none s (gapEnd s (p + 5))) d (rw (c .1 .recs) at (a .room)))
+      let c = close-steps s b here p h (a .reads) in (
+        record { onward = h .onward; within = h .within; bare = h .bare; key = c .0 },
+        room-first full (recAt 3 p 5) (recsLeft none s (gapEnd s (p + 5))) d (rw (c .1 .recs) at (a .room)),
+      )
 
   pub frame-closed : (e : Desk) (p : ℕ) → nextOf (itemAt s here) ≡ Stop p → Closed full s p d e → Moved full s (some b) d none e
   unfolding isCount kindOf shapeOf
@@ -283,12 +284,14 @@ whole-bare s o e =
 -- the cursor is moved to where the items stopped
 pub closing-place : (s : List ℕ) (c : Cursor) (stop : ℕ) (p : Place) → Going s c → Closing s (c .place .offset) stop → p ≡ placeAt s stop → Going s (record { place = p; at = c .at; area = c .area }) × (p .offset ≡ stop)
 closing-place s c stop p g k e =
-    let o : p .offset ≡ stop = place-offset s p stop e in
-    (record {
-      place = record { at = place-own s p stop e; whole = rw o (whole-bare s stop (k .bare)); within = rw o (k .within) };
-      short = g .short;
-      behind = omega (arith, g .behind, k .onward);
-    }, o)
+    let o : p .offset ≡ stop = place-offset s p stop e in (
+      record {
+        place = record { at = place-own s p stop e; whole = rw o (whole-bare s stop (k .bare)); within = rw o (k .within) };
+        short = g .short;
+        behind = omega (arith, g .behind, k .onward);
+      },
+      o,
+    )
 
 pub closing-token : (s : List ℕ) (o stop : ℕ) → Closing s o stop → IsToken s 3 stop 5
 unfolding kindOf marksOf
@@ -300,15 +303,15 @@ closed full s stop c h b r l m a o t u w q =
     record {
       behind = desk b m a;
       wrote = rw o at
-        (from (record {
-          going = w .going;
-          place = w .place;
-          at = rw t at (w .at);
-          behind = rw u at (w .behind);
-          filled = w .filled;
-          store = rw (t, u) at (w .store);
-          area = rw u at (w .area);
-        }));
+          (from (record {
+            going = w .going;
+            place = w .place;
+            at = rw t at (w .at);
+            behind = rw u at (w .behind);
+            filled = w .filled;
+            store = rw (t, u) at (w .store);
+            area = rw u at (w .area);
+          }));
       trim = ap (λ (x : Cursor). desk x m a) q;
     }
   where

@@ -218,9 +218,10 @@ module _ (full : Bool) (s : List ℕ) (d : Desk) (h : ItemHere full s d) (l : st
   pub loop-named : (e f : Desk) → Partly full s recs d (namesFrom s (o + 5) ++ ends) e → e .cursor .place .offset ≡ o + 5
       → Wrote full s (namesFrom s (e .cursor .place .offset)) (headAt (behindNames s (e .cursor .place .offset))) e f → Partly full s recs d ends f × (f .cursor .place .offset ≡ p)
   loop-named e f b q w =
-      let x : namesFrom s (e .cursor .place .offset) ≡ namesFrom s (o + 5) = ap (namesFrom s) q in
-      (partly-many full s recs d e f (namesFrom s (o + 5)) ends _ b (values-tags s p) (rw x at w),
-      place-offset s (f .cursor .place) _ (w .place) ∙ ap (λ x. headAt (behindNames s x)) q)
+      let x : namesFrom s (e .cursor .place .offset) ≡ namesFrom s (o + 5) = ap (namesFrom s) q in (
+        partly-many full s recs d e f (namesFrom s (o + 5)) ends _ b (values-tags s p) (rw x at w),
+        place-offset s (f .cursor .place) _ (w .place) ∙ ap (λ x. headAt (behindNames s x)) q,
+      )
 
   pub loop-names-room : (e : Desk) → Partly full s recs d (namesFrom s (o + 5) ++ ends) e → e .cursor .place .offset ≡ o + 5 → Room full (namesFrom s (e .cursor .place .offset)) e
   loop-names-room e b q =
@@ -236,9 +237,10 @@ module _ (full : Bool) (s : List ℕ) (d : Desk) (h : ItemHere full s d) (l : st
   pub loop-valued : (e f : Desk) → Partly full s recs d ends e → e .cursor .place .offset ≡ p
       → Wrote full s (valuesFrom s (e .cursor .place .offset)) (headAt (behindValues s (e .cursor .place .offset))) e f → Partly full s recs d (loopEnd ∷ []) f × (f .cursor .place .offset ≡ headAt (itemRest (itemOf s o)))
   loop-valued e f b q w =
-      let x : valuesFrom s (e .cursor .place .offset) ≡ valuesFrom s p = ap (valuesFrom s) q in
-      (partly-many full s recs d e f (valuesFrom s p) (loopEnd ∷ []) _ b (unfold tagsOf loopEnd in refl) (rw x at w),
-      place-offset s (f .cursor .place) _ (w .place) ∙ ap (λ x. headAt (behindValues s x)) q ∙ ap headAt (sym (parts .rest)))
+      let x : valuesFrom s (e .cursor .place .offset) ≡ valuesFrom s p = ap (valuesFrom s) q in (
+        partly-many full s recs d e f (valuesFrom s p) (loopEnd ∷ []) _ b (unfold tagsOf loopEnd in refl) (rw x at w),
+        place-offset s (f .cursor .place) _ (w .place) ∙ ap (λ x. headAt (behindValues s x)) q ∙ ap headAt (sym (parts .rest)),
+      )
 
   -- its end
   pub loop-ended : (e f : Desk) → Partly full s recs d (loopEnd ∷ []) e → e .cursor .place .offset ≡ headAt (itemRest (itemOf s o)) → WroteOne full s 0 loopEnd (e .cursor .place .offset) e f → Onward full s recs d [] f × WroteItem full s d f

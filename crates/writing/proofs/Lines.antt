@@ -130,6 +130,7 @@ field-in s n q =
   where
     f : Ends 59 s n
     f = field-ends s n q
+
     end : (j : ℕ) → j ≡ n → isEol (getD (59 ∷ s) j 0) ≡ false
     end zero i = absurd (omega (arith, f .pos))
     end (suc j) i =

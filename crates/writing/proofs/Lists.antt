@@ -62,10 +62,11 @@ module _ (full : Bool) (s : List ℕ) (d₀ : Desk) where
   value-next d e h w =
       let o = d .cursor .place .offset in
       let t = value-turn s o (gapEnd s o) (w .kind) (w .size) refl (w .found) in
-      let z = place-offset s (e .cursor .place) (gapEnd s o + w .size) (w .wrote .place) in
-      (next full s (valuesFrom s) (behindValues s) d₀ d e (recAt (w .kind) (gapEnd s o) (w .size)) (gapEnd s o + w .size) h (t .recs) (t .rest) (value-free (w .kind) (t .least) (t .most)) (w .wrote),
-      omega (arith, t .token .some, gap-from s o),
-      omega (arith, t .token .within))
+      let z = place-offset s (e .cursor .place) (gapEnd s o + w .size) (w .wrote .place) in (
+        next full s (valuesFrom s) (behindValues s) d₀ d e (recAt (w .kind) (gapEnd s o) (w .size)) (gapEnd s o + w .size) h (t .recs) (t .rest) (value-free (w .kind) (t .least) (t .most)) (w .wrote),
+        omega (arith, t .token .some, gap-from s o),
+        omega (arith, t .token .within),
+      )
 
   -- the end
   pub value-last : (c e : Cursor) (l a m b : List ℕ) → SoFar full s (valuesFrom s) (behindValues s) d₀ (desk c l a) → NoValue s (desk c l a) m b → e ≡ behindGap s c
@@ -94,10 +95,11 @@ module _ (full : Bool) (s : List ℕ) (d₀ : Desk) where
   name-next d e n h g t q w =
       let o = d .cursor .place .offset in
       let u = name-turn s o o n (h .going .place .within) (sym g) t q in
-      let z = place-offset s (e .cursor .place) (o + n) (w .place) in
-      (next full s (namesFrom s) (behindNames s) d₀ d e (recAt 6 o n) (o + n) h (u .recs) (u .rest) refl w,
-      omega (arith, u .token .some),
-      omega (arith, u .token .within))
+      let z = place-offset s (e .cursor .place) (o + n) (w .place) in (
+        next full s (namesFrom s) (behindNames s) d₀ d e (recAt 6 o n) (o + n) h (u .recs) (u .rest) refl w,
+        omega (arith, u .token .some),
+        omega (arith, u .token .within),
+      )
 
   pub name-gap : (c e : Cursor) (l a : List ℕ) → SoFar full s (namesFrom s) (behindNames s) d₀ (desk c l a) → e ≡ behindGap s c → SoFar full s (namesFrom s) (behindNames s) d₀ (desk e l a)
   name-gap c e l a h q =

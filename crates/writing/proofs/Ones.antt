@@ -90,11 +90,11 @@ one-wrote full s k n tags d e g t p a b l m =
     let o = d .cursor .place .offset in
     record {
       going =
-        record {
-          place = behind-place s (d .cursor .place) (e .cursor .place) k n (g .place) t p;
-          short = g .short;
-          behind = omega (arith, place-offset s (e .cursor .place) (o + n) p, content-inside k n, g .behind);
-        };
+          record {
+            place = behind-place s (d .cursor .place) (e .cursor .place) k n (g .place) t p;
+            short = g .short;
+            behind = omega (arith, place-offset s (e .cursor .place) (o + n) p, content-inside k n, g .behind);
+          };
       place = p;
       at = a ∙ ap (λ x. d .cursor .at + x) (kind-length full (recAt k o n));
       behind = b;
@@ -184,6 +184,7 @@ end-wrote full s c e l m a g p q b h =
   where
     z : contentSize 7 0 ≡ 0
     z = unfold kindOf shapeOf isContent in no-content 7 0 refl
+
     none : (f : Bool) → put (c .area) (cond f (contentOf s loopEnd) []) a ≡ a
     none true = rw z (put-none (c .area) a)
     none false = put-none (c .area) a

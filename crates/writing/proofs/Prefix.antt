@@ -82,6 +82,7 @@ module _ (p : List Rec) where
     where
       kept : (p ++ out) ++ held ++ (loopEnd ∷ []) ≡ p ++ (out ++ held ++ (loopEnd ∷ []))
       kept = simp append-assoc
+
       by : (b : Bool) → After p (cond b (atItem f ((p ++ out) ++ held ++ (loopEnd ∷ [])) (t .class) t) (fails (refused 5 at (k % n)) f (p ++ out) t)) (cond b (atItem f (out ++ held ++ (loopEnd ∷ [])) (t .class) t) (fails (refused 5 at (k % n)) f out t))
       by true = rw kept (item-after f (out ++ held ++ (loopEnd ∷ [])) (t .class) t)
       by false = fails-after 5 at (k % n) f out t

@@ -114,15 +114,15 @@ module _ (full : Bool) (s : List ℕ) (recs : ℕ → List Rec) (rest : ℕ → 
       record {
         going = trim-going s c e q (h .going);
         onward =
-          record {
-            at = rw (x, trim-at s c e q) (o .at);
-            behind = rw (x, trim-area s c e q) (o .behind);
-            filled = rw x (o .filled);
-            store-length = o .store-length;
-            area-length = o .area-length;
-            store = rw (x, trim-at s c e q, trim-area s c e q) (o .store);
-            area = rw (x, trim-area s c e q) (o .area);
-          };
+            record {
+              at = rw (x, trim-at s c e q) (o .at);
+              behind = rw (x, trim-area s c e q) (o .behind);
+              filled = rw x (o .filled);
+              store-length = o .store-length;
+              area-length = o .area-length;
+              store = rw (x, trim-at s c e q, trim-area s c e q) (o .store);
+              area = rw (x, trim-area s c e q) (o .area);
+            };
         room = record { store = rw (x, trim-at s c e q) (h .room .store); area = λ f. rw (x, trim-area s c e q) (h .room .area f) };
         same = h .same ∙ sym y;
       }

@@ -65,15 +65,15 @@ module _ (s : List ℕ) (c h : Cursor) (q : h ≡ behindGap s c) where
           size = n;
           found = rw trim-offset at f;
           wrote = rw trim-offset at
-            (from (record {
-              going = w .going;
-              place = w .place;
-              at = rw trim-at at (w .at);
-              behind = rw trim-area at (w .behind);
-              filled = w .filled;
-              store = rw (trim-at, trim-area) at (w .store);
-              area = rw trim-area at (w .area);
-            }));
+              (from (record {
+                going = w .going;
+                place = w .place;
+                at = rw trim-at at (w .at);
+                behind = rw trim-area at (w .behind);
+                filled = w .filled;
+                store = rw (trim-at, trim-area) at (w .store);
+                area = rw trim-area at (w .area);
+              }));
         }
       where
         from : WroteOne full s 0 (recAt k (h .place .offset) n) (h .place .offset + n) (desk c l a) e → WroteOne full s 0 (recAt k (h .place .offset) n) (h .place .offset + n) (desk c l a) e

@@ -23,7 +23,8 @@ ghost use Rattle.writing.specs.Writing.{storeOf, areaIn, tokenAt, decima
 ghost use Rattle.writing.specs.Walk.{storeLength, recordLength, Going, Room, IsToken, recAt, WroteOne, Wrote, behindGap, ValueRoom, ValueDone, ItemHere, WroteItem, nextOf, Closing, Closed, Ahead, Moved, recsLeft, isDone, answerRecs, desk};
 use items::Item;
 use numbers::Decimal;
-use records::{Kind, Token};
+use records::Kind;
+use records::Token;
 use text::Place;
 use values::Value;
 
@@ -152,7 +153,15 @@ fn put_number(full: bool, store: &mut [u8], at: usize, token: Token, decimal: De
 }
 
 // A token that has content.
-fn write_text(s: &[u8], full: bool, store: &mut [u8], area: &mut [u8], c: Cursor, kind: u8, size: usize) -> Cursor
+fn write_text(
+    s: &[u8],
+    full: bool,
+    store: &mut [u8],
+    area: &mut [u8],
+    c: Cursor,
+    kind: u8,
+    size: usize,
+) -> Cursor
     requires { ⌜ Going (now s) c × IsToken (now s) kind (c .place .offset) size × (shapeOf (kindOf kind) ≡ Content) × Room full (recAt kind (c .place .offset) size ∷ []) (desk c (now store) (now area)) ⌝ }
     ensures { λ r. ⌜ WroteOne full (now (s .entry)) 0 (recAt kind (c .place .offset) size) (c .place .offset + size) (desk c (now (store .entry)) (now (area .entry))) (desk r (now (store .exit)) (now (area .exit))) ⌝ }
 {
@@ -189,7 +198,14 @@ fn write_mark(s: &[u8], full: bool, store: &mut [u8], c: Cursor, kind: u8, size:
 }
 
 // A number.
-fn write_number(s: &[u8], full: bool, store: &mut [u8], c: Cursor, decimal: Decimal, size: usize) -> Cursor
+fn write_number(
+    s: &[u8],
+    full: bool,
+    store: &mut [u8],
+    c: Cursor,
+    decimal: Decimal,
+    size: usize,
+) -> Cursor
     requires { ⌜ Going (now s) c × IsToken (now s) (kindOfNumber decimal) (c .place .offset) size × (decimalOf (now s) (recAt (kindOfNumber decimal) (c .place .offset) size) ≡ decimal) × (decimal .places < 256) × (c .at + storeLength full (recAt (kindOfNumber decimal) (c .place .offset) size ∷ []) ≤ length (now store)) ⌝ }
     ensures { λ r. ⌜ ((a : List ℕ) → WroteOne full (now (s .entry)) 0 (recAt (kindOfNumber decimal) (c .place .offset) size) (c .place .offset + size) (desk c (now (store .entry)) a) (desk r (now (store .exit)) a)) ⌝ }
 {
@@ -253,7 +269,15 @@ fn trimmed(s: &[u8], c: Cursor) -> Cursor
 }
 
 // A value that is no number.
-fn write_token(s: &[u8], full: bool, store: &mut [u8], area: &mut [u8], c: Cursor, kind: u8, size: usize) -> Cursor
+fn write_token(
+    s: &[u8],
+    full: bool,
+    store: &mut [u8],
+    area: &mut [u8],
+    c: Cursor,
+    kind: u8,
+    size: usize,
+) -> Cursor
     requires { ⌜ Going (now s) c × IsToken (now s) kind (c .place .offset) size × (8 ≤ kind) × (kind ≤ 13) × Room full (recAt kind (c .place .offset) size ∷ []) (desk c (now store) (now area)) ⌝ }
     ensures { λ r. ⌜ WroteOne full (now (s .entry)) 0 (recAt kind (c .place .offset) size) (c .place .offset + size) (desk c (now (store .entry)) (now (area .entry))) (desk r (now (store .exit)) (now (area .exit))) ⌝ }
 {
@@ -380,10 +404,22 @@ fn next_in_frame(s: &[u8], at: usize) -> Next
 {
     let item = items::parse_data_item(s, at);
     match item {
-        Item::Loop { next: _, sizes: _, why: _ } => Next::Item,
+        Item::Loop {
+            next: _,
+            sizes: _,
+            why: _,
+        } => Next::Item,
         Item::Single { next: _, sizes: _ } => Next::Item,
-        Item::Ragged { at: _, remainder: _, stop } => Next::Stop { at: stop },
-        Item::NoValue { at: _, stop, why: _ } => Next::Stop { at: stop },
+        Item::Ragged {
+            at: _,
+            remainder: _,
+            stop,
+        } => Next::Stop { at: stop },
+        Item::NoValue {
+            at: _,
+            stop,
+            why: _,
+        } => Next::Stop { at: stop },
         Item::NoItem { at: here } => Next::Stop { at: here },
         Item::NoNames { at: here } => Next::Stop { at: here },
         Item::Over { at: here } => Next::Stop { at: here },

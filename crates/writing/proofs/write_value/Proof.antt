@@ -26,9 +26,13 @@ write-token-requires c κs =
     let h = c .before .before .before .before .before .before .before .trimmed in
     let g = c .before .before .before .v .given in
     let f = sym (c .before .before .before .before .before .parse-value .ensures) ∙ g .1 in
-    let t = token-turn (a .s .now) (a .c .place .offset) (h .result .place .offset) _ _ (trim-offset (a .s .now) (a .c) (h .result) (h .ensures)) f in
-    (trim-going (a .s .now) (a .c) (h .result) (h .ensures) (c .before .before .before .before .before .before .before .before .before .before .before .pre .0), t .turn .token, t .turn .least, t .kind,
-    token-room (a .s .now) (a .c) (h .result) (h .ensures) (a .full) (a .store .now) (a .area .now) _ _ (c .before .before .before .before .before .before .before .before .before .before .before .pre .1) f)
+    let t = token-turn (a .s .now) (a .c .place .offset) (h .result .place .offset) _ _ (trim-offset (a .s .now) (a .c) (h .result) (h .ensures)) f in (
+      trim-going (a .s .now) (a .c) (h .result) (h .ensures) (c .before .before .before .before .before .before .before .before .before .before .before .pre .0),
+      t .turn .token,
+      t .turn .least,
+      t .kind,
+      token-room (a .s .now) (a .c) (h .result) (h .ensures) (a .full) (a .store .now) (a .area .now) _ _ (c .before .before .before .before .before .before .before .before .before .before .before .pre .1) f,
+    )
 
 same-length : tie.Need-same-length
 same-length c = search needs
@@ -53,9 +57,13 @@ write-number-requires c κs =
     let h = c .before .before .before .before .before .before .before .trimmed in
     let g = c .before .before .v2 .given in
     let f = sym (c .before .before .before .before .before .parse-value .ensures) ∙ g .1 in
-    let t = number-turn (a .s .now) (a .c .place .offset) (h .result .place .offset) _ _ (trim-offset (a .s .now) (a .c) (h .result) (h .ensures)) f in
-    (trim-going (a .s .now) (a .c) (h .result) (h .ensures) (c .before .before .before .before .before .before .before .before .before .before .before .pre .0), t .turn .token, t .decimal, t .places,
-    number-room (a .s .now) (a .c) (h .result) (h .ensures) (a .full) (a .store .now) (a .area .now) _ _ (c .before .before .before .before .before .before .before .before .before .before .before .pre .1) f .store)
+    let t = number-turn (a .s .now) (a .c .place .offset) (h .result .place .offset) _ _ (trim-offset (a .s .now) (a .c) (h .result) (h .ensures)) f in (
+      trim-going (a .s .now) (a .c) (h .result) (h .ensures) (c .before .before .before .before .before .before .before .before .before .before .before .pre .0),
+      t .turn .token,
+      t .decimal,
+      t .places,
+      number-room (a .s .now) (a .c) (h .result) (h .ensures) (a .full) (a .store .now) (a .area .now) _ _ (c .before .before .before .before .before .before .before .before .before .before .before .pre .1) f .store,
+    )
 
 same-length-3 : tie.Need-same-length-3
 same-length-3 c = search needs
