@@ -1,6 +1,4 @@
 pub mod Places
-pub mod Shape
-pub mod ShapeNumber
 pub mod ShapeTokens
 pub mod Veil
 pub mod VeilRead

@@ -16,8 +16,9 @@ use Rattle.values.specs.Values.{Lexed, numberOr, wordOr, lexValue}
 use Rattle.items.specs.Tokens.{Mode, before, inBlock, inFrame, saveSize, lexIn, lex, step, tokensFrom, tokens}
 use Rattle.items.specs.Reading.{decided, outline}
 use Rattle.promises.proofs.Places.{take-map, placeAt-w}
-use Rattle.promises.proofs.Shape.{σ, flat, blind, is-σ, word-σ, gap-σ, starts-σ, noDigit, quoted-σ, field-σ, ordinary-σ, span-σ}
-use Rattle.promises.proofs.ShapeNumber.{isNumber-σ, within-σ, here-σ}
+use Rattle.text.proofs.Shape.{σ, flat, blind, is-σ, gap-σ, span-σ}
+use Rattle.words.proofs.Shape.{word-σ, starts-σ, noDigit, quoted-σ, field-σ, ordinary-σ}
+use Rattle.numbers.proofs.Shape.{isNumber-σ, within-σ, here-σ}
 
 pub numberOr-σ : (x : Lexed) (w : List ℕ) (n : ℕ) → numberOr x (parts (map σ w)) n ≡ numberOr x (parts w) n
 unfolding numberOr

@@ -10,7 +10,7 @@ use Rattle.text.specs.Bytes.{isAscii, isDigit}
 use Rattle.text.specs.Runs.{span}
 use Rattle.text.proofs.Ranges.{allBelow, digit-is}
 use Rattle.promises.specs.Differences.{isMark, Swap, same, digits, inside, Differ}
-use Rattle.promises.proofs.Shape.{σ}
+use Rattle.text.proofs.Shape.{σ}
 use Rattle.promises.proofs.Veil.{μ}
 use Rattle.promises.proofs.VeilRead.{Close, same as alike, washed, Rest}
 

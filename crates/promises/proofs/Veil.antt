@@ -25,8 +25,9 @@ use Rattle.values.specs.Values.{Class, block, loop, save, tag, value, overLimit
 use Rattle.items.specs.Tokens.{Mode, before, inBlock, inFrame, saveSize, lexIn, lex, after, Tok, emit, step, tokensFrom}
 use Rattle.promises.specs.Differences.{isMark, isQuoted}
 use Rattle.promises.proofs.Places.{take-map}
-use Rattle.promises.proofs.Shape.{σ, flat, blind, word-σ, gap-σ, quoted-σ, field-σ, eol-σ, inWord-σ, gapByte-σ}
-use Rattle.promises.proofs.ShapeNumber.{ap-cond}
+use Rattle.text.proofs.Shape.{σ, flat, blind, gap-σ, eol-σ, gapByte-σ}
+use Rattle.words.proofs.Shape.{word-σ, quoted-σ, field-σ, inWord-σ}
+use Rattle.numbers.proofs.Shape.{ap-cond}
 use Rattle.promises.proofs.ShapeTokens.{numberOr-σ}
 
 -- a byte with all but the marks washed out

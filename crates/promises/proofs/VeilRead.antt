@@ -14,7 +14,7 @@ use Rattle.text.proofs.Bools.{and-l, and-r}
 use Rattle.values.specs.Values.{Class, Lexed}
 use Rattle.items.specs.Tokens.{Mode, lex, after, Tok, tok, emit, step, tokensFrom}
 use Rattle.promises.specs.Differences.{isMark}
-use Rattle.promises.proofs.Shape.{σ, flat, blind}
+use Rattle.text.proofs.Shape.{σ, flat, blind}
 use Rattle.promises.proofs.Veil.{μ, veiled, Byte, isZero, relEmit, relStep, Rel}
 
 -- place i is inside the token, if that is a quoted value or a text field

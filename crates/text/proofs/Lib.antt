@@ -3,3 +3,4 @@ pub mod Ranges
 pub mod Runs
 pub mod Gaps
 pub mod Places
+pub mod Shape

@@ -1,3 +1,4 @@
 pub mod Words
 pub mod Keywords
 pub mod Quotes
+pub mod Shape

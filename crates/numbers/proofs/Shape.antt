@@ -7,8 +7,8 @@ use mathlib.Core.List.{List, [], _∷_, map}
 use lib.ListN.{length-map}
 use Rattle.text.specs.Bytes.{isDigit, is}
 use Rattle.text.proofs.Ranges.{allBelow}
 use Rattle.numbers.specs.Parts.{Cut, cut, consGot, digits, sign, point, Part, absent, signedDigits, isEmpty, exponent, close, bracket, Parts, parts, isNumber, within}
-use Rattle.promises.proofs.Shape.{σ, flat, blind, digit-σ}
+use Rattle.text.proofs.Shape.{σ, flat, blind, digit-σ}
 
 -- a function goes into both branches
 pub ap-cond {ℓ ℓ′} : {A : Type ℓ} {B : Type ℓ′} (f : A → B) (t : Bool) (x y : A) → f (cond t x y) ≡ cond t (f x) (f y)

@@ -1,28 +1,21 @@
--- The shape of a text has every digit replaced by `0`. Proved: no class of bytes that reading asks for tells a byte from its shape, so runs, space and comments, keywords,
--- quotes and text fields are the same in both. A class is one computed test over the ten digits (blind). Assumes nothing.
-use Prim.Native.Nat.{ℕ, zero, suc, _+_, _-_, _≤_}
-use mathlib.Core.Bool.{Bool, true, false, cond, _&&_, Bool·beq}
-use mathlib.Core.Path.{_≡_, refl, sym, ap, ap₂}
+-- The shape of a text has every digit replaced by `0`. Proved: no class of bytes tells a byte from its shape, so runs, and space and comments, are the same in both.
+-- A class is one computed test over the ten digits (blind). The outline hides digits because of this, crate by crate. Assumes nothing.
+use Prim.Native.Nat.{ℕ, _+_, _-_, _≤_}
+use mathlib.Core.Bool.{Bool, true, false, cond, Bool·beq}
+use mathlib.Core.Path.{_≡_, refl, sym}
 use mathlib.Core.List.{List, [], _∷_, map}
 use lib.Dec.{leb}
-use lib.ListN.{take}
 use native.Mathlib.Omega.{arith}
 use borrow.Author.Tests.{leb-true}
 use Rattle.text.specs.Bytes.{isDigit, isEol, isSpace, endsWord, is}
 use Rattle.text.specs.Runs.{span}
 use Rattle.text.specs.Gaps.{gapByte, gapThen, gapIn, gap}
 use Rattle.text.proofs.Bools.{and-l, and-r}
 use Rattle.text.proofs.Ranges.{allBelow, below}
-use Rattle.words.specs.Words.{isOrdinary, inWord, word}
-use Rattle.words.specs.Keywords.{lower, starts}
-use Rattle.words.specs.Quotes.{quoted, fieldIn, field}
 
--- the shape of a byte, and of a text
+-- the shape of a byte
 unfoldable pub σ : ℕ → ℕ
 σ b = cond (isDigit b) 48 b
-
-unfoldable pub shape : List ℕ → List ℕ
-shape s = map σ s
 
 -- a test that does not tell digits apart
 unfoldable pub flat : (ℕ → Bool) → Bool
@@ -57,17 +50,13 @@ pub eol-σ : (b : ℕ) → isEol (σ b) ≡ isEol b
 unfolding flat allBelow isEol
 eol-σ = blind isEol refl
 
+pub ends-σ : (b : ℕ) → endsWord (σ b) ≡ endsWord b
+unfolding flat allBelow endsWord
+ends-σ = blind endsWord refl
+
 pub space-σ : (b : ℕ) → isSpace (σ b) ≡ isSpace b
 unfolding flat allBelow isSpace
 space-σ = blind isSpace refl
-
-pub inWord-σ : (b : ℕ) → inWord (σ b) ≡ inWord b
-unfolding flat allBelow inWord endsWord
-inWord-σ = blind inWord refl
-
-pub ordinary-σ : (b : ℕ) → isOrdinary (σ b) ≡ isOrdinary b
-unfolding flat allBelow isOrdinary
-ordinary-σ = blind isOrdinary refl
 
 -- one byte that is no digit
 pub is-σ : (a : ℕ) → flat (is a) ≡ true → (b : ℕ) → is a (σ b) ≡ is a b
@@ -78,10 +67,6 @@ pub span-σ : (p : ℕ → Bool) → ((b : ℕ) → p (σ b) ≡ p b) → (s : L
 unfolding span
 span-σ p h [] = refl
 span-σ p h (b ∷ s) = rw (h b, span-σ p h s)
-
-pub word-σ : (s : List ℕ) → word (map σ s) ≡ word s
-unfolding word
-word-σ s = span-σ inWord inWord-σ s
 
 pub gapByte-σ : (c : Bool) (b : ℕ) → gapByte c (σ b) ≡ gapByte c b
 unfolding flat allBelow gapByte isSpace is
@@ -101,28 +86,3 @@ gapIn-σ c (b ∷ s) = rw (gapByte-σ c b, gapThen-σ c b, gapIn-σ (gapThen c b
 pub gap-σ : (s : List ℕ) → gap (map σ s) ≡ gap s
 unfolding gap
 gap-σ s = gapIn-σ false s
-
--- a keyword without digits
-unfoldable pub noDigit : List ℕ → Bool
-noDigit [] = true
-noDigit (c ∷ k) = flat (λ b. is c (lower b)) && noDigit k
-
-pub starts-σ : (k s : List ℕ) → noDigit k ≡ true → starts k (map σ s) ≡ starts k s
-unfolding starts noDigit
-starts-σ [] s e = refl
-starts-σ (c ∷ k) [] e = refl
-starts-σ (c ∷ k) (b ∷ s) e = ap₂ _&&_ (blind (λ x. is c (lower x)) (and-l _ (noDigit k) e) b) (starts-σ k s (and-r (flat (λ b. is c (lower b))) _ e))
-
-pub quoted-σ : (m : ℕ) → flat (is m) ≡ true → (s : List ℕ) → quoted m (map σ s) ≡ quoted m s
-unfolding quoted
-quoted-σ m e [] = refl
-quoted-σ m e (b ∷ s) = rw (is-σ m e b, eol-σ b, quoted-σ m e s)
-
-fieldIn-σ : (e : Bool) (s : List ℕ) → fieldIn e (map σ s) ≡ fieldIn e s
-unfolding fieldIn flat allBelow is
-fieldIn-σ e [] = refl
-fieldIn-σ e (b ∷ s) = rw (is-σ 59 refl b, eol-σ b, fieldIn-σ (isEol b) s)
-
-pub field-σ : (s : List ℕ) → field (map σ s) ≡ field s
-unfolding field
-field-σ s = fieldIn-σ false s
