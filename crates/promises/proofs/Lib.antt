@@ -27,3 +27,4 @@ pub mod ReadIsSound
 pub mod NumbersRead
 pub mod Readings
 pub mod Examples
+pub mod OneOutcome
