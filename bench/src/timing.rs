@@ -1,0 +1,53 @@
+//! How long a call takes. Contestants take turns, so that a busy moment of the machine is none's alone.
+
+use std::hint::black_box;
+use std::time::{Duration, Instant};
+
+/// How long to measure.
+#[derive(Clone, Copy)]
+pub struct Effort {
+    /// How often each contestant has its turn.
+    pub rounds: u32,
+    /// How long a turn is, at least.
+    pub turn: Duration,
+}
+
+/// One contestant: a call, which answers how long it took of what is to be counted.
+pub type Call<'a> = Box<dyn FnMut() -> Duration + 'a>;
+
+/// A call of which everything counts but the dropping of what it answers.
+pub fn call<'a, T>(mut run: impl FnMut() -> T + 'a) -> Call<'a> {
+    Box::new(move || {
+        let start = Instant::now();
+        let answer = black_box(run());
+        let taken = start.elapsed();
+        drop(answer);
+        taken
+    })
+}
+
+/// The best time of each contestant, in nanoseconds for one call.
+pub fn best(effort: Effort, contestants: &mut [Call]) -> Vec<f64> {
+    let mut best = vec![f64::INFINITY; contestants.len()];
+    for _ in 0..effort.rounds {
+        for (contestant, best) in contestants.iter_mut().zip(&mut best) {
+            *best = best.min(turn(effort.turn, contestant));
+        }
+    }
+    best
+}
+
+/// The best of the batches of one turn. A batch is long enough for the clock.
+fn turn(length: Duration, contestant: &mut Call) -> f64 {
+    const BATCH: Duration = Duration::from_millis(2);
+    let once = contestant().max(Duration::from_nanos(1));
+    let calls = (BATCH.as_nanos() / once.as_nanos()).max(1) as u32;
+    let mut best = f64::INFINITY;
+    let mut spent = Duration::ZERO;
+    while spent < length {
+        let batch: Duration = (0..calls).map(|_| contestant()).sum();
+        best = best.min(batch.as_nanos() as f64 / f64::from(calls));
+        spent += batch.max(Duration::from_nanos(1));
+    }
+    best
+}
