@@ -1,7 +1,7 @@
 //! How long a call takes. Contestants take turns, so that a busy moment of the machine is none's alone.
 
 use std::hint::black_box;
-use std::time::{Duration, Instant};
+use std::time::Duration;
 
 /// How long to measure.
 #[derive(Clone, Copy)]
@@ -18,9 +18,9 @@ pub type Call<'a> = Box<dyn FnMut() -> Duration + 'a>;
 /// A call of which everything counts but the dropping of what it answers.
 pub fn call<'a, T>(mut run: impl FnMut() -> T + 'a) -> Call<'a> {
     Box::new(move || {
-        let start = Instant::now();
+        let start = clock();
         let answer = black_box(run());
-        let taken = start.elapsed();
+        let taken = clock() - start;
         drop(answer);
         taken
     })
@@ -50,4 +50,25 @@ fn turn(length: Duration, contestant: &mut Call) -> f64 {
         spent += batch.max(Duration::from_nanos(1));
     }
     best
+}
+
+/// The processor's time that this thread has had: what others do meanwhile is not in it.
+fn clock() -> Duration {
+    #[repr(C)]
+    struct Time {
+        seconds: i64,
+        nanoseconds: i64,
+    }
+    extern "C" {
+        fn clock_gettime(clock: i32, time: *mut Time) -> i32;
+    }
+    const THREAD_CPUTIME: i32 = 3;
+    let mut time = Time {
+        seconds: 0,
+        nanoseconds: 0,
+    };
+    // SAFETY: the C library, which std links on Linux, writes one such struct.
+    let failed = unsafe { clock_gettime(THREAD_CPUTIME, &mut time) };
+    assert_eq!(failed, 0, "Linux has a clock for each thread");
+    Duration::new(time.seconds as u64, time.nanoseconds as u32)
 }
