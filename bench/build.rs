@@ -20,7 +20,7 @@ fn main() {
     fs::write(out.join("source_modules.rs"), modules).expect("the build folder can be written");
     match shim(&package, &out) {
         Ok(()) => link_shim(&out),
-        Err(reason) => println!("cargo:warning=gemmi is left out: {reason}"),
+        Err(reason) => println!("cargo:rustc-env=BENCH_WITHOUT_GEMMI={reason}"),
     }
 }
 
@@ -55,7 +55,11 @@ fn source_file(root: &Path, path: &str) -> PathBuf {
 /// The text of the modules: the source's three files, and the comparison's stand-ins for the two
 /// that are missing.
 fn modules(root: &Path, package: &Path) -> String {
-    let standin = |name: &str| package.join("../compare-with-source/src/standin").join(name);
+    let standin = |name: &str| {
+        package
+            .join("../compare-with-source/src/standin")
+            .join(name)
+    };
     let context = source_file(root, "src/error/context.rs");
     let lexitem = source_file(root, "src/read/mmcif/lexitem.rs");
     let lexer = source_file(root, "src/read/mmcif/lexer.rs");
@@ -80,7 +84,10 @@ fn shim(package: &Path, out: &Path) -> Result<(), String> {
     let object = out.join("gemmi.o");
     let mut compile = Command::new(&compiler);
     compile.args(["-std=c++17", "-O3", "-DNDEBUG", "-fPIC", "-c"]);
-    run(compile.arg(package.join("src/gemmi.cpp")).arg("-o").arg(&object))?;
+    run(compile
+        .arg(package.join("src/gemmi.cpp"))
+        .arg("-o")
+        .arg(&object))?;
     let archive = out.join("libgemmishim.a");
     run(Command::new("ar").arg("crs").arg(archive).arg(&object))
 }
@@ -91,7 +98,11 @@ fn run(command: &mut Command) -> Result<(), String> {
         Ok(output) if output.status.success() => Ok(()),
         Ok(output) => {
             let said = String::from_utf8_lossy(&output.stderr);
-            Err(String::from(said.lines().find(|line| line.contains("error")).unwrap_or("it does not compile")))
+            Err(String::from(
+                said.lines()
+                    .find(|line| line.contains("error"))
+                    .unwrap_or("it does not compile"),
+            ))
         }
         Err(error) => Err(format!("{program}: {error}")),
     }

@@ -1,7 +1,7 @@
 //! gemmi, where it is installed.
 
-/// Whether it is in this build.
-pub const PRESENT: bool = cfg!(gemmi);
+/// Why it is not in this build, where it is not.
+pub const MISSING: Option<&str> = option_env!("BENCH_WITHOUT_GEMMI");
 
 #[cfg(gemmi)]
 mod c {
