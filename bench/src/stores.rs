@@ -33,8 +33,9 @@ impl Stored {
 /// Prints the table of the stores of the texts that the library reads.
 pub fn report(effort: Effort, inputs: &[Input]) {
     let mut table = Table::new(&[
-        "ns for a byte\nof the store",
-        "bytes of\nthe store",
+        "ns for a byte of\nstore and area",
+        "bytes,\nstore",
+        "bytes,\narea",
         "\nrecords",
         "\nsoundness",
         "\nname check",
@@ -64,11 +65,14 @@ fn row(effort: Effort, input: &Input, stored: &Stored) -> Vec<String> {
     let mut cells = vec![
         input.name.clone(),
         store.len().to_string(),
+        area.len().to_string(),
         library::walk(store, area).to_string(),
     ];
     for (number, taken) in taken.iter().enumerate() {
         let told = number < 3 || renders;
-        cells.push(figure(told.then_some(taken / store.len() as f64)));
+        cells.push(figure(
+            told.then_some(taken / (store.len() + area.len()) as f64),
+        ));
     }
     cells
 }

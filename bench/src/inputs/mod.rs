@@ -4,6 +4,7 @@ mod atoms;
 mod dice;
 mod dictionary;
 mod fields;
+pub mod hard;
 mod molecule;
 
 use std::fs;
