@@ -26,15 +26,16 @@ pub fn call<'a, T>(mut run: impl FnMut() -> T + 'a) -> Call<'a> {
     })
 }
 
-/// The best time of each contestant, in nanoseconds for one call.
+/// The best time of each contestant, in nanoseconds for one call, without what the clock takes.
 pub fn best(effort: Effort, contestants: &mut [Call]) -> Vec<f64> {
+    let idle = turn(effort.turn / 10, &mut call(|| ()));
     let mut best = vec![f64::INFINITY; contestants.len()];
     for _ in 0..effort.rounds {
         for (contestant, best) in contestants.iter_mut().zip(&mut best) {
             *best = best.min(turn(effort.turn, contestant));
         }
     }
-    best
+    best.iter().map(|best| best - idle).collect()
 }
 
 /// The best of the batches of one turn. A batch is long enough for the clock.
