@@ -1,0 +1,105 @@
+//! Texts that are made to be slow.
+
+use std::fmt::Write;
+
+/// A sort of text: its name, how many of its things are n for the library and for the source, which
+/// gets fewer, and the text of so many.
+pub struct Sort {
+    pub name: &'static str,
+    pub count: usize,
+    pub source_count: usize,
+    pub text: fn(usize) -> String,
+}
+
+pub const SORTS: [Sort; 11] = [
+    Sort {
+        name: "dots",
+        count: 250_000,
+        source_count: 4_000,
+        text: |n| format!("data_x loop_ _a {}", ".".repeat(n)),
+    },
+    Sort {
+        name: ".? pairs",
+        count: 250_000,
+        source_count: 4_000,
+        text: |n| format!("data_x loop_ _a {}", ".?".repeat(n)),
+    },
+    Sort {
+        name: "loops in one line",
+        count: 100_000,
+        source_count: 2_000,
+        text: |n| format!("data_x{}", " loop_ _a 1".repeat(n)),
+    },
+    Sort {
+        name: "quotes",
+        count: 100_000,
+        source_count: 2_000,
+        text: |n| format!("data_x loop_ _a {}", "'\"'\"'\"".repeat(n)),
+    },
+    Sort {
+        name: "comments",
+        count: 500_000,
+        source_count: 20_000,
+        text: |n| format!("data_x{}\n_a 1", "\n#".repeat(n)),
+    },
+    Sort {
+        name: "lines of a field",
+        count: 250_000,
+        source_count: 20_000,
+        text: |n| format!("data_x _a\n;{}\n;", "\n ;".repeat(n)),
+    },
+    Sort {
+        name: "frames",
+        count: 50_000,
+        source_count: 2_000,
+        text: |n| format!("data_x{}", "\nsave_f _a 1 save_".repeat(n)),
+    },
+    Sort {
+        name: "frames, items dropped",
+        count: 50_000,
+        source_count: 2_000,
+        text: |n| format!("data_x{}", "\nsave_f loop_ _a _b 1 2 3 save_".repeat(n)),
+    },
+    Sort {
+        name: "names",
+        count: 50_000,
+        source_count: 2_000,
+        text: |n| tags((0..n).map(|number| format!("t{number}"))),
+    },
+    Sort {
+        name: "names of one loop",
+        count: 50_000,
+        source_count: 2_000,
+        text: |n| {
+            let names: String = (0..n).map(|number| format!(" _t{number}")).collect();
+            format!("data_x loop_{names}{}", " .".repeat(n))
+        },
+    },
+    Sort {
+        name: "names of one place",
+        count: 2_000,
+        source_count: 2_000,
+        text: |n| {
+            let names = (0..).map(|number| format!("t{number}"));
+            tags(names.filter(|name| is_crowded(name)).take(n))
+        },
+    },
+];
+
+/// A block of these tags, each with a value.
+fn tags(names: impl Iterator<Item = String>) -> String {
+    let mut text = String::from("data_x\n");
+    for name in names {
+        let _ = writeln!(text, "_{name} .");
+    }
+    text
+}
+
+/// Whether the name check's table puts a name of the block among its first 64 places, where soon no
+/// place is free: such names it must look for one by one.
+fn is_crowded(name: &str) -> bool {
+    let mix =
+        |hash: u64, byte: u8| hash % (1 << 32) * 698_769_069 + ((hash >> 32) + u64::from(byte));
+    let hash = name.bytes().chain([0, 0]).fold(0, mix);
+    hash % 65_536 < 64
+}
