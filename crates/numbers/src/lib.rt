@@ -4,7 +4,7 @@ ghost use Prim.Native.Nat.{_-_, _≤_, _<_};
 ghost use mathlib.Core.Bool.{true, not, _&&_};
 ghost use lib.Dec.{eqb};
 ghost use lib.ListN.{getD};
-ghost use Rattle.numbers.specs.Parts.{isNumber, within, value, minus};
+ghost use Rattle.numbers.specs.Parts.{parts, isNumber, within, value, minus};
 ghost use Rattle.numbers.specs.Meaning.{meaning, numberOf};
 ghost use Rattle.numbers.specs.Cuts.{piece, startsNumber, after, digitsEnd, nowhere as nowhereOf, startsExponent, exponentAt, bracketAt, cutsOf, partsOf, Run, Sound};
 
@@ -292,6 +292,15 @@ fn read(w: &[u8], k: Cuts) -> Decimal
         uncertain: k.bracket.here,
         uncertainty,
     }
+}
+
+// What a word means whose parts keep the limits.
+pub fn decimal_of(w: &[u8]) -> Decimal
+    requires { ⌜ within (parts (now w)) ≡ true ⌝ }
+    ensures { λ r. ⌜ r ≡ meaning (parts (now (w .entry))) ⌝ }
+{
+    let k = cut(w);
+    read(w, k)
 }
 
 // What a word says as a number. Most words are no numbers and show it by their first byte.
