@@ -7,3 +7,4 @@ pub mod DigitRuns
 pub mod Bounds
 pub mod Bridge
 pub mod Facts
+pub mod Plain
