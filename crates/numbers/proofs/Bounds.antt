@@ -25,7 +25,7 @@ byte-within w i b h e = by (decLt i (length w))
     by (yes l) = l
     by (no l) = absurd (omega (arith, past-end w i (omega arith)))
 
-after-within : (x y : ℕ) (w : List ℕ) (i : ℕ) → 0 < x → 0 < y → i ≤ length w → after x y w i ≤ length w
+pub after-within : (x y : ℕ) (w : List ℕ) (i : ℕ) → 0 < x → 0 < y → i ≤ length w → after x y w i ≤ length w
 unfolding after is
 after-within x y w i hx hy h = by (decLt i (length w))
   where

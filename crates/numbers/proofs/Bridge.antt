@@ -1,7 +1,7 @@
 -- The parts of a word are the pieces of it between its cuts: each part of `Parts.antt`, taken from an offset on, is the piece that `Cuts.antt` finds
 -- there. Assumes nothing.
 use Prim.Native.Nat.{ℕ, suc, _+_, _-_, _≤_, _<_}
-use mathlib.Core.Path.{_≡_, refl, sym, _∙_}
+use mathlib.Core.Path.{_≡_, refl, sym, ap, _∙_}
 use mathlib.Core.Bool.{Bool, true, false, cond, _||_, Bool·not-not}
 use mathlib.Core.List.{List, [], _∷_}
 use native.Mathlib.Numerals.{add-one}
@@ -176,3 +176,12 @@ parts-cuts w =
       exponent-part,
       bracket-part,
     )
+
+-- the sign and the digits that stand at an offset
+pub sign-piece : (w : List ℕ) (i : ℕ) → (sign (drop i w)) .got ≡ piece w i (after 43 45 w i)
+unfolding between cut
+sign-piece w i = ap (λ (c : Cut). c .got) (sign-between w i)
+
+pub digits-piece : (w : List ℕ) (i : ℕ) → (digits (drop i w)) .got ≡ piece w i (digitsEnd w i)
+unfolding between cut
+digits-piece w i = ap (λ (c : Cut). c .got) (digits-between w i)

@@ -3,12 +3,13 @@ use Prim.Native.Nat.{ℕ, zero, suc, _+_, _-_, _*_, _^_, _≤_, _<_}
 use mathlib.Core.Path.{_≡_, refl, sym, _∙_}
 use mathlib.Core.Bool.{Bool, true, false, cond, not}
 use mathlib.Core.List.{List, [], _∷_, _++_}
+use native.Mathlib.Numerals.{add-one}
 use native.Mathlib.Nat.{add-zero, pow-suc, pow-le-pow-right, lt-of-lt-of-le}
 use native.Mathlib.Decide.{decLt}
 use native.Mathlib.Omega.{arith}
 use lib.Dec.{leb, ltb, eqb, lit<}
 use lib.ListN.{length, take, drop, getD, length-take, length-drop, drop-of-length-le}
-use lib.Seq.{take-suc, take-nil, drop-cons, drop-drop, getD-drop}
+use lib.Seq.{take-suc, take-nil, take-add, drop-cons, drop-drop, getD-drop}
 use borrow.Author.Tests.{leb-true, lt-ltb, le-ltb, le-leb, lt-leb}
 use Rattle.text.specs.Bytes.{isDigit, is}
 use Rattle.text.specs.Runs.{span, spanEnd}
@@ -51,6 +52,28 @@ rest-empty w i = empty-length (drop i w) ∙ rw (length-drop i w) (by (decLt i (
     by (yes l) = rw (lt-leb (length w - i) 0 (omega arith), lt-ltb i (length w) l)
     by (no l) = rw (le-leb (length w - i) 0 (omega arith), le-ltb i (length w) (omega arith))
 
+-- pieces that follow each other are one; the first byte of a piece, and the last
+pub piece-join : (w : List ℕ) (i j k : ℕ) → i ≤ j → j ≤ k → piece w i k ≡ piece w i j ++ piece w j k
+unfolding piece
+piece-join w i j k h l =
+    let e : k - i ≡ (j - i) + (k - j) = omega arith in
+    let f : i + (j - i) ≡ j = omega arith in
+    rw (e, take-add (j - i) (k - j) (drop i w), drop-drop (j - i) i w, f)
+
+pub piece-first : (w : List ℕ) (i j : ℕ) → i < j → i < length w → piece w i j ≡ getD w i 0 ∷ piece w (i + 1) j
+unfolding piece
+piece-first w i j h l =
+    let e : j - i ≡ suc (j - (i + 1)) = omega arith in
+    rw (e, drop-cons w i 0 l, add-one i)
+
+pub piece-last : (w : List ℕ) (i j : ℕ) → i ≤ j → j < length w → piece w i (j + 1) ≡ piece w i j ++ getD w j 0 ∷ []
+unfolding piece
+piece-last w i j h l =
+    let e : j + 1 - i ≡ suc (j - i) = omega arith in
+    let f : i + (j - i) ≡ j = omega arith in
+    let n : j - i < length (drop i w) = omega (arith, length-drop i w) in
+    rw (e, take-suc (drop i w) (j - i) 0 n, getD-drop i w (j - i) 0, f)
+
 -- a sign's first byte says whether it is a minus
 pub piece-minus : (w : List ℕ) (i j : ℕ) → i < j → minus (piece w i j) ≡ eqb (getD w i 0) 45
 unfolding minus piece is
@@ -80,6 +103,10 @@ run-first r k h l = record { from = h; to = omega (arith, r .to); all = λ n a b
 pub run-here : (w : List ℕ) (i : ℕ) → i ≤ length w → Run w i (digitsEnd w i)
 unfolding digitsEnd
 run-here w i h = record { from = span-from isDigit w i; to = span-within isDigit w i h; all = λ k a b. span-all isDigit w i k a b }
+
+pub digits-from : (w : List ℕ) (i : ℕ) → i ≤ digitsEnd w i
+unfolding digitsEnd
+digits-from w i = span-from isDigit w i
 
 pub run-none : (w : List ℕ) (i : ℕ) → i ≤ length w → Run w i i
 run-none w i h = record { from = omega arith; to = h; all = λ k a b. absurd (omega arith) }

@@ -8,3 +8,4 @@ pub mod Bounds
 pub mod Bridge
 pub mod Facts
 pub mod Shape
+pub mod Plain

@@ -3,3 +3,4 @@ pub mod Meaning
 pub mod Spelling
 pub mod Cif
 pub mod Cuts
+pub mod Plain

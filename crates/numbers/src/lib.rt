@@ -4,9 +4,10 @@ ghost use Prim.Native.Nat.{_-_, _≤_, _<_};
 ghost use mathlib.Core.Bool.{true, not, _&&_};
 ghost use lib.Dec.{eqb};
 ghost use lib.ListN.{getD};
-ghost use Rattle.numbers.specs.Parts.{isNumber, within, value, minus};
+ghost use Rattle.numbers.specs.Parts.{parts, isNumber, within, value, minus};
 ghost use Rattle.numbers.specs.Meaning.{meaning, numberOf};
 ghost use Rattle.numbers.specs.Cuts.{piece, startsNumber, after, digitsEnd, nowhere as nowhereOf, startsExponent, exponentAt, bracketAt, cutsOf, partsOf, Run, Sound};
+ghost use Rattle.numbers.specs.Plain.{wordStops, bracketEnd, decimalEnd};
 
 // What a number means: its sign, integer, fraction and how many digits that has, sign and size of the exponent, and uncertainty.
 pub struct Decimal {
@@ -294,6 +295,15 @@ fn read(w: &[u8], k: Cuts) -> Decimal
     }
 }
 
+// What a word means whose parts keep the limits.
+pub fn decimal_of(w: &[u8]) -> Decimal
+    requires { ⌜ within (parts (now w)) ≡ true ⌝ }
+    ensures { λ r. ⌜ r ≡ meaning (parts (now (w .entry))) ⌝ }
+{
+    let k = cut(w);
+    read(w, k)
+}
+
 // What a word says as a number. Most words are no numbers and show it by their first byte.
 pub fn parse_numeric(w: &[u8]) -> Number
     ensures { λ r. ⌜ r ≡ numberOf (now (w .entry)) ⌝ }
@@ -309,4 +319,57 @@ pub fn parse_numeric(w: &[u8]) -> Number
         return Number::Over;
     }
     Number::Is(read(w, k))
+}
+
+// Whether a word ends at an offset of a text.
+fn word_stops(s: &[u8], at: usize) -> bool
+    ensures { λ r. ⌜ r ≡ wordStops (now (s .entry)) at ⌝ }
+{
+    if s.len() <= at {
+        return true;
+    }
+    text::ends_word(s[at])
+}
+
+// Behind the bracket at an offset, if it is closed and keeps its limit; else the offset.
+fn bracket_end(s: &[u8], at: usize) -> usize
+    ensures { λ r. ⌜ r ≡ bracketEnd (now (s .entry)) at ⌝ }
+{
+    if byte_at(s, at) != 40 {
+        return at;
+    }
+    let digits = at + 1;
+    let end = digits_end(s, digits);
+    if 9 < end - digits {
+        return at;
+    }
+    if byte_at(s, end) != 41 {
+        return at;
+    }
+    end + 1
+}
+
+// Where the number that starts at an offset of a text ends, if it has no exponent, keeps the limits and is the whole word; else the offset. It makes no
+// decimal: most values are such numbers, and most readers want their kind and length alone.
+pub fn decimal_end(s: &[u8], from: usize) -> usize
+    ensures { λ r. ⌜ r ≡ decimalEnd (now (s .entry)) from ⌝ }
+{
+    let sign = after_one(s, from, 43, 45);
+    let integer = digits_end(s, sign);
+    if 9 < integer - sign {
+        return from;
+    }
+    let point = after_one(s, integer, 46, 46);
+    let fraction = digits_end(s, point);
+    if 18 < fraction - point {
+        return from;
+    }
+    if integer - sign + (fraction - point) < 1 {
+        return from;
+    }
+    let end = bracket_end(s, fraction);
+    if !word_stops(s, end) {
+        return from;
+    }
+    end
 }
