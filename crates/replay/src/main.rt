@@ -1,0 +1,103 @@
+// Replays the fixed list of the source's answers: each of its texts goes through Read and Outline, and what they answer is held to the list and to each other. Each entry that
+// differs is named; at the end the passed ones are counted by their answers.
+mod floats;
+mod list;
+mod same;
+mod say;
+
+ghost use Prim.Native.Nat.{_≤_, _<_};
+ghost use lib.ListN.{length};
+use libc::STDIN_FILENO;
+use same::Verdict;
+
+// The largest list, in bytes.
+const LONGEST: usize = 524288;
+
+// The counts: of the passed entries by the answer that the list has, and of all that passed and failed.
+const PASSED: usize = 14;
+
+const FAILED: usize = 15;
+
+fn note(counts: &mut [u32; 16], which: usize) {
+    if which < 16 {
+        if counts[which] < u32::MAX {
+            counts[which] += 1;
+        }
+    }
+}
+
+fn say_verdict(number: u32, verdict: Verdict) {
+    say::bytes(b"entry ");
+    say::number(number);
+    match verdict {
+        Verdict::Same => say::bytes(b" is the same\n"),
+        Verdict::CutOff => say::bytes(b" is cut off\n"),
+        Verdict::Answer => say::bytes(b" has another answer\n"),
+        Verdict::Contents => say::bytes(b" has other contents\n"),
+        Verdict::Records => say::bytes(b" has other records\n"),
+        Verdict::Outline => say::bytes(b" has another outline\n"),
+    }
+}
+
+fn try_entry(number: u32, entry: &[u8], counts: &mut [u32; 16]) {
+    let verdict = same::judge(entry);
+    let Verdict::Same = verdict else {
+        say_verdict(number, verdict);
+        note(counts, FAILED);
+        return;
+    };
+    note(counts, list::field(entry, 1));
+    note(counts, PASSED);
+}
+
+// Where the entry at an offset ends, or the list does.
+fn entry_end(s: &[u8], at: usize) -> usize
+    requires { ⌜ at < length (now s) ⌝ }
+    ensures { λ r. ⌜ (at < r) × (r ≤ length (now (s .entry))) ⌝ }
+{
+    let size = list::entry_size(&s[at..]);
+    if s.len() - at < size {
+        return s.len();
+    }
+    at + size
+}
+
+fn say_counts(counts: &[u32; 16]) {
+    say::count(b"read: ", counts[0]);
+    say::count(b"refused by 3: ", counts[3]);
+    say::count(b"refused by 4: ", counts[4]);
+    say::count(b"refused by 5: ", counts[5]);
+    say::count(b"refused by 6: ", counts[6]);
+    say::count(b"refused by 7: ", counts[7]);
+    say::number(counts[PASSED]);
+    say::bytes(b" passed, ");
+    say::number(counts[FAILED]);
+    say::bytes(b" failed\n");
+}
+
+fn replay(s: &[u8]) {
+    let mut counts = [0u32; 16];
+    let mut tried: u32 = 0;
+    let mut at = list::HEAD;
+    while at < s.len() {
+        let end = entry_end(s, at);
+        try_entry(tried, &s[at..end], &mut counts);
+        tried = std::num::wrapping_add_u32(tried, 1);
+        at = end;
+    }
+    if tried != list::word_at(s, 8) {
+        say::bytes(b"the list has another number of entries than it says\n");
+        note(&mut counts, FAILED);
+    }
+    say_counts(&counts);
+}
+
+fn main() {
+    let mut input = [0u8; LONGEST];
+    let n = io::read_full(STDIN_FILENO, &mut input);
+    if !list::is_list(&input[..n]) {
+        say::bytes(b"this is no list of the length that it says\n");
+        return;
+    }
+    replay(&input[..n]);
+}

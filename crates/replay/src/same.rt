@@ -1,0 +1,243 @@
+// Whether the services answer as an entry of the list says, and as each other.
+ghost use Prim.Native.Nat.{_≤_, _<_};
+ghost use lib.ListN.{length};
+use crate::floats;
+use crate::list;
+use records::Fields;
+use records::Parts;
+use stores::Walked;
+use text::Report;
+
+// What differs, if anything does.
+pub enum Verdict {
+    Same,
+    CutOff,
+    Answer,
+    Contents,
+    Records,
+    Outline,
+}
+
+// The source keeps no column for 3 and 7.
+fn told_column(report: Report) -> usize {
+    let number = report.number;
+    match number {
+        3 | 7 => 0,
+        _ => report.column,
+    }
+}
+
+// Refusal number, line, column and detail.
+fn same_answer(entry: &[u8], report: Report) -> bool {
+    if report.number != list::field(entry, 1) {
+        return false;
+    }
+    if report.line != list::field(entry, 2) {
+        return false;
+    }
+    if told_column(report) != list::field(entry, 3) {
+        return false;
+    }
+    report.detail == list::field(entry, 4)
+}
+
+// The source doesn't tell quoted text from bare.
+fn told_kind(kind: u8) -> u8 {
+    match kind {
+        11..=13 => 10,
+        _ => kind,
+    }
+}
+
+// What stands beside a kind in the list: a loop's tags, an uncertainty, or a content's length.
+fn amount(kind: u8, fields: Fields, size: usize) -> u64 {
+    let parts = fields.parts;
+    match kind {
+        5 => fields.number as u64,
+        15 => parts.uncertainty as u64,
+        _ => size as u64,
+    }
+}
+
+// Whether a record has the kind and the amount that the list's five bytes say.
+fn same_record(told: &[u8], kind: u8, amount: u64) -> bool {
+    if told.len() == 0 {
+        return false;
+    }
+    if told[0] != told_kind(kind) {
+        return false;
+    }
+    list::word_at(told, 1) as u64 == amount
+}
+
+// Where the comparison stands: in the store, and among the list's numbers.
+struct Spot {
+    at: usize,
+    number: usize,
+}
+
+enum Step {
+    On { spot: Spot },
+    Off,
+}
+
+// Over a record's number, if it is one.
+fn over_number(kind: u8, parts: Parts, numbers: &[u8], spot: Spot) -> Step {
+    if kind < 14 {
+        return Step::On { spot };
+    }
+    let from = spot.number;
+    if numbers.len() <= from {
+        return Step::Off;
+    }
+    if numbers.len() - from < 8 {
+        return Step::Off;
+    }
+    if list::long_at(numbers, from) != floats::bits(parts) {
+        return Step::Off;
+    }
+    Step::On {
+        spot: Spot {
+            at: spot.at,
+            number: from + 8,
+        },
+    }
+}
+
+// Over a record that is the list's.
+fn over_record(store: &[u8], area: &[u8], told: &[u8], numbers: &[u8], spot: Spot) -> Step {
+    let walked = stores::record_at(store, area, spot.at);
+    let Walked::Record {
+        number: kind,
+        fields,
+        from: _,
+        size,
+        next,
+    } = walked
+    else {
+        return Step::Off;
+    };
+    if !same_record(told, kind, amount(kind, fields, size)) {
+        return Step::Off;
+    }
+    let behind = Spot {
+        at: next,
+        number: spot.number,
+    };
+    over_number(kind, fields.parts, numbers, behind)
+}
+
+// Whether a store's records have the list's kinds, amounts and numbers.
+fn same_records(store: &[u8], area: &[u8], told: &[u8], numbers: &[u8]) -> bool {
+    let count = told.len() / 5;
+    let mut spot = Spot { at: 0, number: 0 };
+    let mut i = 0;
+    while i < count {
+        let step = over_record(store, area, list::part(told, i * 5, 5), numbers, spot);
+        let Step::On { spot: then } = step else {
+            return false;
+        };
+        spot = then;
+        i += 1;
+    }
+    if spot.at != store.len() {
+        return false;
+    }
+    spot.number == numbers.len()
+}
+
+// Where the record at an offset ends, or the store does.
+fn behind(store: &[u8], at: usize, body: usize) -> usize
+    requires { ⌜ at < length (now store) ⌝ }
+    ensures { λ r. ⌜ (at < r) × (r ≤ length (now (store .entry))) ⌝ }
+{
+    let from = at + 1;
+    if store.len() - from < body {
+        return store.len();
+    }
+    from + body
+}
+
+// Whether an outline has the kinds and places of a store.
+fn same_outline(store: &[u8], outline: &[u8]) -> bool {
+    let mut at = 0;
+    let mut from = 0;
+    while from < outline.len() {
+        if store.len() <= at {
+            return false;
+        }
+        let kind = outline[from];
+        let end = behind(outline, from, records::outline_length(kind));
+        if !check::same(&outline[from..end], list::part(store, at, end - from)) {
+            return false;
+        }
+        at = behind(store, at, records::body_length(kind));
+        from = end;
+    }
+    at == store.len()
+}
+
+// Whether two refusals are the same.
+fn same_refusal(a: Report, b: Report) -> bool {
+    if a.number != b.number {
+        return false;
+    }
+    if a.offset != b.offset {
+        return false;
+    }
+    if a.line != b.line {
+        return false;
+    }
+    if a.column != b.column {
+        return false;
+    }
+    a.detail == b.detail
+}
+
+// Whether Outline answers as Read did, which left this store.
+fn outlines(text: &[u8], read: Report, store: &[u8]) -> bool {
+    let mut room = [0u8; 4096];
+    let outlined = reading::outline(text, &mut room).report();
+    if !same_refusal(read, outlined) {
+        return false;
+    }
+    same_outline(store, list::part(&room, 0, outlined.first))
+}
+
+// Whether what Read wrote is what the list says.
+fn judge_written(entry: &[u8], read: Report, store: &[u8], area: &[u8]) -> Verdict {
+    if !check::same(area, list::area_of(entry)) {
+        return Verdict::Contents;
+    }
+    if !same_records(
+        store,
+        area,
+        list::records_of(entry),
+        list::numbers_of(entry),
+    ) {
+        return Verdict::Records;
+    }
+    if !outlines(list::text_of(entry), read, store) {
+        return Verdict::Outline;
+    }
+    Verdict::Same
+}
+
+// Reads an entry's text anew. A refusal leaves no records and no area.
+pub fn judge(entry: &[u8]) -> Verdict {
+    if list::entry_size(entry) != entry.len() {
+        return Verdict::CutOff;
+    }
+    let mut store = [0u8; 4096];
+    let mut area = [0u8; 256];
+    let read = reading::read(list::text_of(entry), &mut store, &mut area).report();
+    if !same_answer(entry, read) {
+        return Verdict::Answer;
+    }
+    judge_written(
+        entry,
+        read,
+        list::part(&store, 0, read.first),
+        list::part(&area, 0, read.second),
+    )
+}
