@@ -1,10 +1,13 @@
 /* Calls every function of chuntarek.h, with good and bad input, and holds each answer to document 01. Prints the first line that fails;
  * nothing where all is as it should be. Expectations are worked out by hand. */
+#define _DEFAULT_SOURCE /* for mmap's anonymous pages */
 #include "chuntarek.h"
 
 #include <stdio.h>
 #include <stdlib.h>
 #include <string.h>
+#include <sys/mman.h>
+#include <unistd.h>
 
 #define CHECK(fact)                                                          \
     do {                                                                     \
@@ -135,8 +138,31 @@ static void long_text_is_refused(void)
     fill(&lent);
     chuntarek_answer answer = chuntarek_read(text, length, lent.store, sizeof lent.store, lent.area, sizeof lent.area);
     CHECK(is(answer, 1, 0, 0, 0, 0) && has_lengths(answer, 0, 0) && untouched(lent.store, 0, sizeof lent.store));
+    answer = chuntarek_outline(text, length, lent.store, sizeof lent.store);
+    CHECK(is(answer, 1, 0, 0, 0, 0) && has_lengths(answer, 0, 0) && untouched(lent.store, 0, sizeof lent.store));
     answer = chuntarek_read(text, length - 1, lent.store, sizeof lent.store, nothing, 0);
     CHECK(is(answer, 0, 0, 0, 0, 0) && has_lengths(answer, 21, 0));
+    answer = chuntarek_outline(text, length - 1, lent.store, sizeof lent.store);
+    CHECK(is(answer, 0, 0, 0, 0, 0) && has_lengths(answer, 17, 0));
+    free(text);
+}
+
+/* A text field may fill a text up to the limit; the line end behind it then makes the rendering too long. */
+static void long_rendering_is_refused(void)
+{
+    buffers lent;
+    size_t length = CHUNTAREK_TEXT_LIMIT, room = CHUNTAREK_TEXT_LIMIT;
+    uint8_t *text = malloc(length), *area = malloc(room);
+    CHECK(text != NULL && area != NULL);
+    memset(text, 'x', length);
+    memcpy(text, "data_x _a ;", 11);
+    memcpy(text + length - 2, "\n;", 2);
+    fill(&lent);
+    chuntarek_answer answer = chuntarek_read(text, length, lent.store, sizeof lent.store, area, room);
+    CHECK(is(answer, 0, 0, 0, 0, 0) && has_lengths(answer, 63, length - 10));
+    answer = chuntarek_render(lent.store, 63, area, length - 10, lent.text, sizeof lent.text);
+    CHECK(is(answer, 1, 0, 0, 0, 0) && has_lengths(answer, 0, 0) && untouched(lent.text, 0, sizeof lent.text));
+    free(area);
     free(text);
 }
 
@@ -212,22 +238,93 @@ static void records_are_walked(void)
     CHECK(record.number == 14);
 }
 
-/* An empty store, one that is cut short and one with a byte changed are told from a sound one. */
+/* Every function that takes a store refuses this one, and gives nothing out. */
+static void store_is_refused(const uint8_t *store, size_t store_length, const uint8_t *area, size_t area_length)
+{
+    uint8_t out[64];
+    memset(out, FILL, sizeof out);
+    chuntarek_answer answer = chuntarek_names(store, store_length, area, area_length);
+    CHECK(is(answer, 12, 0, 0, 0, 0) && has_lengths(answer, 0, 0));
+    answer = chuntarek_content(store, store_length, area, area_length, 0);
+    CHECK(is(answer, 12, 0, 0, 0, 0) && has_lengths(answer, 0, 0));
+    chuntarek_part part = chuntarek_content_part(store, store_length, area, area_length, 0);
+    CHECK(part.start == 0 && part.length == 0);
+    answer = chuntarek_render(store, store_length, area, area_length, out, sizeof out);
+    CHECK(is(answer, 12, 0, 0, 0, 0) && has_lengths(answer, 0, 0) && untouched(out, 0, sizeof out));
+}
+
+/* An empty store, one that is cut short, one with a byte changed, an area with a byte that is not ASCII, and an outline. */
 static void unsound_stores_are_refused(void)
 {
     buffers lent;
-    CHECK(is(chuntarek_names(nothing, 0, nothing, 0), 12, 0, 0, 0, 0));
-    CHECK(is(chuntarek_content(nothing, 0, nothing, 0, 0), 12, 0, 0, 0, 0));
-    CHECK(chuntarek_content_part(nothing, 0, nothing, 0, 0).length == 0);
-    CHECK(is(chuntarek_render(nothing, 0, nothing, 0, nothing, 0), 12, 0, 0, 0, 0));
+    store_is_refused(nothing, 0, nothing, 0);
     CHECK(chuntarek_record_at(nothing, 0, nothing, 0, 0).number == 14);
     read_text(SAMPLE, &lent, sizeof lent.store, sizeof lent.area);
-    CHECK(is(chuntarek_names(lent.store, SAMPLE_STORE - 1, lent.area, SAMPLE_AREA), 12, 0, 0, 0, 0));
-    CHECK(is(chuntarek_names(lent.store, SAMPLE_STORE, lent.area, SAMPLE_AREA - 1), 12, 0, 0, 0, 0));
+    store_is_refused(lent.store, SAMPLE_STORE - 1, lent.area, SAMPLE_AREA);
+    store_is_refused(lent.store, SAMPLE_STORE, lent.area, SAMPLE_AREA - 1);
+    store_is_refused(lent.store, SAMPLE_STORE, nothing, 0);
+    lent.area[0] = 0xC3;
+    store_is_refused(lent.store, SAMPLE_STORE, lent.area, SAMPLE_AREA);
+    lent.area[0] = 't';
     lent.store[0] = CHUNTAREK_TAG;
-    CHECK(is(chuntarek_names(lent.store, SAMPLE_STORE, lent.area, SAMPLE_AREA), 12, 0, 0, 0, 0));
-    CHECK(is(chuntarek_content(lent.store, SAMPLE_STORE, lent.area, SAMPLE_AREA, 0), 12, 0, 0, 0, 0));
-    CHECK(is(chuntarek_render(lent.store, SAMPLE_STORE, lent.area, SAMPLE_AREA, lent.text, sizeof lent.text), 12, 0, 0, 0, 0));
+    store_is_refused(lent.store, SAMPLE_STORE, lent.area, SAMPLE_AREA);
+    lent.store[0] = 16;
+    store_is_refused(lent.store, SAMPLE_STORE, lent.area, SAMPLE_AREA);
+    CHECK(chuntarek_record_at(lent.store, SAMPLE_STORE, lent.area, SAMPLE_AREA, 0).number == 14);
+    chuntarek_outline(bytes(SAMPLE), strlen(SAMPLE), lent.store, sizeof lent.store);
+    store_is_refused(lent.store, SAMPLE_OUTLINE, lent.area, SAMPLE_AREA);
+}
+
+/* So many bytes, directly before memory that no program may touch. */
+static uint8_t *at_the_edge(size_t length)
+{
+    size_t page = (size_t)sysconf(_SC_PAGESIZE);
+    CHECK(length <= page);
+    uint8_t *pages = mmap(NULL, 2 * page, PROT_READ | PROT_WRITE, MAP_PRIVATE | MAP_ANONYMOUS, -1, 0);
+    CHECK(pages != MAP_FAILED && mprotect(pages + page, page, PROT_NONE) == 0);
+    return pages + page - length;
+}
+
+/* Every function, with each buffer before such memory: a byte read or written behind a buffer ends the program. */
+static void nothing_behind_a_buffer_is_touched(void)
+{
+    size_t length = strlen(SAMPLE), rendered = strlen(SAMPLE_RENDERED);
+    uint8_t *text = at_the_edge(length), *store = at_the_edge(SAMPLE_STORE), *area = at_the_edge(SAMPLE_AREA);
+    uint8_t *outline = at_the_edge(SAMPLE_OUTLINE), *out = at_the_edge(rendered), *none = at_the_edge(0);
+    memcpy(text, SAMPLE, length);
+    CHECK(chuntarek_read(none, 0, none, 0, none, 0).number == 3);
+    CHECK(chuntarek_read(text, length, none, 0, none, 0).number == 10);
+    CHECK(chuntarek_read(text, length, store, SAMPLE_STORE, none, 0).number == 11);
+    CHECK(chuntarek_read(text, length, store, SAMPLE_STORE, area, SAMPLE_AREA).number == 0);
+    CHECK(chuntarek_outline(none, 0, none, 0).number == 3);
+    CHECK(chuntarek_outline(text, length, none, 0).number == 10);
+    CHECK(chuntarek_outline(text, length, outline, SAMPLE_OUTLINE).number == 0);
+    CHECK(chuntarek_render(none, 0, none, 0, none, 0).number == 12);
+    CHECK(chuntarek_render(store, SAMPLE_STORE, area, SAMPLE_AREA, none, 0).number == 11);
+    CHECK(chuntarek_render(store, SAMPLE_STORE, area, SAMPLE_AREA, out, rendered).number == 0);
+    for (size_t cut = 0; cut < SAMPLE_STORE; cut++) {
+        const uint8_t *rest = store + cut;
+        size_t rest_length = SAMPLE_STORE - cut;
+        CHECK(chuntarek_names(rest, rest_length, area, SAMPLE_AREA).number == (cut == 0 ? 0 : 12));
+        CHECK(chuntarek_content(rest, rest_length, area, SAMPLE_AREA, 0).number == (cut == 0 ? 0 : 12));
+        CHECK(chuntarek_content_part(rest, rest_length, area, SAMPLE_AREA, 6).length == (cut == 0 ? 1 : 0));
+        chuntarek_record record = chuntarek_record_at(rest, rest_length, area, SAMPLE_AREA, 0);
+        CHECK(record.next <= rest_length && record.start + record.content <= SAMPLE_AREA);
+    }
+}
+
+/* Every start of a text that holds every kind of token: it ends within each of them once. */
+static void nothing_behind_a_text_is_read(void)
+{
+    static const char whole[] = "data_x save_f _a 'b' save_ #c\r\nloop_ _d -1.25e-3(4) ? .5 . 1e \"e\" f\n;g\n;";
+    size_t room = sizeof whole - 1;
+    uint8_t *end = at_the_edge(room) + room, *none = at_the_edge(0);
+    for (size_t length = 0; length <= room; length++) {
+        memcpy(end - length, whole, length);
+        chuntarek_answer read = chuntarek_read(end - length, length, none, 0, none, 0);
+        chuntarek_answer outline = chuntarek_outline(end - length, length, none, 0);
+        CHECK(read.number >= 3 && read.number <= 10 && outline.number == read.number && outline.offset == read.offset);
+    }
 }
 
 int main(void)
@@ -237,10 +334,13 @@ int main(void)
     outline_is_written();
     texts_are_refused();
     long_text_is_refused();
+    long_rendering_is_refused();
     sample_is_rendered();
     contents_are_found();
     names_are_checked();
     records_are_walked();
     unsound_stores_are_refused();
+    nothing_behind_a_buffer_is_touched();
+    nothing_behind_a_text_is_read();
     return 0;
 }

@@ -92,12 +92,7 @@ fn note(
         }
         return;
     }
-    // A text at the limit is not worth twenty thousand copies.
-    let smallest = if text.len() < 100_000 {
-        shrink(text, keeps)
-    } else {
-        text.to_vec()
-    };
+    let smallest = shrink(text, keeps);
     found.insert(kind.to_string(), Found { count: 1, smallest });
 }
 

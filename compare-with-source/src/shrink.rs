@@ -3,13 +3,14 @@
 /// Simple bytes, simplest first; a byte is only replaced by one that stands before it.
 const SIMPLE: &[u8] = b" a1\n_";
 
-/// How many texts may be tried.
+/// How many texts may be tried, and how many bytes they may have together: a long text is tried less often.
 const TRIES: usize = 20_000;
+const BYTES: usize = 200_000_000;
 
 /// A small text of which `keeps` still holds.
 pub fn shrink(text: &[u8], keeps: impl Fn(&[u8]) -> bool) -> Vec<u8> {
     let mut small = text.to_vec();
-    let mut tries = TRIES;
+    let mut tries = TRIES.min(BYTES / text.len().max(1));
     loop {
         let length = small.len();
         small = without_pieces(small, &keeps, &mut tries);
@@ -26,7 +27,7 @@ fn without_pieces(mut text: Vec<u8>, keeps: &impl Fn(&[u8]) -> bool, tries: &mut
     let mut size = text.len().max(1);
     while size > 0 {
         let mut at = 0;
-        while at < text.len() {
+        while at < text.len() && *tries > 0 {
             let end = (at + size).min(text.len());
             let shorter = [&text[..at], &text[end..]].concat();
             if tried(&shorter, keeps, tries) {
@@ -43,6 +44,9 @@ fn without_pieces(mut text: Vec<u8>, keeps: &impl Fn(&[u8]) -> bool, tries: &mut
 /// Puts simpler bytes in.
 fn simpler_bytes(mut text: Vec<u8>, keeps: &impl Fn(&[u8]) -> bool, tries: &mut usize) -> Vec<u8> {
     for at in 0..text.len() {
+        if *tries == 0 {
+            break;
+        }
         let old = text[at];
         let lower = [old.to_ascii_lowercase()];
         let simpler = SIMPLE.iter().chain(&lower);
@@ -80,5 +84,18 @@ mod tests {
                 .is_some_and(|byte| byte.eq_ignore_ascii_case(&b'q'))
         };
         assert_eq!(shrink(b"Qx", letter), b"q");
+        assert_eq!(shrink(b"", |_| true), b"");
+    }
+
+    #[test]
+    fn a_long_text_is_tried_a_few_times() {
+        let tries = std::cell::Cell::new(0);
+        let never = |_: &[u8]| {
+            tries.set(tries.get() + 1);
+            false
+        };
+        let text = vec![b'x'; 50_000_000];
+        assert_eq!(shrink(&text, never), text);
+        assert_eq!(tries.get(), 4);
     }
 }

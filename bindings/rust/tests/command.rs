@@ -121,7 +121,7 @@ fn check_says_what_is_wrong_and_shows_where() {
     let messages = [
         (
             "02-not-ascii",
-            "2:11: refused 2: this byte is not plain ASCII, as every byte of a CIF file is\n    _author 'Müller'\n              ^\n",
+            "2:11: refused 2: the character U+00FC is not plain ASCII, as every byte of a CIF file is\n    _author 'Müller'\n              ^\n",
         ),
         (
             "03-no-data",

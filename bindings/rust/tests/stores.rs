@@ -5,18 +5,20 @@ mod common;
 use chuntarek::{content, names, outline, record_at, render, Document};
 use common::*;
 
-/// The number that each service answers, which is 12 for all of them or for none.
+/// Whether a store is sound, which every service that takes one has to say alike.
 fn is_sound(store: &[u8], area: &[u8]) -> bool {
-    let named = names(store, area).number;
-    let rendered = render(store, area, &mut []);
+    let named = names(store, area);
+    let mut out = [FILL; 48];
+    let rendered = render(store, area, &mut out);
     let found = content(store, area, u64::MAX).expect_err("no store is that long");
-    let refused = [named == 12, rendered.number == 12, found.number == 12];
+    let refused = [named.number, rendered.number, found.number].map(|number| number == 12);
     assert!(refused == [true; 3] || refused == [false; 3], "{refused:?}");
-    if named == 12 {
-        assert_eq!(names(store, area), answer(12, 0, 0));
-        assert_eq!(rendered, answer(12, 0, 0));
+    if named.number == 12 {
+        assert_eq!([named, rendered], [answer(12, 0, 0); 2]);
+        assert_eq!(out, [FILL; 48]);
+        assert_eq!(content(store, area, 0), Err(found));
     }
-    named != 12
+    named.number != 12
 }
 
 /// What holds of any bytes: walks end within the store, contents stay within the area.
@@ -251,6 +253,9 @@ fn a_record_is_found_by_its_offset() {
     }
     for at in 0..183 {
         walk(&sample.store()[at..], sample.area());
+        if let Ok(record) = record_at(sample.store(), sample.area(), at) {
+            assert!(record.next > at && record.next <= 183, "{at}");
+        }
     }
     assert!(record_at(&[], &[], 0).is_err());
     assert!(record_at(&sample.store()[..20], sample.area(), 0).is_err());
@@ -263,6 +268,8 @@ fn a_kept_store_is_taken_up_again() {
     assert_eq!(Document::from_parts(store.clone(), area), Ok(sample));
     let refused = Document::from_parts(store, b"tabc".to_vec());
     assert_eq!(refused.map_err(|refusal| refusal.number), Err(12));
+    let empty = Document::from_parts(Vec::new(), Vec::new());
+    assert_eq!(empty.map_err(|refusal| refusal.number), Err(12));
 }
 
 #[test]

@@ -9,11 +9,33 @@ pub fn hint(text: &[u8], refusal: &Refusal) -> Option<String> {
     let offset = usize::try_from(refusal.place?.offset).ok()?;
     let (before, rest) = text.split_at_checked(offset)?;
     match refusal.number {
-        number::NOT_ASCII => other_encoding(text).map(String::from),
+        number::NOT_ASCII => Some(instead_of_ascii(text, rest)),
         number::NO_DATA => Some(instead_of_block(text, rest)),
-        number::NO_ITEM => instead_of_item(before, rest).map(String::from),
+        number::NO_ITEM => match instead_of_item(before, rest) {
+            None => control_character(rest),
+            hint => hint.map(String::from),
+        },
         _ => None,
     }
+}
+
+/// What is not ASCII, by its number, as some such characters look like a space.
+fn instead_of_ascii(text: &[u8], rest: &[u8]) -> String {
+    if let Some(encoding) = other_encoding(text) {
+        return String::from(encoding);
+    }
+    let found = match (first_character(rest), rest.first()) {
+        (Some(character), _) => format!("the character U+{:04X}", u32::from(character)),
+        (None, Some(byte)) => format!("the byte {byte:02X}"),
+        (None, None) => String::from("this byte"),
+    };
+    format!("{found} is not plain ASCII, as every byte of a CIF file is")
+}
+
+/// The character that bytes begin with, if they do in UTF-8.
+fn first_character(bytes: &[u8]) -> Option<char> {
+    let chunk = bytes.utf8_chunks().next()?;
+    chunk.valid().chars().next()
 }
 
 /// Files that are no ASCII text from their first byte on.
@@ -50,12 +72,17 @@ fn instead_of_block(text: &[u8], rest: &[u8]) -> String {
     }
 }
 
-/// What stands where a tag, a loop or a frame is expected.
+/// What stands where a tag, a loop or a frame is expected, unless it cannot be shown.
 fn instead_of_item(before: &[u8], rest: &[u8]) -> Option<&'static str> {
     const LONE_VALUE: &str = "a value stands here that belongs to no tag";
     if before.ends_with(b"'") || before.ends_with(b"\"") {
         return Some(
             "the mark before this closes its quote: a text that holds this mark stands between marks of the other kind",
+        );
+    }
+    if ends_with(before, b"save_") {
+        return Some(
+            "the `save_` before this closes the open frame, and no name follows it: a closing `save_` is missing above",
         );
     }
     if starts_with(rest, b"data_") {
@@ -76,14 +103,26 @@ fn instead_of_item(before: &[u8], rest: &[u8]) -> Option<&'static str> {
         33..=126 => Some(
             "a value stands here that belongs to no tag (a text with spaces needs quote marks)",
         ),
-        _ => Some("a control character stands here"),
+        _ => None,
     }
+}
+
+fn control_character(rest: &[u8]) -> Option<String> {
+    let byte = rest.first()?;
+    Some(format!("the control character {byte:02X} stands here"))
 }
 
 /// Keywords match in any letter case.
 fn starts_with(rest: &[u8], keyword: &[u8]) -> bool {
     rest.get(..keyword.len())
         .is_some_and(|start| start.eq_ignore_ascii_case(keyword))
+}
+
+fn ends_with(before: &[u8], keyword: &[u8]) -> bool {
+    let start = before.len().saturating_sub(keyword.len());
+    before
+        .get(start..)
+        .is_some_and(|end| end.eq_ignore_ascii_case(keyword))
 }
 
 fn is_line_end(byte: u8) -> bool {
@@ -132,6 +171,12 @@ mod tests {
     }
 
     #[test]
+    fn a_frame_that_is_not_closed_before_the_next_is_named() {
+        let hint = hinted(b"data_x save_f _a 1 Save_g _a 2 save_");
+        assert!(hint.starts_with("the `save_` before this closes the open frame"));
+    }
+
+    #[test]
     fn what_is_not_closed_is_named() {
         assert!(hinted(b"data_x loop_ _a b 'c\n'").starts_with("this quote is not closed"));
         assert!(hinted(b"data_x loop_ _a b \"c").starts_with("this quote is not closed"));
@@ -141,7 +186,10 @@ mod tests {
     #[test]
     fn characters_that_begin_nothing_are_named() {
         assert!(hinted(b"data_x loop_ _a b [c]").starts_with("no value begins with this"));
-        assert_eq!(hinted(b"data_x\x0c"), "a control character stands here");
+        assert_eq!(
+            hinted(b"data_x\x0c"),
+            "the control character 0C stands here"
+        );
         assert!(hinted(b"data_x Stop_").starts_with("this word is reserved"));
     }
 
@@ -164,9 +212,22 @@ mod tests {
         assert!(hinted(b"\xff\xfed\0").contains("UTF-16"));
     }
 
+    /// A space that does not break a line cannot be told from others by looking.
+    #[test]
+    fn what_is_not_ascii_is_named() {
+        let is_not = "is not plain ASCII, as every byte of a CIF file is";
+        for (text, found) in [
+            (&b"data_x 'a\xc2\xa0b'"[..], "the character U+00A0"),
+            (b"data_x '\xf0\x9f\x98\x80'", "the character U+1F600"),
+            (b"data_x 'M\xfcller'", "the byte FC"),
+            (b"data_x '\xc3", "the byte C3"),
+        ] {
+            assert_eq!(hinted(text), format!("{found} {is_not}"));
+        }
+    }
+
     #[test]
     fn other_refusals_say_enough_themselves() {
         assert_eq!(hinted(b"data_x loop_"), "");
-        assert_eq!(hinted(b"data_x 'M\xfcller'"), "");
     }
 }
