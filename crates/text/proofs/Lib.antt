@@ -1,5 +1,6 @@
 pub mod Bools
 pub mod Ranges
 pub mod Runs
+pub mod Lines
 pub mod Gaps
 pub mod Places

@@ -3,7 +3,8 @@ ghost use mathlib.Core.Path.{_≡_};
 ghost use Prim.Native.Nat.{_≤_, _<_, _^_};
 ghost use lib.ListN.{length};
 ghost use Rattle.text.specs.Bytes.{isAscii, isDigit, isEol, isSpace, endsWord};
-ghost use Rattle.text.specs.Runs.{span};
+ghost use Rattle.text.specs.Runs.{span, runs};
+ghost use Rattle.text.specs.Lines.{inLine, lineEnd};
 ghost use Rattle.text.specs.Gaps.{gapByte, gapThen, gapEnd};
 ghost use Rattle.text.specs.Places.{step as stepOf, placeAt, IsPlace};
 
@@ -76,13 +77,71 @@ pub fn ends_word(b: u8) -> bool
     b == 12
 }
 
+// Whether 32 bytes below 128 stand at an offset. Every byte is looked at, so that they are compared many at once.
+fn is_ascii_block(s: &[u8], at: usize) -> bool
+    ensures { λ r. ⌜ r ≡ runs isAscii 32 (now (s .entry)) at ⌝ }
+{
+    if s.len() < 32 {
+        return false;
+    }
+    if s.len() - 32 < at {
+        return false;
+    }
+    let mut high = false;
+    let mut i = 0;
+    while i < 32 {
+        high = high | (128 <= s[at + i]);
+        i += 1;
+    }
+    !high
+}
+
 // How many bytes stand before the first that is 128 or more.
 pub fn ascii_end(s: &[u8]) -> usize
     ensures { λ r. ⌜ r ≡ span isAscii (now (s .entry)) ⌝ }
 {
     let mut at = 0;
+    while is_ascii_block(s, at) {
+        at += 32;
+    }
     while at < s.len() {
         if 128 <= s[at] {
+            return at;
+        }
+        at += 1;
+    }
+    at
+}
+
+// Whether 16 bytes that end no line stand at an offset; every byte is looked at here too.
+fn is_line_block(s: &[u8], at: usize) -> bool
+    ensures { λ r. ⌜ r ≡ runs inLine 16 (now (s .entry)) at ⌝ }
+{
+    if s.len() < 16 {
+        return false;
+    }
+    if s.len() - 16 < at {
+        return false;
+    }
+    let mut ends = false;
+    let mut i = 0;
+    while i < 16 {
+        ends = ends | is_eol(s[at + i]);
+        i += 1;
+    }
+    !ends
+}
+
+// Where the line that goes on at an offset ends: at its LF or CR, or at the text's end.
+pub fn line_end(s: &[u8], from: usize) -> usize
+    ensures { λ r. ⌜ r ≡ lineEnd (now (s .entry)) from ⌝ }
+{
+    let mut at = from;
+    while is_line_block(s, at) {
+        at += 16;
+    }
+    while at < s.len() {
+        if is_eol(s[at]) {
             return at;
         }
         at += 1;
