@@ -1,6 +1,6 @@
 -- What a test's answer says of its parts. Assumes nothing.
 use mathlib.Core.Path.{_≡_, refl, sym}
-use mathlib.Core.Bool.{Bool, true, false, cond, _&&_, _||_, true≢false}
+use mathlib.Core.Bool.{Bool, true, false, cond, not, _&&_, _||_, true≢false}
 
 pub or-l : (a b : Bool) → (a || b) ≡ false → a ≡ false
 or-l true b e = e
@@ -22,3 +22,11 @@ and-r false b e = absurd (true≢false (sym e))
 pub or-cases : (a b : Bool) {A : Type 0} → (a ≡ true → A) → (b ≡ true → A) → (a || b) ≡ true → A
 or-cases true b f g e = f refl
 or-cases false b f g e = g e
+
+pub not-and : (a b : Bool) → not (a && b) ≡ (not a || not b)
+not-and true b = refl
+not-and false b = refl
+
+pub not-not : (a : Bool) → not (not a) ≡ a
+not-not true = refl
+not-not false = refl

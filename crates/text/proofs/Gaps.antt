@@ -4,14 +4,18 @@ use mathlib.Core.Path.{_≡_, refl, sym, ap, _∙_}
 use mathlib.Core.Bool.{Bool, true, false, cond, not, _||_, true≢false}
 use mathlib.Core.List.{List, [], _∷_}
 use native.Mathlib.Numerals.{add-one}
-use native.Mathlib.Nat.{add-suc, add-zero, suc-add}
+use native.Mathlib.Nat.{add-suc, add-zero, suc-add, zero-add}
 use native.Mathlib.Omega.{arith}
+use borrow.Author.Tests.{eqb-true, ne-eqb}
 use lib.Dec.{eqb}
 use lib.ListN.{length, drop, getD, length-drop, drop-of-length-le}
 use lib.Seq.{drop-cons, drop-drop, getD-drop}
 use Rattle.text.specs.Bytes.{is, isEol, isSpace}
 use Rattle.text.specs.Gaps.{gapByte, gapThen, gapIn, gap, gapEnd}
-use Rattle.text.proofs.Bools.{or-l, or-r}
+use Rattle.text.specs.Runs.{span, spanEnd}
+use Rattle.text.specs.Lines.{inLine, lineEnd}
+use Rattle.text.proofs.Bools.{or-l, or-r, or-cases}
+use Rattle.text.proofs.Lines.{line-go, line-from}
 
 -- byte by byte
 pub gap-go : (m : Bool) (s : List ℕ) (at : ℕ) → at < length s → gapByte m (getD s at 0) ≡ true → at + gapIn m (drop at s) ≡ at + 1 + gapIn (gapThen m (getD s at 0)) (drop (at + 1) s)
@@ -94,3 +98,77 @@ gap-rest s = gapIn-rest false s
 pub gap-none : (s : List ℕ) (o : ℕ) → gap (drop (gapEnd s o) s) ≡ 0
 unfolding gapEnd
 gap-none s o = rw (← drop-drop (gap (drop o s)) o s) (gap-rest (drop o s))
+
+-- by the byte that stands there: over a space, over a comment to its line's end, not over another byte
+
+space-gap : (b : ℕ) → isSpace b ≡ true → gapByte false b ≡ true
+unfolding gapByte
+space-gap b e = rw e
+
+-- no space is `#`
+space-plain : (b : ℕ) → isSpace b ≡ true → is 35 b ≡ false
+unfolding isSpace is
+space-plain b e =
+    or-cases (eqb b 32 || eqb b 9 || eqb b 10) (eqb b 13)
+    (or-cases (eqb b 32 || eqb b 9) (eqb b 10) (or-cases (eqb b 32) (eqb b 9) (λ t. by 32 (eqb-true b 32 t) refl) (λ t. by 9 (eqb-true b 9 t) refl)) (λ t. by 10 (eqb-true b 10 t) refl))
+    (λ t. by 13 (eqb-true b 13 t) refl)
+    e
+  where
+    by : (n : ℕ) → b ≡ n → eqb n 35 ≡ false → eqb b 35 ≡ false
+    by n q h = rw q h
+
+-- a byte of a line end is a space
+eol-space : (b : ℕ) → isEol b ≡ true → isSpace b ≡ true
+unfolding isEol isSpace
+eol-space b e = or-cases (eqb b 10) (eqb b 13) (λ t. by 10 (eqb-true b 10 t) refl) (λ t. by 13 (eqb-true b 13 t) refl) e
+  where
+    by : (n : ℕ) → b ≡ n → isSpace n ≡ true → isSpace b ≡ true
+    by n q h = rw q h
+
+pub gap-space : (s : List ℕ) (o : ℕ) → o < length s → isSpace (getD s o 0) ≡ true → gapEnd s o ≡ gapEnd s (o + 1)
+unfolding gapEnd gap gapThen
+gap-space s o h e = gap-go false s o h (space-gap (getD s o 0) e) ∙ rw (space-plain (getD s o 0) e)
+
+pub gap-other : (s : List ℕ) (o : ℕ) → o < length s → isSpace (getD s o 0) ≡ false → ¬ (getD s o 0 ≡ 35) → gapEnd s o ≡ o
+unfolding gapEnd gap gapByte is
+gap-other s o h e f = gap-stop false s o h (rw (e, ne-eqb (getD s o 0) 35 f))
+
+-- in a comment, to the line's end
+comment-line : (s : List ℕ) → gapIn true s ≡ span inLine s + gapIn false (drop (span inLine s) s)
+unfolding gapIn span gapByte gapThen inLine
+comment-line [] = refl
+comment-line (b ∷ s) = by (isEol b) refl (comment-line s)
+  where
+    by : (t : Bool) → isEol b ≡ t → gapIn true s ≡ span inLine s + gapIn false (drop (span inLine s) s) →
+        suc (gapIn (not t) s) ≡ cond (not t) (suc (span inLine s)) 0 + gapIn false (drop (cond (not t) (suc (span inLine s)) 0) (b ∷ s))
+    by true e h = rw (space-plain b (eol-space b e), eol-space b e, zero-add)
+    by false e h = omega (arith, h)
+
+comment-on : (s : List ℕ) (o : ℕ) → o + gapIn true (drop o s) ≡ gapEnd s (lineEnd s o)
+unfolding gapEnd gap lineEnd spanEnd
+comment-on s o = rw (comment-line (drop o s), drop-drop (span inLine (drop o s)) o s) (omega arith)
+
+hash-plain : (b : ℕ) → b ≡ 35 → isEol b ≡ false
+unfolding isEol
+hash-plain b q = rw q
+
+hash-gap : (b : ℕ) → b ≡ 35 → gapByte false b ≡ true
+unfolding gapByte isSpace is
+hash-gap b q = rw q
+
+hash-then : (b : ℕ) → b ≡ 35 → gapThen false b ≡ true
+unfolding gapThen is
+hash-then b q = rw q
+
+module _ (s : List ℕ) (o : ℕ) (h : o < length s) (q : getD s o 0 ≡ 35) where
+  pub gap-comment : gapEnd s o ≡ gapEnd s (lineEnd s o)
+  unfolding gapEnd gap
+  gap-comment =
+      gap-go false s o h (hash-gap (getD s o 0) q)
+      ∙ ap (λ (m : Bool). o + 1 + gapIn m (drop (o + 1) s)) (hash-then (getD s o 0) q)
+      ∙ comment-on s (o + 1)
+      ∙ ap (gapEnd s) (sym (line-go s o h (hash-plain (getD s o 0) q)))
+
+  -- a comment has a byte
+  pub comment-goes : o < lineEnd s o
+  comment-goes = omega (arith, line-go s o h (hash-plain (getD s o 0) q), line-from s (o + 1))

@@ -1,6 +1,7 @@
 pub mod Bools
 pub mod Ranges
 pub mod Runs
+pub mod Lines
 pub mod Gaps
 pub mod Places
 pub mod Shape

@@ -8,13 +8,15 @@ use native.Mathlib.Nat.{add-suc, add-zero, suc-add}
 use native.Mathlib.Omega.{arith}
 use lib.Dec.{eqb}
 use lib.ListN.{length, take, drop, getD, length-take}
-use lib.Seq.{take-suc, take-all, getD-drop}
+use lib.Seq.{take-suc, take-all, getD-drop, getD-take, length-take-le}
 use Rattle.text.specs.declared.Place.{Place}
 use Rattle.text.specs.declared.Scan.{Scan}
 use Rattle.text.specs.Bytes.{isEol}
 use Rattle.text.specs.Gaps.{gapEnd}
-use Rattle.text.specs.Places.{start, over, step, scan, scanAt, placeAt, closes, Whole, IsPlace}
+use Rattle.text.specs.Lines.{lineEnd}
+use Rattle.text.specs.Places.{start, over, step, scan, scanAt, placeAt, closes, along as alongOf, Whole, IsPlace}
 use Rattle.text.proofs.Bools.{or-l, or-r}
+use Rattle.text.proofs.Lines.{line-go, line-from, line-within, line-plain}
 use Rattle.text.proofs.Gaps.{gap-stops, gap-within}
 
 -- Scanning
@@ -150,6 +152,37 @@ along s o (suc n) h f =
       line = ap (λ (c : Scan). c .line) e ∙ i .line;
       column = ap (λ (c : Scan). c .column) e ∙ omega (arith, i .column);
       half = λ p. ap (λ (c : Scan). c .half) e;
+    }
+
+-- as a scan keeps it
+pub like-along : (s : List ℕ) (o e b : ℕ) (c : Scan) → o < e → e ≤ length s → ((k : ℕ) → o ≤ k → k < e → isEol (getD s k 0) ≡ false) → Like c (scanAt s o) b → Like (alongOf c (e - o)) (scanAt s e) (getD s e 0)
+unfolding alongOf
+like-along s o e b c l h f i =
+    let k : o + (e - o) ≡ e = omega arith in
+    let a : Along s o (e - o) = along s o (e - o) (omega arith) (λ j u w. f j u (omega arith)) in
+    record {
+      line = i .line ∙ sym (a .line) ∙ ap (λ (j : ℕ). scanAt s j .line) k;
+      column = ap (λ (j : ℕ). j + (e - o)) (i .column) ∙ sym (a .column) ∙ ap (λ (j : ℕ). scanAt s j .column) k;
+      closing = ap (λ (j : ℕ). closes j (getD s e 0)) (sym (a .half (omega arith)) ∙ ap (λ (j : ℕ). scanAt s j .half) k);
+    }
+
+-- the rest of a line within the first n bytes
+pub record Rest (s : List ℕ) (o n e : ℕ) : Type 0 where
+  pub goes : o < e
+  pub fits : e ≤ n
+  pub plain : (k : ℕ) → o ≤ k → k < e → isEol (getD s k 0) ≡ false
+
+pub line-rest : (s : List ℕ) (o n : ℕ) → o < n → n ≤ length s → isEol (getD s o 0) ≡ false → Rest s o n (lineEnd (take n s) o)
+line-rest s o n l h e =
+    let t = take n s in
+    let w : length t ≡ n = length-take-le n s h in
+    let f : (k : ℕ) → k < n → getD t k 0 ≡ getD s k 0 = λ k g. getD-take n s k 0 g in
+    let p : isEol (getD t o 0) ≡ false = rw (f o l) e in
+    let fit : lineEnd t o ≤ n = omega (arith, line-within t o (omega arith)) in
+    record {
+      goes = omega (arith, line-go t o (omega arith) p, line-from t (o + 1));
+      fits = fit;
+      plain = λ k u v. rw (f k (omega arith)) at (line-plain t o k u v);
     }
 
 pub place-along : (s : List ℕ) (p : Place) (e : ℕ) → p ≡ placeAt s (p .offset) → p .offset ≤ e → e ≤ length s → ((k : ℕ) → p .offset ≤ k → k < e → isEol (getD s k 0) ≡ false) →

@@ -3,9 +3,9 @@ use Prim.Native.Nat.{ℕ, zero, suc, _+_, _-_, _≤_, _<_}
 use mathlib.Core.Bool.{Bool, true, false, not, _&&_}
 use mathlib.Core.Path.{_≡_, refl}
 use native.Mathlib.Omega.{arith}
-use borrow.Author.Tests.{leb-true, eqb-true, eqb-false, not-true}
-use lib.Dec.{leb, eqb}
-use Rattle.text.specs.Bytes.{isDigit}
+use borrow.Author.Tests.{leb-true, lt-leb, le-leb, ltb-true, ltb-false, eqb-true, eqb-false, not-true}
+use lib.Dec.{leb, ltb, eqb}
+use Rattle.text.specs.Bytes.{isAscii, isDigit}
 use Rattle.text.proofs.Bools.{and-l, and-r}
 
 -- all numbers below n pass
@@ -43,3 +43,12 @@ digit-is f e b d =
 -- one that fails at them fails
 pub digit-not : (f : ℕ → Bool) → allBelow (λ k. not (f (48 + k))) 10 ≡ true → (b : ℕ) → isDigit b ≡ true → f b ≡ false
 digit-not f e b d = not-true (f b) (digit-is (λ x. not (f x)) e b d)
+
+-- 128 or more is what is not ASCII
+pub high-byte : (b : ℕ) → leb 128 b ≡ not (isAscii b)
+unfolding isAscii
+high-byte b = by (ltb b 128) refl
+  where
+    by : (t : Bool) → ltb b 128 ≡ t → leb 128 b ≡ not t
+    by true e = lt-leb 128 b (ltb-true b 128 e)
+    by false e = le-leb 128 b (ltb-false b 128 e)

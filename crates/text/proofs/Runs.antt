@@ -1,14 +1,17 @@
 -- Laws of `span` and `spanEnd`, for any class. Assumes nothing.
 use Prim.Native.Nat.{ℕ, zero, suc, _+_, _-_, _≤_, _<_}
-use mathlib.Core.Path.{_≡_, refl}
-use mathlib.Core.Bool.{Bool, true, false, cond}
+use mathlib.Core.Path.{_≡_, refl, sym}
+use mathlib.Core.Bool.{Bool, true, false, cond, not, _&&_, _||_}
 use mathlib.Core.List.{List, [], _∷_}
 use native.Mathlib.Numerals.{add-one}
-use native.Mathlib.Nat.{add-suc, add-zero, suc-add}
+use native.Mathlib.Nat.{add-suc, add-zero, suc-add, zero-add}
 use native.Mathlib.Omega.{arith}
+use borrow.Author.Tests.{lt-leb, leb-true}
+use lib.Dec.{leb, leb·zero, leb·suc-zero, leb·suc-suc}
 use lib.ListN.{length, drop, getD, length-drop, drop-of-length-le, List·getD-eq-default}
-use lib.Seq.{drop-cons, getD-drop}
-use Rattle.text.specs.Runs.{span, spanEnd}
+use lib.Seq.{drop-cons, drop-drop, getD-drop}
+use Rattle.text.specs.Runs.{span, spanEnd, runs}
+use Rattle.text.proofs.Bools.{not-and}
 
 module _ (p : ℕ → Bool) (s : List ℕ) (o : ℕ) where
   -- one byte more, the run's end, the text's end
@@ -61,3 +64,66 @@ unfolding spanEnd
 span-all p s i k h l =
     let e : i + (k - i) ≡ k = omega arith in
     rw (← e, ← getD-drop i s (k - i) 0) (span-at p (drop i s) (k - i) (omega arith))
+
+span-rest : (p : ℕ → Bool) (s : List ℕ) → span p s < length s → p (getD s (span p s) 0) ≡ false
+unfolding span
+span-rest p [] h = absurd (omega arith)
+span-rest p (b ∷ s) h = by (p b) refl h (span-rest p s)
+  where
+    by : (t : Bool) → p b ≡ t → cond t (suc (span p s)) 0 < suc (length s) → (span p s < length s → p (getD s (span p s) 0) ≡ false) → p (getD (b ∷ s) (cond t (suc (span p s)) 0) 0) ≡ false
+    by true e h f = f (omega arith)
+    by false e h f = e
+
+-- and the byte behind it is not
+pub span-ends : (p : ℕ → Bool) (s : List ℕ) (o : ℕ) → spanEnd p s o < length s → p (getD s (spanEnd p s o) 0) ≡ false
+unfolding spanEnd
+span-ends p s o h = rw (← getD-drop o s (span p (drop o s)) 0) (span-rest p (drop o s) (omega (arith, length-drop o s)))
+
+-- blocks: one byte more, and over n bytes of the class at once
+
+span-more : (p : ℕ → Bool) (s : List ℕ) (n : ℕ) → n < length s → leb (suc n) (span p s) ≡ (leb n (span p s) && p (getD s n 0))
+unfolding span
+span-more p [] n h = absurd (omega arith)
+span-more p (b ∷ s) n h = by n (p b) refl h (span-more p s)
+  where
+    by : (n : ℕ) (t : Bool) → p b ≡ t → n < suc (length s) → ((j : ℕ) → j < length s → leb (suc j) (span p s) ≡ (leb j (span p s) && p (getD s j 0))) → leb (suc n) (cond t (suc (span p s)) 0) ≡ (leb n (cond t (suc (span p s)) 0) && p (getD (b ∷ s) n 0))
+    by zero true e h f = rw (e, leb·suc-suc, leb·zero, leb·zero)
+    by zero false e h f = rw (e, leb·suc-zero)
+    by (suc n) true e h f = rw (leb·suc-suc, leb·suc-suc) (f n (omega arith))
+    by (suc n) false e h f = rw (leb·suc-zero, leb·suc-zero)
+
+module _ (p : ℕ → Bool) (s : List ℕ) (o : ℕ) where
+  pub runs-none : runs p 0 s o ≡ true
+  unfolding runs
+  runs-none = leb·zero (span p (drop o s))
+
+  pub runs-more : (n : ℕ) → o + n < length s → runs p (n + 1) s o ≡ (runs p n s o && p (getD s (o + n) 0))
+  unfolding runs
+  runs-more n h = rw (add-one, ← getD-drop o s n 0) (span-more p (drop o s) n (omega (arith, length-drop o s)))
+
+  pub runs-short : (n : ℕ) → length s < o + n → 0 < n → runs p n s o ≡ false
+  unfolding runs
+  runs-short n h i = lt-leb n (span p (drop o s)) (omega (arith, span-le p (drop o s), length-drop o s))
+
+  -- as a scan keeps it: has a byte of another class been met
+  pub runs-met : (n : ℕ) (t : Bool) → o + n < length s → t ≡ not (p (getD s (o + n) 0)) → (not (runs p n s o) || t) ≡ not (runs p (n + 1) s o)
+  runs-met n t h e = rw (runs-more n h, e, not-and)
+
+  pub runs-fits : (n : ℕ) → runs p n s o ≡ true → 0 < n → o + n ≤ length s
+  unfolding runs
+  runs-fits n e i = omega (arith, leb-true n (span p (drop o s)) e, span-le p (drop o s), length-drop o s)
+
+span-drop : (p : ℕ → Bool) (n : ℕ) (s : List ℕ) → n ≤ span p s → span p s ≡ n + span p (drop n s)
+unfolding span
+span-drop p zero s h = sym (zero-add _)
+span-drop p (suc n) [] h = absurd (omega arith)
+span-drop p (suc n) (b ∷ s) h = by (p b) h (span-drop p n s)
+  where
+    by : (t : Bool) → suc n ≤ cond t (suc (span p s)) 0 → (n ≤ span p s → span p s ≡ n + span p (drop n s)) → cond t (suc (span p s)) 0 ≡ suc n + span p (drop n s)
+    by true h f = omega (arith, f (omega arith))
+    by false h f = absurd (omega arith)
+
+-- n bytes of the class may be skipped
+pub span-block : (p : ℕ → Bool) (s : List ℕ) (o n : ℕ) → runs p n s o ≡ true → spanEnd p s o ≡ spanEnd p s (o + n)
+unfolding runs spanEnd
+span-block p s o n e = rw (← drop-drop n o s) (omega (arith, span-drop p n (drop o s) (leb-true n (span p (drop o s)) e)))

@@ -1,5 +1,6 @@
 pub mod Bytes
 pub mod Runs
+pub mod Lines
 pub mod Gaps
 pub mod Places
 pub mod Reports

@@ -28,6 +28,10 @@ over false line b = record { line = line + 1; column = 1; half = b }
 unfoldable pub step : Scan → ℕ → Scan
 step c b = cond (isEol b) (over (closes (c .half) b) (c .line) b) (record { line = c .line; column = c .column + 1; half = 0 })
 
+-- over n bytes that end no line
+unfoldable pub along : Scan → ℕ → Scan
+along c n = record { line = c .line; column = c .column + n; half = 0 }
+
 unfoldable pub scan : Scan → List ℕ → Scan
 scan c [] = c
 scan c (b ∷ s) = scan (step c b) s

@@ -1,11 +1,12 @@
 // Bytes and places: classes of bytes, the place of an offset, and the step over space and comments.
 ghost use mathlib.Core.Path.{_≡_};
-ghost use Prim.Native.Nat.{_≤_, _<_, _^_};
+ghost use Prim.Native.Nat.{_+_, _≤_, _<_, _^_};
 ghost use lib.ListN.{length};
 ghost use Rattle.text.specs.Bytes.{isAscii, isDigit, isEol, isSpace, endsWord};
-ghost use Rattle.text.specs.Runs.{span};
-ghost use Rattle.text.specs.Gaps.{gapByte, gapThen, gapEnd};
-ghost use Rattle.text.specs.Places.{step as stepOf, placeAt, IsPlace};
+ghost use Rattle.text.specs.Runs.{span, runs};
+ghost use Rattle.text.specs.Lines.{inLine, lineEnd};
+ghost use Rattle.text.specs.Gaps.{gapEnd};
+ghost use Rattle.text.specs.Places.{step as stepOf, along as alongOf, placeAt, IsPlace};
 
 // Where a byte stands in a text.
 pub struct Place {
@@ -76,13 +77,71 @@ pub fn ends_word(b: u8) -> bool
     b == 12
 }
 
+// Whether 32 bytes below 128 stand at an offset. Every byte is looked at, so that they are compared many at once.
+fn is_ascii_block(s: &[u8], at: usize) -> bool
+    ensures { λ r. ⌜ r ≡ runs isAscii 32 (now (s .entry)) at ⌝ }
+{
+    if s.len() < 32 {
+        return false;
+    }
+    if s.len() - 32 < at {
+        return false;
+    }
+    let mut high = false;
+    let mut i = 0;
+    while i < 32 {
+        high = high | (128 <= s[at + i]);
+        i += 1;
+    }
+    !high
+}
+
 // How many bytes stand before the first that is 128 or more.
 pub fn ascii_end(s: &[u8]) -> usize
     ensures { λ r. ⌜ r ≡ span isAscii (now (s .entry)) ⌝ }
 {
     let mut at = 0;
+    while is_ascii_block(s, at) {
+        at += 32;
+    }
     while at < s.len() {
         if 128 <= s[at] {
+            return at;
+        }
+        at += 1;
+    }
+    at
+}
+
+// Whether 16 bytes that end no line stand at an offset; every byte is looked at here too.
+fn is_line_block(s: &[u8], at: usize) -> bool
+    ensures { λ r. ⌜ r ≡ runs inLine 16 (now (s .entry)) at ⌝ }
+{
+    if s.len() < 16 {
+        return false;
+    }
+    if s.len() - 16 < at {
+        return false;
+    }
+    let mut ends = false;
+    let mut i = 0;
+    while i < 16 {
+        ends = ends | is_eol(s[at + i]);
+        i += 1;
+    }
+    !ends
+}
+
+// Where the line that goes on at an offset ends: at its LF or CR, or at the text's end.
+pub fn line_end(s: &[u8], from: usize) -> usize
+    ensures { λ r. ⌜ r ≡ lineEnd (now (s .entry)) from ⌝ }
+{
+    let mut at = from;
+    while is_line_block(s, at) {
+        at += 16;
+    }
+    while at < s.len() {
+        if is_eol(s[at]) {
             return at;
         }
         at += 1;
@@ -138,7 +197,19 @@ pub fn step(c: Scan, b: u8) -> Scan
     }
 }
 
-// The place of a later offset, from the place of an earlier one.
+// Over bytes that end no line.
+fn along(c: Scan, count: usize) -> Scan
+    requires { ⌜ c .column + count < 2 ^ 64 ⌝ }
+    ensures { λ r. ⌜ r ≡ alongOf c count ⌝ }
+{
+    Scan {
+        line: c.line,
+        column: c.column + count,
+        half: 0,
+    }
+}
+
+// The place of a later offset, from the place of an earlier one: line by line.
 pub fn advance(s: &[u8], p: Place, to: usize) -> Place
     requires { ⌜ IsPlace (now s) p × (p .offset ≤ to) × (to ≤ length (now s)) ⌝ }
     ensures { λ r. ⌜ r ≡ placeAt (now (s .entry)) to ⌝ }
@@ -150,8 +221,15 @@ pub fn advance(s: &[u8], p: Place, to: usize) -> Place
     };
     let mut at = p.offset;
     while at < to {
-        c = step(c, s[at]);
-        at += 1;
+        let b = s[at];
+        if is_eol(b) {
+            c = step(c, b);
+            at += 1;
+            continue;
+        }
+        let end = line_end(&s[..to], at);
+        c = along(c, end - at);
+        at = end;
     }
     Place {
         offset: to,
@@ -180,47 +258,44 @@ pub fn place_at(s: &[u8], to: usize) -> Place
     }
 }
 
-// Whether a byte is skipped, in a comment or outside.
-fn is_gap(comment: bool, b: u8) -> bool
-    ensures { λ r. ⌜ r ≡ gapByte comment b ⌝ }
-{
-    if comment {
-        return true;
-    }
-    if is_space(b) {
-        return true;
-    }
-    b == 35
-}
-
-// Whether what follows a skipped byte stands in a comment.
-fn in_comment(comment: bool, b: u8) -> bool
-    ensures { λ r. ⌜ r ≡ gapThen comment b ⌝ }
-{
-    if comment {
-        return !is_eol(b);
-    }
-    b == 35
-}
-
-// The end of the space and comments that start at an offset.
-pub fn gap_end(s: &[u8], from: usize) -> usize
+// The end of the space and comments that start at an offset, where a comment may be long: it is left at its line's end.
+fn comments_end(s: &[u8], from: usize) -> usize
     ensures { λ r. ⌜ r ≡ gapEnd (now (s .entry)) from ⌝ }
 {
     let mut at = from;
-    let mut comment = false;
     while at < s.len() {
         let b = s[at];
-        if !is_gap(comment, b) {
+        if b == 35 {
+            at = line_end(s, at);
+            continue;
+        }
+        if !is_space(b) {
             return at;
         }
-        comment = in_comment(comment, b);
         at += 1;
     }
     at
 }
 
-// The place behind the space and comments at a place: end and place are found in one loop.
+// The end of the space and comments that start at an offset. Most often there is only space: the loop calls nothing.
+pub fn gap_end(s: &[u8], from: usize) -> usize
+    ensures { λ r. ⌜ r ≡ gapEnd (now (s .entry)) from ⌝ }
+{
+    let mut at = from;
+    while at < s.len() {
+        let b = s[at];
+        if b == 35 {
+            return comments_end(s, at);
+        }
+        if !is_space(b) {
+            return at;
+        }
+        at += 1;
+    }
+    at
+}
+
+// The place behind the space and comments at a place: where there is only space, end and place are found in one loop.
 pub fn trim_comments_and_whitespace(s: &[u8], p: Place) -> Place
     requires { ⌜ IsPlace (now s) p ⌝ }
     ensures { λ r. ⌜ r ≡ placeAt (now (s .entry)) (gapEnd (now (s .entry)) (p .offset)) ⌝ }
@@ -231,14 +306,15 @@ pub fn trim_comments_and_whitespace(s: &[u8], p: Place) -> Place
         half: 0,
     };
     let mut at = p.offset;
-    let mut comment = false;
     while at < s.len() {
         let b = s[at];
-        if !is_gap(comment, b) {
+        if b == 35 {
+            return advance(s, p, comments_end(s, at));
+        }
+        if !is_space(b) {
             break;
         }
         c = step(c, b);
-        comment = in_comment(comment, b);
         at += 1;
     }
     Place {

@@ -1,16 +1,15 @@
-use Prim.Native.Nat.{_-_, _≤_}
-use mathlib.Core.Path.{_≡_, refl, sym, _∙_}
+-- `text::ascii_end`: by blocks, then byte by byte. Assumes nothing.
+use Prim.Native.Nat.{_+_, _-_}
+use mathlib.Core.Path.{_≡_, sym, _∙_}
 use native.Mathlib.Omega.{arith}
 use native.Mathlib.Nat.{zero-add}
 use borrow.Author.Tests.{lt-ltb, le-ltb}
 use lib.ListN.{length}
 use Rattle.text.specs.Bytes.{isAscii}
 use Rattle.text.specs.Runs.{span, spanEnd}
-use Rattle.text.proofs.Runs.{span-go, span-stop, span-over}
+use Rattle.text.proofs.Runs.{span-go, span-stop, span-over, span-block, runs-fits}
 use Rattle.text.proofs.ascii_end.Statement.{statement}
 use Rattle.text.proofs.ascii_end.Tie as tie
-use Rattle.text.proofs.ascii_end.Reads as reads
-use Rattle.text.proofs.ascii_end.Lts as lts
 
 -- the run from the start on ends where the run from here on ends
 abbrev Inv-loop : tie.InvT-loop
@@ -19,34 +18,48 @@ Inv-loop s at₀ at = span isAscii s ≡ spanEnd isAscii s at
 abbrev μ-loop : tie.MeasureT-loop
 μ-loop s at₀ at = length s - at
 
--- src/lib.rt:73:5
-loop-holds : tie.Need-loop-holds Inv-loop μ-loop
+abbrev Inv-loop2 : tie.InvT-loop2
+Inv-loop2 s at₀ at = span isAscii s ≡ spanEnd isAscii s at
+
+abbrev μ-loop2 : tie.MeasureT-loop2
+μ-loop2 s at₀ at = length s - at
+
+loop-holds : tie.Need-loop-holds Inv-loop μ-loop Inv-loop2 μ-loop2
 unfolding spanEnd
 loop-holds c = sym (zero-add _)
 
--- src/lib.rt:74:19
-shared-slice-read-if1 : tie.Need-shared-slice-read-if1 Inv-loop μ-loop
-shared-slice-read-if1 c = omega arith
+is-ascii-block-requires : tie.Need-is-ascii-block-requires Inv-loop μ-loop Inv-loop2 μ-loop2
+is-ascii-block-requires c κs = tt
 
--- src/lib.rt:75:13
-returns : tie.Need-returns Inv-loop μ-loop
-returns c = sym (c .before .before .before .loop .inv ∙ span-stop _ _ _ (c .before .before .loop-test .taken) (unfold isAscii in le-ltb _ _ (c .if1 .taken)))
+add-at : tie.Need-add-at Inv-loop μ-loop Inv-loop2 μ-loop2
+add-at c = omega (arith, runs-fits isAscii (c .before .before .before .before .args .s .now) (c .before .before .loop .at) 32 (sym (c .before .is-ascii-block .ensures) ∙ c .if1 .taken) (omega arith))
 
--- src/lib.rt:77:9
-add-at : tie.Need-add-at Inv-loop μ-loop
-add-at c = omega arith
+loop-less : tie.Need-loop-less Inv-loop μ-loop Inv-loop2 μ-loop2
+loop-less c = omega (arith, runs-fits isAscii (c .before .before .before .before .args .s .now) (c .before .before .loop .at) 32 (sym (c .before .is-ascii-block .ensures) ∙ c .if1 .taken) (omega arith))
 
--- src/lib.rt:73:5
-loop-less : tie.Need-loop-less Inv-loop μ-loop
-loop-less c = omega arith
+loop-again : tie.Need-loop-again Inv-loop μ-loop Inv-loop2 μ-loop2
+loop-again c = c .before .before .loop .inv ∙ span-block isAscii _ _ 32 (sym (c .before .is-ascii-block .ensures) ∙ c .if1 .taken)
 
--- src/lib.rt:73:5
-loop-again : tie.Need-loop-again Inv-loop μ-loop
-loop-again c = c .before .before .before .loop .inv ∙ span-go _ _ _ (c .before .before .loop-test .taken) (unfold isAscii in lt-ltb _ _ (c .if1 .left))
+loop2-holds : tie.Need-loop2-holds Inv-loop μ-loop Inv-loop2 μ-loop2
+loop2-holds c = c .before .before .loop .inv
 
--- src/lib.rt:69:1
-returns-2 : tie.Need-returns-2 Inv-loop μ-loop
-returns-2 c = sym (c .before .loop .inv ∙ span-over _ _ _ (c .loop-test .left))
+shared-slice-read-if2 : tie.Need-shared-slice-read-if2 Inv-loop μ-loop Inv-loop2 μ-loop2
+shared-slice-read-if2 c = omega arith
+
+returns : tie.Need-returns Inv-loop μ-loop Inv-loop2 μ-loop2
+returns c = sym (c .before .before .before .loop2 .inv ∙ span-stop _ _ _ (c .before .before .loop2-test .taken) (unfold isAscii in le-ltb _ _ (c .if2 .taken)))
+
+add-at-2 : tie.Need-add-at-2 Inv-loop μ-loop Inv-loop2 μ-loop2
+add-at-2 c = omega arith
+
+loop2-less : tie.Need-loop2-less Inv-loop μ-loop Inv-loop2 μ-loop2
+loop2-less c = omega arith
+
+loop2-again : tie.Need-loop2-again Inv-loop μ-loop Inv-loop2 μ-loop2
+loop2-again c = c .before .before .before .loop2 .inv ∙ span-go _ _ _ (c .before .before .loop2-test .taken) (unfold isAscii in lt-ltb _ _ (c .if2 .left))
+
+returns-2 : tie.Need-returns-2 Inv-loop μ-loop Inv-loop2 μ-loop2
+returns-2 c = sym (c .before .loop2 .inv ∙ span-over _ _ _ (c .loop2-test .left))
 
 pub ascii-end-spec : {M : Type 1} → statement M
 ascii-end-spec =
@@ -54,10 +67,17 @@ ascii-end-spec =
     (tie.spec
     Inv-loop
     μ-loop
+    Inv-loop2
+    μ-loop2
     loop-holds
-    shared-slice-read-if1
-    returns
+    is-ascii-block-requires
     add-at
     loop-less
     loop-again
+    loop2-holds
+    shared-slice-read-if2
+    returns
+    add-at-2
+    loop2-less
+    loop2-again
     returns-2)

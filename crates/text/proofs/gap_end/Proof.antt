@@ -1,40 +1,38 @@
-use Prim.Native.Nat.{_+_, _-_, _≤_}
-use mathlib.Core.Path.{_≡_, refl, _∙_, sym, ap}
+-- `text::gap_end`: over spaces byte by byte, to the first comment. Assumes nothing.
+use Prim.Native.Nat.{_-_}
+use mathlib.Core.Path.{_≡_, refl, sym, _∙_}
 use native.Mathlib.Omega.{arith}
 use borrow.Author.Tests.{not-true, not-false}
-use lib.ListN.{length, drop}
-use Rattle.text.specs.Gaps.{gapIn, gapEnd, gap}
-use Rattle.text.proofs.Gaps.{gap-go, gap-stop, gap-over}
+use lib.ListN.{length}
+use Rattle.text.specs.Gaps.{gapEnd}
+use Rattle.text.proofs.Gaps.{gap-space, gap-other, gap-past}
 use Rattle.text.proofs.gap_end.Statement.{statement}
 use Rattle.text.proofs.gap_end.Tie as tie
-use Rattle.text.proofs.gap_end.Reads as reads
-use Rattle.text.proofs.gap_end.Lts as lts
-use Rattle.text.proofs.is_gap.Reads as is-gap-reads
-use Rattle.text.proofs.in_comment.Reads as in-comment-reads
 
--- what is skipped from the start on is what is skipped from here on
+-- the end from the start on is the end from here on
 abbrev Inv-loop : tie.InvT-loop
-Inv-loop s from at₀ comment₀ at comment = gapEnd s from ≡ at + gapIn comment (drop at s)
+Inv-loop s from at₀ at = gapEnd s from ≡ gapEnd s at
 
 abbrev μ-loop : tie.MeasureT-loop
-μ-loop s from at₀ comment₀ at comment = length s - at
+μ-loop s from at₀ at = length s - at
 
 loop-holds : tie.Need-loop-holds Inv-loop μ-loop
-unfolding gapEnd gap
 loop-holds c = refl
 
 shared-slice-read-b : tie.Need-shared-slice-read-b Inv-loop μ-loop
 shared-slice-read-b c = omega arith
 
-is-gap-requires : tie.Need-is-gap-requires Inv-loop μ-loop
-is-gap-requires c κs = tt
+comments-end-requires : tie.Need-comments-end-requires Inv-loop μ-loop
+comments-end-requires c κs = tt
 
 returns : tie.Need-returns Inv-loop μ-loop
-returns c =
-    sym (c .before .before .before .before .loop .inv ∙ gap-stop _ _ _ (c .before .before .before .loop-test .taken) (sym (c .before .is-gap .ensures) ∙ not-true _ (c .if1 .taken)))
+returns c = c .comments-end .ensures ∙ sym (c .before .before .before .before .loop .inv)
 
-in-comment-requires : tie.Need-in-comment-requires Inv-loop μ-loop
-in-comment-requires c κs = tt
+is-space-requires : tie.Need-is-space-requires Inv-loop μ-loop
+is-space-requires c κs = tt
+
+returns-2 : tie.Need-returns-2 Inv-loop μ-loop
+returns-2 c = sym (c .before .before .before .before .before .loop .inv ∙ gap-other _ _ (c .before .before .before .before .loop-test .taken) (sym (c .before .is-space .ensures) ∙ not-true _ (c .if2 .taken)) (c .before .before .if1 .left))
 
 add-at : tie.Need-add-at Inv-loop μ-loop
 add-at c = omega arith
@@ -43,13 +41,10 @@ loop-less : tie.Need-loop-less Inv-loop μ-loop
 loop-less c = omega arith
 
 loop-again : tie.Need-loop-again Inv-loop μ-loop
-loop-again c =
-    c .before .before .before .before .before .loop .inv
-    ∙ gap-go _ _ _ (c .before .before .before .before .loop-test .taken) (sym (c .before .before .is-gap .ensures) ∙ not-false _ (c .before .if1 .left))
-    ∙ rw (c .in-comment .ensures)
+loop-again c = c .before .before .before .before .before .loop .inv ∙ gap-space _ _ (c .before .before .before .before .loop-test .taken) (sym (c .before .is-space .ensures) ∙ not-false _ (c .if2 .left))
 
-returns-2 : tie.Need-returns-2 Inv-loop μ-loop
-returns-2 c = sym (c .before .loop .inv ∙ gap-over _ _ _ (c .loop-test .left))
+returns-3 : tie.Need-returns-3 Inv-loop μ-loop
+returns-3 c = sym (c .before .loop .inv ∙ gap-past _ _ (c .loop-test .left))
 
 pub gap-end-spec : {M : Type 1} → statement M
 gap-end-spec =
@@ -59,10 +54,11 @@ gap-end-spec =
     μ-loop
     loop-holds
     shared-slice-read-b
-    is-gap-requires
+    comments-end-requires
     returns
-    in-comment-requires
+    is-space-requires
+    returns-2
     add-at
     loop-less
     loop-again
-    returns-2)
+    returns-3)
