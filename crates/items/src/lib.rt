@@ -176,7 +176,7 @@ pub fn number_kind(decimal: Decimal) -> u8
 }
 
 // The value at an offset, by its kind and length.
-fn find_value(s: &[u8], at: usize) -> Found
+pub fn find_value(s: &[u8], at: usize) -> Found
     ensures { λ r. ⌜ r ≡ foundAt (now (s .entry)) at ⌝ }
 {
     let value = values::parse_value(s, at);
