@@ -12,3 +12,4 @@ pub mod Passes
 pub mod Items
 pub mod Onward
 pub mod Choices
+pub mod First

@@ -1,16 +1,18 @@
 -- Laws of sizes: those of appended records add up, and records take at most 64 bytes for each byte of text. Assumes nothing.
-use Prim.Native.Nat.{ℕ, suc, _+_, _-_, _≤_}
+use Prim.Native.Nat.{ℕ, suc, _+_, _-_, _≤_, _<_}
 use mathlib.Core.Path.{_≡_, refl}
 use mathlib.Core.Bool.{Bool, true, false, cond}
 use mathlib.Core.List.{List, [], _∷_, _++_}
 use native.Mathlib.Omega.{arith}
+use borrow.Author.Tests.{eqb-true, eqb-false}
+use lib.Dec.{eqb}
 use Rattle.records.specs.declared.Kind.{Kind}
 use Rattle.records.specs.declared.Shape.{Shape}
 use Rattle.records.specs.declared.Shape.the-variants.{Empty, Place, Content, Count, Parts, PartsUncertain}
 use Rattle.records.specs.Kinds.{kindOf, shapeOf, shapeLength, outlineShape, marksOf, bodyLength, outlineLength, isContent, hasContent}
 use Rattle.items.specs.declared.Sizes.{Sizes}
 use Rattle.items.specs.Machine.{Rec}
-use Rattle.items.specs.Sizes.{contentSize, storeSize, outlineSize, areaSize, sizesOf, noSizes, added, joined, Upto}
+use Rattle.items.specs.Sizes.{contentSize, storeSize, outlineSize, areaSize, sizesOf, noSizes, grown, added, joined, Upto}
 
 -- two sizes with equal parts are equal
 same : {z y : Sizes} → z .store ≡ y .store → z .outline ≡ y .outline → z .area ≡ y .area → z ≡ y
@@ -59,7 +61,7 @@ unfolding joined noSizes
 none-joined z = same (omega arith) (omega arith) (omega arith)
 
 -- a body is at most 38 bytes
-shape-small : (x : Shape) → (shapeLength x ≤ 38) × (shapeLength (outlineShape x) ≤ 38)
+pub shape-small : (x : Shape) → (shapeLength x ≤ 38) × (shapeLength (outlineShape x) ≤ 38)
 unfolding shapeLength outlineShape
 shape-small Empty = (omega arith, omega arith)
 shape-small Place = (omega arith, omega arith)
@@ -139,3 +141,45 @@ content-some k n e = rw e
 pub content-by : (k n m : ℕ) (kind : Kind) (h : Shape) → kind ≡ kindOf k → h ≡ shapeOf kind → h ≡ Content → m ≡ marksOf kind → n - m ≡ contentSize k n
 unfolding hasContent isContent
 content-by k n m kind h a b e d = rw (d, a) (content-some k n (rw (← a, ← b, e)))
+
+-- values by shape, as the code adds them
+pub grown-steps : (z : Sizes) (x : Shape) (n a : ℕ) → a ≡ shapeLength x → record { store = z .store + 1 + a; outline = z .outline + 1 + 16; area = z .area + n } ≡ grown z x n
+unfolding grown shapeLength
+grown-steps z x n a e = same (omega arith) (omega arith) (omega arith)
+
+module _ (z : Sizes) where
+  pub grown-bare : (n : ℕ) → grown z Content n ≡ added z 10 n
+  unfolding grown added bodyLength outlineLength contentSize hasContent isContent kindOf shapeOf outlineShape marksOf
+  grown-bare n = same refl refl (omega arith)
+
+  pub grown-number : (n : ℕ) → grown z Parts 0 ≡ added z 14 n
+  unfolding grown added bodyLength outlineLength contentSize hasContent isContent kindOf shapeOf outlineShape
+  grown-number n = refl
+
+  pub grown-uncertain : (n : ℕ) → grown z PartsUncertain 0 ≡ added z 15 n
+  unfolding grown added bodyLength outlineLength contentSize hasContent isContent kindOf shapeOf outlineShape
+  grown-uncertain n = refl
+
+  pub grown-place : (k n : ℕ) → 8 ≤ k → k < 10 → grown z Place 0 ≡ added z k n
+  unfolding grown added bodyLength outlineLength contentSize hasContent isContent kindOf shapeOf outlineShape
+  grown-place k n l h = by (eqb k 8) refl
+    where
+      by : (t : Bool) → eqb k 8 ≡ t → grown z Place 0 ≡ added z k n
+      by true e = rw (eqb-true k 8 e)
+      by false e =
+          let d : ¬ (k ≡ 8) = eqb-false k 8 e in
+          let q : k ≡ 9 = omega arith in
+          rw q
+
+  pub grown-quoted : (k n : ℕ) → 11 ≤ k → k ≤ 13 → grown z Content (n - 2) ≡ added z k n
+  unfolding grown added bodyLength outlineLength contentSize hasContent isContent kindOf shapeOf outlineShape marksOf
+  grown-quoted k n l h = by (eqb k 11) (eqb k 12) refl refl
+    where
+      by : (t u : Bool) → eqb k 11 ≡ t → eqb k 12 ≡ u → grown z Content (n - 2) ≡ added z k n
+      by true u e f = rw (eqb-true k 11 e)
+      by false true e f = rw (eqb-true k 12 f)
+      by false false e f =
+          let c : ¬ (k ≡ 11) = eqb-false k 11 e in
+          let d : ¬ (k ≡ 12) = eqb-false k 12 f in
+          let q : k ≡ 13 = omega arith in
+          rw q

@@ -6,3 +6,4 @@ pub mod Descent
 pub mod Decisions
 pub mod Answers
 pub mod Frames
+pub mod First

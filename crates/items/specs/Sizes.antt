@@ -2,7 +2,9 @@
 use Prim.Native.Nat.{ℕ, suc, _+_, _-_, _*_, _≤_}
 use mathlib.Core.Bool.{cond}
 use mathlib.Core.List.{List, [], _∷_}
-use Rattle.records.specs.Kinds.{kindOf, marksOf, bodyLength, outlineLength, hasContent}
+use Rattle.records.specs.declared.Shape.{Shape}
+use Rattle.records.specs.declared.Shape.the-variants.{Place}
+use Rattle.records.specs.Kinds.{kindOf, shapeLength, marksOf, bodyLength, outlineLength, hasContent}
 use Rattle.items.specs.Machine.{Rec}
 use Rattle.items.specs.declared.Sizes.{Sizes}
 
@@ -36,6 +38,15 @@ added z k n =
       store = z .store + suc (bodyLength k);
       outline = z .outline + suc (outlineLength k);
       area = z .area + contentSize k n;
+    }
+
+-- one more, of a shape that is not empty, and n bytes of content
+unfoldable pub grown : Sizes → Shape → ℕ → Sizes
+grown z x n =
+    record {
+      store = z .store + suc (shapeLength x);
+      outline = z .outline + suc (shapeLength Place);
+      area = z .area + n;
     }
 
 unfoldable pub joined : Sizes → Sizes → Sizes

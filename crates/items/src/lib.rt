@@ -2,9 +2,10 @@
 ghost use mathlib.Core.Path.{_≡_};
 ghost use mathlib.Core.Bool.{true};
 ghost use Prim.Native.Nat.{ℕ, _+_, _*_, _≤_, _<_};
-ghost use lib.ListN.{length};
+ghost use lib.ListN.{length, getD};
 ghost use Rattle.words.specs.Keywords.{startsAt, keyData, keyLoop, keySave};
-ghost use Rattle.items.specs.Sizes.{contentSize, noSizes, added, joined, Upto};
+ghost use Rattle.items.specs.Sizes.{contentSize, noSizes, grown, added, joined, Upto};
+ghost use Rattle.items.specs.First.{isLetter, startsReserved, startsBare, startsDecimal, plainKind};
 ghost use Rattle.items.specs.Decisions.{told, tells};
 ghost use Rattle.items.specs.Reading.{decided, limit};
 ghost use Rattle.items.specs.Answers.{Ready, Here, tagAt, kindOfNumber, foundAt, isOverFound, whyFound, namesAt, valuesAt, rowsOf, itemAt};
@@ -142,6 +143,38 @@ impl Sizes {
         }
     }
 
+    // One record more, of a shape that is not empty, and so many bytes of content.
+    fn plus(self, shape: Shape, content: usize) -> Sizes
+        requires { ⌜ Upto (limit * limit) self × (content ≤ limit) ⌝ }
+        ensures { λ r. ⌜ r ≡ grown self shape content ⌝ }
+    {
+        Sizes {
+            store: self.store + 1 + shape.length(),
+            outline: self.outline + 1 + Kind::PLACE,
+            area: self.area + content,
+        }
+    }
+
+    // One value more: as `add`, without its tables, since values are most of a text.
+    fn add_value(self, kind: u8, size: usize) -> Sizes
+        requires { ⌜ Upto (limit * limit) self × (size ≤ limit) × (8 ≤ kind) × (kind ≤ 15) × (11 ≤ kind → kind ≤ 13 → 2 ≤ size) ⌝ }
+        ensures { λ r. ⌜ r ≡ added self kind size ⌝ }
+    {
+        if kind == 10 {
+            return self.plus(Shape::Content, size);
+        }
+        if kind == 14 {
+            return self.plus(Shape::Parts, 0);
+        }
+        if kind == 15 {
+            return self.plus(Shape::PartsUncertain, 0);
+        }
+        if kind < 10 {
+            return self.plus(Shape::Place, 0);
+        }
+        self.plus(Shape::Content, size - Kind::QUOTE_MARKS)
+    }
+
     // The records of both.
     fn join(self, other: Sizes) -> Sizes
         requires { ⌜ Upto (limit * limit) self × Upto (limit * limit) other ⌝ }
@@ -175,8 +208,8 @@ pub fn number_kind(decimal: Decimal) -> u8
     14
 }
 
-// The value at an offset, by its kind and length.
-pub fn find_value(s: &[u8], at: usize) -> Found
+// The value at an offset, by its kind and length, whatever it starts with.
+fn find_other(s: &[u8], at: usize) -> Found
     ensures { λ r. ⌜ r ≡ foundAt (now (s .entry)) at ⌝ }
 {
     let value = values::parse_value(s, at);
@@ -189,6 +222,122 @@ pub fn find_value(s: &[u8], at: usize) -> Found
         Value::Over => Found::Over,
         Value::Missing { why } => Found::Missing { why },
     }
+}
+
+fn is_letter(b: u8) -> bool
+    ensures { λ r. ⌜ r ≡ isLetter b ⌝ }
+{
+    if b < 65 {
+        return false;
+    }
+    if b <= 90 {
+        return true;
+    }
+    if b < 97 {
+        return false;
+    }
+    b <= 122
+}
+
+// Whether a letter may start a reserved word: d, g, l or s in either case.
+fn starts_reserved(b: u8) -> bool
+    ensures { λ r. ⌜ r ≡ startsReserved b ⌝ }
+{
+    if b == 100 {
+        return true;
+    }
+    if b == 68 {
+        return true;
+    }
+    if b == 103 {
+        return true;
+    }
+    if b == 71 {
+        return true;
+    }
+    if b == 108 {
+        return true;
+    }
+    if b == 76 {
+        return true;
+    }
+    if b == 115 {
+        return true;
+    }
+    b == 83
+}
+
+// Whether only a bare value can start with a byte.
+fn starts_bare(b: u8) -> bool
+    ensures { λ r. ⌜ r ≡ startsBare b ⌝ }
+{
+    if !is_letter(b) {
+        return false;
+    }
+    !starts_reserved(b)
+}
+
+// Whether a number, or a bare value, starts with a byte.
+fn starts_decimal(b: u8) -> bool
+    ensures { λ r. ⌜ r ≡ startsDecimal b ⌝ }
+{
+    if text::is_digit(b) {
+        return true;
+    }
+    if b == 43 {
+        return true;
+    }
+    b == 45
+}
+
+// The kind of a plain number, by its last byte.
+fn plain_kind(s: &[u8], end: usize) -> u8
+    requires { ⌜ (0 < end) × (end ≤ length (now s)) ⌝ }
+    ensures { λ r. ⌜ r ≡ plainKind (now (s .entry)) end ⌝ }
+{
+    if s[end - 1] == 41 {
+        return 15;
+    }
+    14
+}
+
+// The value at an offset where a digit or a sign stands.
+fn find_decimal(s: &[u8], at: usize) -> Found
+    requires { ⌜ (at < length (now s)) × (startsDecimal (getD (now s) at 0) ≡ true) ⌝ }
+    ensures { λ r. ⌜ r ≡ foundAt (now (s .entry)) at ⌝ }
+{
+    let end = numbers::decimal_end(s, at);
+    if end <= at {
+        return find_other(s, at);
+    }
+    Found::Value {
+        kind: plain_kind(s, end),
+        size: end - at,
+    }
+}
+
+// The value at an offset, by its kind and length. The first byte tells most of them: only the others are made to be taken apart.
+pub fn find_value(s: &[u8], at: usize) -> Found
+    ensures { λ r. ⌜ r ≡ foundAt (now (s .entry)) at ⌝ }
+{
+    if s.len() <= at {
+        return Found::Missing { why: Why::AtEnd };
+    }
+    let b = s[at];
+    if starts_bare(b) {
+        let end = words::parse_identifier(s, at);
+        return Found::Value {
+            kind: 10,
+            size: end - at,
+        };
+    }
+    if starts_decimal(b) {
+        return find_decimal(s, at);
+    }
+    if b == 63 {
+        return Found::Value { kind: 9, size: 1 };
+    }
+    find_other(s, at)
 }
 
 fn is_over(found: Found) -> bool
@@ -251,7 +400,7 @@ fn count_values(s: &[u8], from: usize) -> Values
                 why: why_not(found),
             };
         };
-        sizes = sizes.add(kind, size);
+        sizes = sizes.add_value(kind, size);
         count += 1;
         at = text::gap_end(s, at + size);
     }
@@ -307,7 +456,7 @@ fn parse_tag(s: &[u8], at: usize) -> Item
     let stop = text::gap_end(s, end);
     let found = find_value(s, stop);
     if let Found::Value { kind, size } = found {
-        let sizes = Sizes::none().add(4, end - at).add(kind, size);
+        let sizes = Sizes::none().add(4, end - at).add_value(kind, size);
         return Item::Single {
             next: text::gap_end(s, stop + size),
             sizes,

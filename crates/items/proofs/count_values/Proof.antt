@@ -5,6 +5,7 @@ use native.Mathlib.Omega.{arith}
 use lib.ListN.{length}
 use Rattle.items.specs.Reading.{limit}
 use Rattle.items.proofs.Choices.{not-value}
+use Rattle.items.proofs.First.{found-lies}
 use Rattle.items.proofs.Lists.{ValuesSoFar, values-start, values-next, values-all, value-step}
 use Rattle.items.proofs.Room.{upto-more}
 use Rattle.items.proofs.count_values.Statement.{statement}
@@ -40,13 +41,14 @@ returns c =
     let f = c .before .before .before .find-value in
     rw (c .why-not .ensures, c .before .is-over .ensures) (values-all _ _ (l .at) (l .count) (l .sizes) (f .result) (l .inv) (f .ensures) (not-value (f .result) (c .before .before .match .keys2)))
 
-add-requires : tie.Need-add-requires Inv-loop μ-loop
+add-value-requires : tie.Need-add-value-requires Inv-loop μ-loop
 unfolding limit
-add-requires c κs =
+add-value-requires c κs =
     let l = c .before .before .before .before .loop in
     let ready = c .before .before .before .before .before .before .before .pre in
     let v = value-step _ (l .at) _ _ (l .inv .bare) (sym (c .before .before .before .find-value .ensures) ∙ c .before .found .given .1) in
-    (upto-more (l .at) (limit * limit) (l .sizes) (l .inv .fits) (omega (arith, l .inv .within, ready .small)), omega (arith, v .within, ready .small))
+    let f = found-lies _ (l .at) _ _ (sym (c .before .before .before .find-value .ensures) ∙ c .before .found .given .1) in
+    (upto-more (l .at) (limit * limit) (l .sizes) (l .inv .fits) (omega (arith, l .inv .within, ready .small)), omega (arith, v .within, ready .small), f .low, f .high, f .marks)
 
 add-count : tie.Need-add-count Inv-loop μ-loop
 unfolding limit
@@ -69,13 +71,13 @@ gap-end-requires c κs = tt
 loop-less : tie.Need-loop-less Inv-loop μ-loop
 loop-less c =
     let l = c .before .before .before .before .before .before .loop in
-    let n = values-next _ _ (l .at) (l .count) _ _ _ (l .sizes) _ (l .inv) (sym (c .before .before .before .before .before .find-value .ensures) ∙ c .before .before .before .found .given .1) (c .gap-end .ensures) (c .before .add .ensures) in
+    let n = values-next _ _ (l .at) (l .count) _ _ _ (l .sizes) _ (l .inv) (sym (c .before .before .before .before .before .find-value .ensures) ∙ c .before .before .before .found .given .1) (c .gap-end .ensures) (c .before .add-value .ensures) in
     omega (arith, n .0, n .1 .within)
 
 loop-again : tie.Need-loop-again Inv-loop μ-loop
 loop-again c =
     let l = c .before .before .before .before .before .before .loop in
-    values-next _ _ (l .at) (l .count) _ _ _ (l .sizes) _ (l .inv) (sym (c .before .before .before .before .before .find-value .ensures) ∙ c .before .before .before .found .given .1) (c .gap-end .ensures) (c .before .add .ensures) .1
+    values-next _ _ (l .at) (l .count) _ _ _ (l .sizes) _ (l .inv) (sym (c .before .before .before .before .before .find-value .ensures) ∙ c .before .before .before .found .given .1) (c .gap-end .ensures) (c .before .add-value .ensures) .1
 
 pub count-values-spec : {M : Type 1} → statement M
 count-values-spec =
@@ -90,7 +92,7 @@ count-values-spec =
     is-over-requires
     why-not-requires
     returns
-    add-requires
+    add-value-requires
     add-count
     add-gap-end
     gap-end-requires

@@ -5,6 +5,7 @@ use native.Mathlib.Omega.{arith}
 use Rattle.items.specs.Reading.{limit}
 use Rattle.items.specs.Sizes.{noSizes}
 use Rattle.items.proofs.Choices.{not-value}
+use Rattle.items.proofs.First.{found-lies}
 use Rattle.items.proofs.Items.{TagRead, tag-onward, tag-value-within, tag-value, tag-alone}
 use Rattle.items.proofs.Room.{upto-none, upto-added}
 use borrow.Author.Needs.{needs}
@@ -56,14 +57,15 @@ add-requires c κs =
     let b = c .before .before .before .before in
     (rw (c .none .ensures) (upto-none (limit * limit)), omega (arith, tag-onward (tag-read b) .1, b .before .before .before .before .pre .0 .small))
 
-add-requires-2 : tie.Need-add-requires-2
+add-value-requires : tie.Need-add-value-requires
 unfolding limit
-add-requires-2 c κs =
+add-value-requires c κs =
     let b = c .before .before .before .before .before in
     let small = b .before .before .before .before .pre .0 .small in
     let w = tag-onward (tag-read b) in
     let v = tag-value-within (tag-read b) _ _ (c .before .before .before .found .given .1) in
-    (rw (c .add .ensures, c .before .none .ensures) (upto-added 0 4 _ (limit * limit) noSizes (upto-none 0) (omega arith) (omega (arith, w .1, small))), omega (arith, v .1, small))
+    let f = found-lies _ _ _ _ (sym (b .find-value .ensures) ∙ c .before .before .before .found .given .1) in
+    (rw (c .add .ensures, c .before .none .ensures) (upto-added 0 4 _ (limit * limit) noSizes (upto-none 0) (omega arith) (omega (arith, w .1, small))), omega (arith, v .1, small), f .low, f .high, f .marks)
 
 add-gap-end : tie.Need-add-gap-end
 unfolding limit
@@ -77,7 +79,7 @@ gap-end-requires-2 c κs = search needs
 returns : tie.Need-returns
 returns c =
     let b = c .before .before .before .before .before .before .before in
-    tag-value (tag-read b) _ _ _ _ (c .before .before .before .before .before .found .given .1) (c .gap-end2 .ensures) (c .before .add2 .ensures ∙ rw (c .before .before .add .ensures, c .before .before .before .none .ensures))
+    tag-value (tag-read b) _ _ _ _ (c .before .before .before .before .before .found .given .1) (c .gap-end2 .ensures) (c .before .add-value .ensures ∙ rw (c .before .before .add .ensures, c .before .before .before .none .ensures))
 
 is-over-requires : tie.Need-is-over-requires
 is-over-requires c κs = search needs
@@ -106,7 +108,7 @@ parse-tag-spec =
     none-requires
     sub-add
     add-requires
-    add-requires-2
+    add-value-requires
     add-gap-end
     gap-end-requires-2
     returns
