@@ -1,13 +1,12 @@
 -- Writing the whole text: the heading, then what is left behind it. Assumes nothing.
-use Prim.Native.Nat.{ℕ, suc, _+_, _-_, _≤_, _<_}
-use mathlib.Core.Path.{_≡_, refl, sym, ap, _∙_}
-use mathlib.Core.Bool.{Bool, true, false}
-use mathlib.Core.List.{List, [], _∷_, _++_}
-use mathlib.Core.Option.{Option, none, some}
+use Prim.Native.Nat.{ℕ, _+_, _-_, _≤_}
+use mathlib.Core.Path.{_≡_, refl, ap, _∙_}
+use mathlib.Core.Bool.{Bool, true}
+use mathlib.Core.List.{List, [], _∷_}
+use mathlib.Core.Option.{none}
 use native.Mathlib.Omega.{arith}
 use lib.ListN.{length, drop}
-use Rattle.text.specs.declared.Place.{Place}
-use Rattle.text.specs.Gaps.{gap, gapEnd}
+use Rattle.text.specs.Gaps.{gapEnd}
 use Rattle.text.proofs.Gaps.{gap-none}
 use Rattle.text.proofs.Places.{is-start, place-offset}
 use Rattle.words.specs.Words.{word, wordEnd}

@@ -1,6 +1,6 @@
 -- The bytes of records in Read and in the outline, and their lengths. Assumes nothing.
 use Prim.Native.Nat.{ℕ}
-use mathlib.Core.Path.{_≡_, refl, ap, _∙_}
+use mathlib.Core.Path.{_≡_, ap, _∙_}
 use mathlib.Core.Bool.{Bool, true, false}
 use mathlib.Core.List.{List}
 use lib.ListN.{length}
@@ -36,19 +36,11 @@ module _ (full : Bool) (t : Token) (n : ℕ) where
   unfolding loopBytes
   loop-outline e = are _ _ _ (rw e) (length-place 5 t)
 
-module _ (full : Bool) (t : Token) (d : Decimal) where
-  pub uncertain-full : d .uncertain ≡ true → full ≡ true → Are (numberBytes full t d) (uncertainRecord t d) 39
+module _ (t : Token) (d : Decimal) where
+  pub uncertain-bytes : d .uncertain ≡ true → Are (numberBytes t d) (uncertainRecord t d) 39
   unfolding numberBytes
-  uncertain-full u e = are _ _ _ (rw (u, e)) (length-uncertain t d)
+  uncertain-bytes u = are _ _ _ (rw u) (length-uncertain t d)
 
-  pub uncertain-outline : d .uncertain ≡ true → full ≡ false → Are (numberBytes full t d) (placeRecord 15 t) 17
+  pub certain-bytes : d .uncertain ≡ false → Are (numberBytes t d) (numberRecord t d) 35
   unfolding numberBytes
-  uncertain-outline u e = are _ _ _ (rw (u, e)) (length-place 15 t)
-
-  pub number-full : d .uncertain ≡ false → full ≡ true → Are (numberBytes full t d) (numberRecord t d) 35
-  unfolding numberBytes
-  number-full u e = are _ _ _ (rw (u, e)) (length-number t d)
-
-  pub number-outline : d .uncertain ≡ false → full ≡ false → Are (numberBytes full t d) (placeRecord 14 t) 17
-  unfolding numberBytes
-  number-outline u e = are _ _ _ (rw (u, e)) (length-place 14 t)
+  certain-bytes u = are _ _ _ (rw u) (length-number t d)

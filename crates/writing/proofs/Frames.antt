@@ -1,7 +1,7 @@
 -- Writing items, frames and the block: the cursor moves on, and what is left stays the same. Assumes nothing.
-use Prim.Native.Nat.{ℕ, zero, suc, _+_, _-_, _≤_, _<_}
+use Prim.Native.Nat.{ℕ, _+_, _-_, _≤_, _<_}
 use mathlib.Core.Path.{_≡_, refl, sym, ap, _∙_}
-use mathlib.Core.Bool.{Bool, true, false, cond}
+use mathlib.Core.Bool.{Bool, true, false}
 use mathlib.Core.List.{List, [], _∷_, _++_, append-assoc, append-nil}
 use mathlib.Core.Option.{Option, none, some}
 use native.Mathlib.Omega.{arith}
@@ -9,13 +9,13 @@ use borrow.Author.Tests.{ne-eqb}
 use lib.Dec.{eqb}
 use lib.ListN.{length, drop}
 use Rattle.text.specs.Gaps.{gap, gapEnd}
-use Rattle.text.specs.Places.{placeAt, Whole, IsPlace}
-use Rattle.text.proofs.Gaps.{gap-from, gap-within, gap-none}
+use Rattle.text.specs.Places.{placeAt, Whole}
+use Rattle.text.proofs.Gaps.{gap-from, gap-none}
 use Rattle.text.proofs.Places.{place-offset, place-own, gap-whole}
 use Rattle.text.specs.declared.Place.{Place}
 use Rattle.text.proofs.Ranges.{allBelow, fails}
 use Rattle.words.specs.Words.{word, wordEnd}
-use Rattle.words.specs.Keywords.{startsAt, keyLoop, keySave, keyData}
+use Rattle.words.specs.Keywords.{startsAt, keyLoop, keySave}
 use Rattle.words.proofs.Keywords.{save-word}
 use Rattle.words.proofs.Words.{word-end}
 use Rattle.records.specs.Kinds.{kindOf, shapeOf, marksOf}
@@ -26,7 +26,7 @@ use Rattle.items.specs.Answers.{itemAt}
 use Rattle.items.specs.Frames.{left}
 use Rattle.writing.specs.declared.Cursor.{Cursor}
 use Rattle.writing.specs.declared.Next.the-variants.{Item as Item′, Stop}
-use Rattle.writing.specs.Writing.{recordBytes, tagsOf, storeOf}
+use Rattle.writing.specs.Writing.{tagsOf, storeOf}
 use Rattle.writing.specs.Walk.{Desk, desk, Going, Room, IsToken, recAt, WroteOne, Wrote, Onward, behindGap, itemRecs, itemRest, isTaken, itemOf, ItemHere, WroteItem, recsLeft, isDone, Ahead, Moved, Closing, Closed, nextOf}
 use Rattle.writing.proofs.Bytes.{store-append, area-size-append}
 use Rattle.writing.proofs.Items.{loop-parts, tag-parts, tag-here, room-prefix}

@@ -1,7 +1,7 @@
 -- Writing an item: a loop's head, names, values and end, or a tag and its value. Assumes nothing.
-use Prim.Native.Nat.{ℕ, zero, suc, _+_, _-_, _*_, _%_, _≤_, _<_}
+use Prim.Native.Nat.{ℕ, suc, _+_, _-_, _*_, _%_, _≤_, _<_}
 use mathlib.Core.Path.{_≡_, refl, sym, ap, _∙_}
-use mathlib.Core.Bool.{Bool, true, false, cond, true≢false, false≢true}
+use mathlib.Core.Bool.{Bool, true, false, cond, false≢true}
 use mathlib.Core.List.{List, [], _∷_, _++_}
 use mathlib.Core.Logic.{_⊎_, inl, inr}
 use native.Mathlib.Omega.{arith}
@@ -16,16 +16,16 @@ use Rattle.words.specs.Keywords.{startsAt, keyLoop}
 use Rattle.words.specs.Words.{word, wordEnd}
 use Rattle.words.proofs.Keywords.{loop-word}
 use Rattle.words.proofs.Words.{word-end}
-use Rattle.values.specs.Values.{Class, block, loop, save, tag, value, overLimit, nothing, Lexed, lexed}
+use Rattle.values.specs.Values.{Class, block, loop, save, tag, value, overLimit, nothing, lexed}
 use Rattle.records.specs.Kinds.{kindOf, marksOf}
 use Rattle.items.specs.declared.Found.{Found}
 use Rattle.items.specs.declared.Found.the-variants.{Value, Over, Missing}
 use Rattle.items.specs.Tokens.{inBlock, lexIn, lex, after, Tok, tok}
 use Rattle.items.specs.Machine.{Rec, rec, loopEnd}
 use Rattle.items.specs.Descent.{nameRecs, afterNames, valueRecs, afterValues, Item, taken, failed, broken, isOver, rows, loopBy, loopItem, single, tagItem, itemBy, item}
-use Rattle.items.specs.Sizes.{storeSize, sizesOf, Upto}
+use Rattle.items.specs.Sizes.{storeSize, sizesOf}
 use Rattle.items.specs.Decisions.{tokensAt, headAt}
-use Rattle.items.specs.declared.Item.the-variants.{Loop, Single, NoItem}
+use Rattle.items.specs.declared.Item.the-variants.{NoItem}
 use Rattle.items.specs.Answers.{tagAt, foundAt, itemAnswer, itemAt}
 use Rattle.items.proofs.Descent.{NoName, name-or-not, names-more, names-none}
 use Rattle.items.proofs.Offsets.{tokens-gap, Met, met-loop, met-tag, first, both, both-spot}
@@ -35,14 +35,14 @@ use Rattle.items.proofs.Wanted.{wanted, found-wanted}
 use Rattle.items.proofs.Passes.{names-alike}
 use Rattle.writing.specs.declared.Cursor.{Cursor}
 use Rattle.writing.specs.Writing.{tagsOf}
-use Rattle.writing.specs.Walk.{Desk, desk, Going, Room, IsToken, recAt, WroteOne, Wrote, Onward, behindGap, WroteValue, NoValue, ValueRoom, itemRecs, itemRest, isTaken, itemOf, ItemHere, WroteItem}
+use Rattle.writing.specs.Walk.{Desk, desk, Room, IsToken, recAt, WroteOne, Wrote, Onward, behindGap, ValueHere, itemRecs, itemRest, isTaken, itemOf, ItemHere, WroteItem}
 use Rattle.writing.proofs.Bytes.{area-size-append, store-length-append}
 use Rattle.writing.proofs.Lines.{part-token}
-use Rattle.writing.proofs.Lists.{namesFrom, behindNames, valuesFrom, behindValues}
+use Rattle.writing.proofs.Lists.{namesFrom, behindNames, valuesFrom, behindValues, trim-bare}
 use Rattle.writing.proofs.Onward.{onward-here, onward-then, room-onward, wrote-onward, one-onward, onward-wrote}
 use Rattle.writing.proofs.SoFar.{room-first}
-use Rattle.writing.proofs.Values.{trim-at, trim-area, trim-place, trim-going}
-use Rattle.writing.proofs.Turns.{name-turn, name-none, value-turn, value-none}
+use Rattle.writing.proofs.Values.{trim-at, trim-area, trim-place, trim-going, trim-offset, trim-room, trim-one}
+use Rattle.writing.proofs.Turns.{name-turn, name-none, value-here, value-turn, value-none}
 
 -- Counting tags
 
@@ -333,44 +333,54 @@ module _ (full : Bool) (s : List ℕ) (d : Desk) (h : ItemHere full s d) (t : ta
       let v = value-turn s (from + w) (gapEnd s (from + w)) (pair .kind) (pair .size) refl (pair .found) in
       partly-one full s records d d e (recAt 4 from w) _ 0 (from + w) tag-begun (sym (tags-value (pair .kind) (gapEnd s (from + w)) (pair .size) [] (v .least))) x
 
-  -- what stands behind it
-  module _ (e : Desk) (x : WroteOne full s 0 (recAt 4 from w) (from + w) d e) where
-    at-value : gapEnd s (e .cursor .place .offset) ≡ gapEnd s (from + w)
-    at-value = ap (gapEnd s) (place-offset s (e .cursor .place) (from + w) (x .place))
+  -- what stands behind it and the space there
+  module _ (e : Desk) (x : WroteOne full s 0 (recAt 4 from w) (from + w) d e) (u : Cursor) (g : u ≡ behindGap s (e .cursor)) where
+    abbrev there : ℕ
+    there = u .place .offset
 
-    same-value : (k n : ℕ) → foundAt s (gapEnd s (e .cursor .place .offset)) ≡ Value k n → (pair .kind ≡ k) × (pair .size ≡ n)
+    at-value : there ≡ gapEnd s (from + w)
+    at-value = trim-offset s (e .cursor) u g ∙ ap (gapEnd s) (place-offset s (e .cursor .place) (from + w) (x .place))
+
+    same-value : (k n : ℕ) → foundAt s there ≡ Value k n → (pair .kind ≡ k) × (pair .size ≡ n)
     same-value k n f =
-        let g : foundAt s (gapEnd s (from + w)) ≡ Value k n = rw at-value at f in
-        both-are (pair .kind) k (pair .size) n (sym (pair .found) ∙ g)
+        let z : foundAt s (gapEnd s (from + w)) ≡ Value k n = rw at-value at f in
+        both-are (pair .kind) k (pair .size) n (sym (pair .found) ∙ z)
       where
         both-are : (a b m n : ℕ) → Value a m ≡ Value b n → (a ≡ b) × (m ≡ n)
         both-are a b m n e = (cc, cc)
 
-    pub tag-value-room : ValueRoom full s e
-    unfolding ValueRoom
+    pub tag-value-here : (k n : ℕ) → foundAt s there ≡ Value k n → ValueHere s there k n
+    tag-value-here k n f = value-here s there k n (trim-bare s (e .cursor) u g) f
+
+    pub tag-value-there : ((k n : ℕ) → foundAt s there ≡ Value k n → ⊥) → ⊥
+    tag-value-there v = v (pair .kind) (pair .size) (rw at-value (pair .found))
+
+    pub tag-value-room : (k n : ℕ) → foundAt s there ≡ Value k n → Room full (recAt k there n ∷ []) (desk u (e .store) (e .area))
     tag-value-room k n f =
         let same = same-value k n f in
-        rw (at-value, ← same .0, ← same .1) (tag-written e x .room)
+        let r : Room full (recAt k there n ∷ []) e = rw (at-value, ← same .0, ← same .1) (tag-written e x .room) in
+        trim-room s (e .cursor) u g full (e .store) (e .area) (recAt k there n ∷ []) r
 
-    pub tag-value-there : (l a : List ℕ) → NoValue s e l a → ⊥
-    tag-value-there l a v = v .none (pair .kind) (pair .size) (rw at-value (pair .found))
-
-    pub tag-done : (f : Desk) (c : Cursor) → WroteValue full s e f → c ≡ behindGap s (f .cursor) → WroteItem full s d (desk c (f .store) (f .area))
-    tag-done f c v g =
-        let same = same-value (v .kind) (v .size) (v .found) in
-        let b : WroteOne full s 0 (recAt (pair .kind) (gapEnd s (from + w)) (pair .size)) (gapEnd s (from + w) + pair .size) e f = rw (at-value, ← same .0, ← same .1) at (v .wrote) in
+    pub tag-done : (k n : ℕ) (f : Desk) (c : Cursor) → foundAt s there ≡ Value k n → WroteOne full s 0 (recAt k there n) (there + n) (desk u (e .store) (e .area)) f → c ≡ behindGap s (f .cursor)
+        → Onward full s records d [] f × WroteItem full s d (desk c (f .store) (f .area))
+    tag-done k n f c v o q =
+        let same = same-value k n v in
+        let t = trim-one s (e .cursor) u g full (e .store) (e .area) 0 (recAt k there n) (there + n) f o in
+        let b : WroteOne full s 0 (recAt (pair .kind) (gapEnd s (from + w)) (pair .size)) (gapEnd s (from + w) + pair .size) e f = rw (at-value, ← same .0, ← same .1) at t in
         let z : f .cursor .place .offset ≡ gapEnd s (from + w) + pair .size = place-offset s (f .cursor .place) _ (b .place) in
         let all = partly-one full s records d e f (recAt (pair .kind) (gapEnd s (from + w)) (pair .size)) [] 0 _ (tag-written e x) (unfold tagsOf in refl) b in
-        let wrote = onward-wrote full s records (f .cursor .place .offset) d f (all .onward) (b .going) (b .going .place .at) in
-        record {
-          going = trim-going s (f .cursor) c g (b .going);
-          place = trim-place s (f .cursor) c g ∙ ap (placeAt s) (ap (gapEnd s) z ∙ sym (pair .rest));
-          at = trim-at s (f .cursor) c g ∙ wrote .at;
-          behind = trim-area s (f .cursor) c g ∙ wrote .behind;
-          filled = wrote .filled;
-          store = wrote .store;
-          area = wrote .area;
-        }
+        let wrote = onward-wrote full s records (f .cursor .place .offset) d f (all .onward) (b .going) (b .going .place .at) in (
+          all .onward,
+          record {
+            going = trim-going s (f .cursor) c q (b .going);
+            place = trim-place s (f .cursor) c q ∙ ap (placeAt s) (ap (gapEnd s) z ∙ sym (pair .rest));
+            at = trim-at s (f .cursor) c q ∙ wrote .at;
+            behind = trim-area s (f .cursor) c q ∙ wrote .behind;
+            filled = wrote .filled;
+            store = wrote .store;
+            area = wrote .area;
+          },
+        )
 
 -- where no loop starts, an item that is read is a tag and its value
 pub tag-here : (s : List ℕ) (o : ℕ) → gap (drop o s) ≡ 0 → startsAt keyLoop s o ≡ false → isTaken (itemOf s o) ≡ true → tagAt s o ≡ true

@@ -15,8 +15,8 @@ use Rattle.words.specs.Keywords.{starts, keyData, keyGlobal, keyLoop, keySave, 
 use Rattle.words.specs.Quotes.{quoted, field}
 use Rattle.words.proofs.Words.{word-end, word-plain, word-fits}
 use Rattle.words.proofs.Quotes.{Ends, quote-ends, field-ends, quote-plain}
-use Rattle.numbers.specs.Parts.{Parts, parts, isNumber, within}
-use Rattle.values.specs.Values.{Class, Reason, block, loop, save, tag, value, overLimit, nothing, atEnd, reservedWord, noStart, openQuote, openField, Lexed, lexed, numberOr, wordOr, closed, lexValue}
+use Rattle.numbers.specs.Parts.{parts, isNumber, within}
+use Rattle.values.specs.Values.{Class, Reason, loop, save, tag, value, overLimit, nothing, atEnd, reservedWord, noStart, openQuote, openField, Lexed, lexed, numberOr, wordOr, closed, lexValue}
 use Rattle.records.specs.Kinds.{kindOf, marksOf}
 use Rattle.text.specs.Gaps.{gap}
 use Rattle.items.specs.Tokens.{Mode, inBlock, lexIn, lex, Tok, tok}

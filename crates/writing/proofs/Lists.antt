@@ -1,17 +1,15 @@
 -- The loops over names and values, turn by turn. Assumes nothing.
-use Prim.Native.Nat.{ℕ, suc, _+_, _-_, _≤_, _<_}
+use Prim.Native.Nat.{ℕ, _+_, _-_, _≤_, _<_}
 use mathlib.Core.Path.{_≡_, refl, sym, ap, _∙_}
-use mathlib.Core.Bool.{Bool, true, false, not}
-use mathlib.Core.List.{List, [], _∷_, _++_}
+use mathlib.Core.Bool.{Bool, true, false}
+use mathlib.Core.List.{List, [], _∷_}
 use native.Mathlib.Omega.{arith}
 use lib.ListN.{length, drop}
 use Rattle.text.specs.Gaps.{gap, gapEnd}
-use Rattle.text.specs.Places.{placeAt}
 use Rattle.text.proofs.Gaps.{gap-from, gap-none}
 use Rattle.text.proofs.Places.{place-offset}
 use Rattle.text.proofs.Ranges.{allBelow, fails}
 use Rattle.words.specs.Words.{wordEnd}
-use Rattle.records.specs.declared.Shape.the-variants.{Content}
 use Rattle.records.specs.Kinds.{kindOf, shapeOf}
 use Rattle.items.specs.declared.Found.the-variants.{Value}
 use Rattle.items.specs.Tokens.{inBlock, Tok}
@@ -22,12 +20,10 @@ use Rattle.items.specs.Answers.{tagAt, foundAt}
 use Rattle.items.proofs.Items.{head-at}
 use Rattle.items.proofs.Offsets.{tokens-gap}
 use Rattle.writing.specs.declared.Cursor.{Cursor}
-use Rattle.writing.specs.declared.Written.{Written}
-use Rattle.writing.specs.declared.Written.the-variants.{Value as Value′, Ended}
-use Rattle.writing.specs.Walk.{Desk, desk, Going, Room, IsToken, recAt, WroteOne, Wrote, behindGap, WroteValue, NoValue, ValueDone, ValueRoom}
+use Rattle.writing.specs.Walk.{Desk, desk, Going, Room, IsToken, recAt, WroteOne, Wrote, behindGap, ValueHere}
 use Rattle.writing.proofs.SoFar.{isCount, room-first, SoFar, start, next, over-gap, all}
-use Rattle.writing.proofs.Turns.{name-turn, name-none, value-turn, value-none}
-use Rattle.writing.proofs.Values.{trim-offset}
+use Rattle.writing.proofs.Turns.{name-turn, name-none, here-turn, value-none}
+use Rattle.writing.proofs.Values.{trim-offset, trim-going, trim-room, trim-wrote}
 
 -- the names, the values from an offset on, and what stands behind them
 abbrev pub namesFrom : List ℕ → ℕ → List Rec
@@ -49,36 +45,30 @@ value-free k l h = fails (λ j. isCount (shapeOf (kindOf j))) 8 8 refl k l (omeg
 
 module _ (full : Bool) (s : List ℕ) (d₀ : Desk) where
   -- there is room for the value that stands next
-  pub value-room : (d : Desk) → SoFar full s (valuesFrom s) (behindValues s) d₀ d → ValueRoom full s d
-  unfolding ValueRoom
-  value-room d h k n f =
-      let o = d .cursor .place .offset in
-      let t = value-turn s o (gapEnd s o) k n refl f in
-      room-first full _ _ d (rw (t .recs) at (h .room))
+  pub value-room : (d : Desk) (k n : ℕ) → SoFar full s (valuesFrom s) (behindValues s) d₀ d → ValueHere s (d .cursor .place .offset) k n → Room full (recAt k (d .cursor .place .offset) n ∷ []) d
+  value-room d k n h v = room-first full _ _ d (rw (here-turn s (d .cursor .place .offset) k n v .recs) at (h .room))
 
   -- a turn
-  pub value-next : (d e : Desk) → SoFar full s (valuesFrom s) (behindValues s) d₀ d → WroteValue full s d e
-      → SoFar full s (valuesFrom s) (behindValues s) d₀ e × (d .cursor .place .offset < e .cursor .place .offset) × (e .cursor .place .offset ≤ length s)
-  value-next d e h w =
+  pub value-next : (d : Desk) (k n : ℕ) (c e : Cursor) (l a : List ℕ) → SoFar full s (valuesFrom s) (behindValues s) d₀ d → ValueHere s (d .cursor .place .offset) k n
+      → WroteOne full s 0 (recAt k (d .cursor .place .offset) n) (d .cursor .place .offset + n) d (desk c l a) → e ≡ behindGap s c
+      → SoFar full s (valuesFrom s) (behindValues s) d₀ (desk e l a) × (d .cursor .place .offset < e .place .offset) × (e .place .offset ≤ length s)
+  value-next d k n c e l a h v w q =
       let o = d .cursor .place .offset in
-      let t = value-turn s o (gapEnd s o) (w .kind) (w .size) refl (w .found) in
-      let z = place-offset s (e .cursor .place) (gapEnd s o + w .size) (w .wrote .place) in (
-        next full s (valuesFrom s) (behindValues s) d₀ d e (recAt (w .kind) (gapEnd s o) (w .size)) (gapEnd s o + w .size) h (t .recs) (t .rest) (value-free (w .kind) (t .least) (t .most)) (w .wrote),
-        omega (arith, t .token .some, gap-from s o),
-        omega (arith, t .token .within),
-      )
+      let t = here-turn s o k n v in
+      let p = c .place .offset in
+      let z : p ≡ o + n = place-offset s (c .place) (o + n) (w .place) in
+      let b : SoFar full s (valuesFrom s) (behindValues s) d₀ (desk c l a) = next full s (valuesFrom s) (behindValues s) d₀ d (desk c l a) (recAt k o n) (o + n) h (t .recs) (t .rest) (value-free k (t .least) (t .most)) w in
+      let g = over-gap full s (valuesFrom s) (behindValues s) d₀ c e l a b q (ap valueRecs (tokens-gap inBlock s p)) (ap afterValues (tokens-gap inBlock s p)) in
+      (g, omega (arith, t .token .some, trim-offset s c e q, gap-from s p), g .going .place .within)
 
   -- the end
-  pub value-last : (c e : Cursor) (l a m b : List ℕ) → SoFar full s (valuesFrom s) (behindValues s) d₀ (desk c l a) → NoValue s (desk c l a) m b → e ≡ behindGap s c
-      → Wrote full s (valuesFrom s (d₀ .cursor .place .offset)) (headAt (behindValues s (d₀ .cursor .place .offset))) d₀ (desk e m b)
-  value-last c e l a m b h v q =
-      let o = c .place .offset in
-      let n = value-none s o (gapEnd s o) refl (v .none) in
-      let g = over-gap full s (valuesFrom s) (behindValues s) d₀ c e l a h q (ap valueRecs (tokens-gap inBlock s o)) (ap afterValues (tokens-gap inBlock s o)) in
-      let z = trim-offset s c e q in
-      let none : valuesFrom s (e .place .offset) ≡ [] = rw z (ap valueRecs (tokens-gap inBlock s o) ∙ n .0) in
-      let p : headAt (behindValues s (d₀ .cursor .place .offset)) ≡ e .place .offset = ap headAt (h .same ∙ n .1) ∙ head-at inBlock s o ∙ sym z in
-      rw (v .store, v .area) (all full s (valuesFrom s) (behindValues s) d₀ (desk e l a) _ g none p)
+  pub value-last : (d : Desk) → SoFar full s (valuesFrom s) (behindValues s) d₀ d → gap (drop (d .cursor .place .offset) s) ≡ 0 → ((k n : ℕ) → foundAt s (d .cursor .place .offset) ≡ Value k n → ⊥)
+      → Wrote full s (valuesFrom s (d₀ .cursor .place .offset)) (headAt (behindValues s (d₀ .cursor .place .offset))) d₀ d
+  value-last d h g v =
+      let o = d .cursor .place .offset in
+      let e : gapEnd s o ≡ o = unfold gapEnd in omega (arith, g) in
+      let n = value-none s o o (sym e) v in
+      all full s (valuesFrom s) (behindValues s) d₀ d _ h (n .0) (ap headAt (h .same ∙ n .1) ∙ head-at inBlock s o ∙ e)
 
   -- names: there is room for the tag that stands next
   pub name-room : (d : Desk) (n : ℕ) → SoFar full s (namesFrom s) (behindNames s) d₀ d → gapEnd s (d .cursor .place .offset) ≡ d .cursor .place .offset → tagAt s (d .cursor .place .offset) ≡ true → n ≡ wordEnd s (d .cursor .place .offset) - d .cursor .place .offset
@@ -123,11 +113,21 @@ gap-twice s o = ends (gapEnd s o) (gap-none s o)
 pub gap-again : (s : List ℕ) (c e : Cursor) → e ≡ behindGap s c → gapEnd s (e .place .offset) ≡ e .place .offset
 gap-again s c e q = rw (trim-offset s c e q) (gap-twice s (c .place .offset))
 
--- the code's answer is the end
-pub is-ended : (full : Bool) (s : List ℕ) (d : Desk) (v : Written) (l a : List ℕ) → v ≡ Ended → ValueDone full s d v l a → NoValue s d l a
-unfolding ValueDone
-is-ended full s d v l a e h = rw e at h
+-- the values are the same from behind space and comments on
+pub values-start : (full : Bool) (s : List ℕ) (c h : Cursor) (l a : List ℕ) → h ≡ behindGap s c → Going s c → Room full (valuesFrom s (c .place .offset)) (desk c l a)
+    → SoFar full s (valuesFrom s) (behindValues s) (desk h l a) (desk h l a)
+values-start full s c h l a q g r =
+    let x : valuesFrom s (h .place .offset) ≡ valuesFrom s (c .place .offset) = rw (trim-offset s c h q) (ap valueRecs (tokens-gap inBlock s (c .place .offset))) in
+    start full s (valuesFrom s) (behindValues s) (desk h l a) (trim-going s c h q g) (rw x (trim-room s c h q full l a (valuesFrom s (c .place .offset)) r))
 
-pub is-written : (full : Bool) (s : List ℕ) (d : Desk) (v : Written) (c : Cursor) (l a : List ℕ) → v ≡ Value′ c → ValueDone full s d v l a → WroteValue full s d (desk c l a)
-unfolding ValueDone
-is-written full s d v c l a e h = rw e at h
+pub values-done : (full : Bool) (s : List ℕ) (c h : Cursor) (l a : List ℕ) (e : Desk) → h ≡ behindGap s c
+    → Wrote full s (valuesFrom s (h .place .offset)) (headAt (behindValues s (h .place .offset))) (desk h l a) e
+    → Wrote full s (valuesFrom s (c .place .offset)) (headAt (behindValues s (c .place .offset))) (desk c l a) e
+values-done full s c h l a e q w =
+    let o = c .place .offset in
+    let x : valuesFrom s (h .place .offset) ≡ valuesFrom s o = rw (trim-offset s c h q) (ap valueRecs (tokens-gap inBlock s o)) in
+    let y : behindValues s (h .place .offset) ≡ behindValues s o = rw (trim-offset s c h q) (ap afterValues (tokens-gap inBlock s o)) in
+    trim-wrote s c h q full l a (valuesFrom s o) (headAt (behindValues s o)) e (rw (x, y) at w)
+
+pub trim-bare : (s : List ℕ) (c h : Cursor) → h ≡ behindGap s c → gap (drop (h .place .offset) s) ≡ 0
+trim-bare s c h q = rw (trim-offset s c h q) (gap-none s (c .place .offset))

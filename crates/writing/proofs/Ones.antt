@@ -1,5 +1,5 @@
 -- One record written: what the code's steps come to. Assumes nothing.
-use Prim.Native.Nat.{ℕ, suc, _+_, _-_, _≤_, _<_}
+use Prim.Native.Nat.{ℕ, zero, suc, _+_, _-_, _≤_, _<_}
 use mathlib.Core.Path.{_≡_, refl, sym, ap, _∙_}
 use mathlib.Core.Bool.{Bool, true, false, cond}
 use mathlib.Core.List.{List, [], _∷_}
@@ -9,16 +9,16 @@ use Rattle.text.specs.declared.Place.{Place}
 use Rattle.text.specs.Places.{placeAt, IsPlace}
 use Rattle.text.proofs.Places.{place-offset, place-line, place-column}
 use Rattle.numbers.specs.declared.Decimal.{Decimal}
-use Rattle.records.specs.declared.Shape.{Shape}
-use Rattle.records.specs.declared.Shape.the-variants.{Empty, Place as PlaceAlone, Content, Count, Parts, PartsUncertain}
+use Rattle.records.specs.declared.Token.{Token}
+use Rattle.records.specs.declared.Shape.the-variants.{Place as PlaceAlone, Content, Parts, PartsUncertain}
 use Rattle.records.specs.Kinds.{kindOf, shapeOf, shapeLength, outlineShape, marksOf, opening, isContent, hasContent, bodyLength, outlineLength}
 use Rattle.records.specs.Put.{put}
-use Rattle.records.specs.Records.{endRecord, placeRecord, numberRecord, uncertainRecord}
+use Rattle.records.specs.Records.{endRecord, placeRecord}
 use Rattle.items.specs.Sizes.{contentSize, storeSize, outlineSize, areaSize}
 use Rattle.items.specs.Machine.{Rec, loopEnd}
 use Rattle.writing.specs.declared.Cursor.{Cursor}
 use Rattle.writing.specs.Writing.{tokenAt, tokenOf, contentBytes, loopBytes, numberBytes, contentOf, decimalOf, shapeIn, shaped, recordBytes}
-use Rattle.writing.specs.Walk.{storeLength, recordLength, Desk, desk, Going, Room, IsToken, recAt, WroteOne}
+use Rattle.writing.specs.Walk.{storeLength, recordLength, Desk, desk, Going, IsToken, recAt, WroteOne}
 use Rattle.writing.proofs.Bytes.{record-length, store-none, content-length, content-inside}
 use Rattle.writing.proofs.Places.{behind-place}
 use Rattle.writing.proofs.Copy.{put-none}
@@ -59,17 +59,33 @@ unfolding recordBytes shapeIn shaped loopBytes kindOf shapeOf outlineShape
 loop-bytes true s a n o m = refl
 loop-bytes false s a n o m = refl
 
+shape-number : shapeOf (kindOf 14) ≡ Parts
+unfolding kindOf shapeOf
+shape-number = refl
+
+shape-uncertain : shapeOf (kindOf 15) ≡ PartsUncertain
+unfolding kindOf shapeOf
+shape-uncertain = refl
+
 -- a number's kind says whether it has an uncertainty
-pub number-bytes : (full : Bool) (s : List ℕ) (a n o m : ℕ) (d : Decimal) → decimalOf s (recAt (cond (d .uncertain) 15 14) o m) ≡ d
-    → recordBytes full s a n (recAt (cond (d .uncertain) 15 14) o m) ≡ numberBytes full (tokenOf s (recAt (cond (d .uncertain) 15 14) o m)) d
-unfolding recordBytes shapeIn shaped numberBytes kindOf shapeOf outlineShape
-number-bytes full s a n o m d = by full (d .uncertain)
+pub number-bytes : (s : List ℕ) (a n o m k : ℕ) → k ≡ cond (decimalOf s (recAt k o m) .uncertain) 15 14
+    → recordBytes true s a n (recAt k o m) ≡ numberBytes (tokenOf s (recAt k o m)) (decimalOf s (recAt k o m))
+unfolding recordBytes shapeIn shaped numberBytes
+number-bytes s a n o m k e = by (decimalOf s (recAt k o m) .uncertain) refl e
   where
-    by : (t u : Bool) → decimalOf s (recAt (cond u 15 14) o m) ≡ d → recordBytes t s a n (recAt (cond u 15 14) o m) ≡ cond u (cond t (uncertainRecord (tokenOf s (recAt (cond u 15 14) o m)) d) (placeRecord 15 (tokenOf s (recAt (cond u 15 14) o m)))) (cond t (numberRecord (tokenOf s (recAt (cond u 15 14) o m)) d) (placeRecord 14 (tokenOf s (recAt (cond u 15 14) o m))))
-    by true true e = rw e
-    by true false e = rw e
-    by false true e = refl
-    by false false e = refl
+    by : (u : Bool) → decimalOf s (recAt k o m) .uncertain ≡ u → k ≡ cond u 15 14 → recordBytes true s a n (recAt k o m) ≡ numberBytes (tokenOf s (recAt k o m)) (decimalOf s (recAt k o m))
+    by true h e = let z : shapeOf (kindOf k) ≡ PartsUncertain = rw e shape-uncertain in rw (z, h)
+    by false h e = let z : shapeOf (kindOf k) ≡ Parts = rw e shape-number in rw (z, h)
+
+-- in the outline it is its place
+pub number-place : (s : List ℕ) (a n o m k : ℕ) → 14 ≤ k → k ≤ 15 → recordBytes false s a n (recAt k o m) ≡ placeRecord k (tokenOf s (recAt k o m))
+unfolding recordBytes shapeIn shaped kindOf shapeOf outlineShape
+number-place s a n o m k l h = by (k - 14) (omega arith)
+  where
+    by : (j : ℕ) → k ≡ 14 + j → recordBytes false s a n (recAt k o m) ≡ placeRecord k (tokenOf s (recAt k o m))
+    by zero e = rw e
+    by (suc zero) e = rw e
+    by (suc (suc j)) e = absurd (omega arith)
 
 -- a record's length by its bytes
 pub one-length : (full : Bool) (s : List ℕ) (a n : ℕ) (r : Rec) → length (recordBytes full s a n r) ≡ storeLength full (r ∷ [])
@@ -134,14 +150,22 @@ mark-size false k o n e = rw e
 pub mark-bytes : (full : Bool) (s : List ℕ) (p : Place) (k n a tags : ℕ) → IsPlace s p → shapeOf (kindOf k) ≡ PlaceAlone → placeRecord k (tokenAt p n) ≡ recordBytes full s a tags (recAt k (p .offset) n)
 mark-bytes full s p k n a tags i e = rw (token-of s p k n i) (sym (place-bytes full s a tags (recAt k (p .offset) n) e) ∙ refl)
 
-pub number-here : (full : Bool) (s : List ℕ) (p : Place) (n a tags : ℕ) (d : Decimal) → IsPlace s p → decimalOf s (recAt (cond (d .uncertain) 15 14) (p .offset) n) ≡ d
-    → numberBytes full (tokenAt p n) d ≡ recordBytes full s a tags (recAt (cond (d .uncertain) 15 14) (p .offset) n)
-number-here full s p n a tags d i e = rw (token-of s p (cond (d .uncertain) 15 14) n i) (sym (number-bytes full s a tags (p .offset) n d e))
+-- a number's bytes from what the code has at hand
+pub number-read : (s : List ℕ) (p : Place) (n a tags k : ℕ) (t : Token) (d : Decimal) → IsPlace s p → k ≡ cond (decimalOf s (recAt k (p .offset) n) .uncertain) 15 14
+    → t ≡ tokenAt p n → d ≡ decimalOf s (recAt k (p .offset) n) → numberBytes t d ≡ recordBytes true s a tags (recAt k (p .offset) n)
+number-read s p n a tags k t d i e x y = rw (x, y, token-of s p k n i) (sym (number-bytes s a tags (p .offset) n k e))
 
-pub number-plain : (u : Bool) (n : ℕ) → contentSize (cond u 15 14) n ≡ 0
+pub number-outlined : (s : List ℕ) (p : Place) (n a tags k : ℕ) (t : Token) → IsPlace s p → 14 ≤ k → k ≤ 15 → t ≡ tokenAt p n → placeRecord k t ≡ recordBytes false s a tags (recAt k (p .offset) n)
+number-outlined s p n a tags k t i l h x = rw (x, token-of s p k n i) (sym (number-place s a tags (p .offset) n k l h))
+
+pub number-plain : (k n : ℕ) → 14 ≤ k → k ≤ 15 → contentSize k n ≡ 0
 unfolding kindOf shapeOf isContent
-number-plain true n = no-content 15 n refl
-number-plain false n = no-content 14 n refl
+number-plain k n l h = by (k - 14) (omega arith)
+  where
+    by : (j : ℕ) → k ≡ 14 + j → contentSize k n ≡ 0
+    by zero e = rw e (no-content 14 n refl)
+    by (suc zero) e = rw e (no-content 15 n refl)
+    by (suc (suc j)) e = absurd (omega arith)
 
 pub loop-here : (full : Bool) (s : List ℕ) (p : Place) (n a tags : ℕ) → IsPlace s p → loopBytes full (tokenAt p n) tags ≡ recordBytes full s a tags (recAt 5 (p .offset) n)
 loop-here full s p n a tags i = rw (token-of s p 5 n i) (sym (loop-bytes full s a tags (p .offset) n))

@@ -1,12 +1,10 @@
 -- Places behind tokens. Assumes nothing.
-use Prim.Native.Nat.{ℕ, suc, _+_, _-_, _≤_, _<_}
-use mathlib.Core.Path.{_≡_, refl, sym, ap, _∙_}
-use mathlib.Core.Bool.{Bool, true, false}
+use Prim.Native.Nat.{ℕ, _+_, _-_}
+use mathlib.Core.Path.{_≡_}
+use mathlib.Core.Bool.{false}
 use mathlib.Core.List.{List}
-use native.Mathlib.Numerals.{add-one}
 use native.Mathlib.Omega.{arith}
 use lib.Dec.{eqb}
-use lib.ListN.{length}
 use Rattle.text.specs.declared.Place.{Place}
 use Rattle.text.specs.Places.{placeAt, Whole, IsPlace}
 use Rattle.text.proofs.Places.{place-along, place-offset, place-own, whole-after}

@@ -1,35 +1,31 @@
 -- What is left to read and to write from an offset on, in the block and in a frame: an item, a frame's heading and its end take their records off it.
 -- Assumes nothing.
-use Prim.Native.Nat.{ℕ, zero, suc, _+_, _-_, _≤_, _<_}
+use Prim.Native.Nat.{ℕ, suc, _+_, _≤_, _<_}
 use mathlib.Core.Path.{_≡_, refl, sym, ap, _∙_}
-use mathlib.Core.Bool.{Bool, true, false, cond, true≢false, false≢true}
-use mathlib.Core.List.{List, [], _∷_, _++_, append-assoc, append-nil}
+use mathlib.Core.Bool.{Bool, true, false, cond, false≢true}
+use mathlib.Core.List.{List, [], _∷_, _++_, append-nil}
 use mathlib.Core.Option.{Option, none, some}
 use native.Mathlib.Omega.{arith}
-use borrow.Author.Tests.{ne-eqb}
 use lib.Dec.{eqb}
 use lib.ListN.{length, drop, length-drop}
 use Rattle.text.specs.Gaps.{gap, gapEnd}
-use Rattle.text.proofs.Gaps.{gap-from, gap-within, gap-none}
-use Rattle.words.specs.Words.{word, wordEnd}
-use Rattle.words.specs.Keywords.{starts, startsAt, keyLoop, keySave, keyData}
-use Rattle.words.proofs.Words.{word-end}
-use Rattle.values.specs.Values.{Lexed, lexed, save, block}
-use Rattle.records.specs.Kinds.{kindOf, shapeOf}
+use Rattle.text.proofs.Gaps.{gap-none}
+use Rattle.words.specs.Words.{word}
+use Rattle.words.specs.Keywords.{startsAt, keySave, keyData}
+use Rattle.values.specs.Values.{lexed, save, block}
 use Rattle.items.specs.declared.Item.{Item as Answered}
 use Rattle.items.specs.declared.Item.the-variants.{Loop, Single, Ragged, NoValue, NoItem, NoNames, Over}
-use Rattle.items.specs.Tokens.{Mode, before, inBlock, inFrame, lexIn, Tok, tok}
-use Rattle.items.specs.Machine.{Rec, rec, loopEnd, Answer, refused, done, run, config, items}
+use Rattle.items.specs.Tokens.{before, inBlock, inFrame, tok}
+use Rattle.items.specs.Machine.{Rec, rec, Answer, refused, done, run, config, items}
 use Rattle.items.specs.Descent.{Item, taken, failed, broken, item}
 use Rattle.items.specs.Decisions.{tokensAt, headAt, headWhy, Told, told, tells, refusal, room}
 use Rattle.items.specs.Answers.{itemAnswer, itemAt}
 use Rattle.items.specs.Frames.{left, modeOf, blockAt, inFrameOf}
 use Rattle.items.specs.Reading.{decided}
-use Rattle.items.proofs.Descent.{itemRun, failedRun}
-use Rattle.items.proofs.Offsets.{Met, met-open, met-close, met-data, Both, both, both-spot}
+use Rattle.items.proofs.Descent.{itemRun}
+use Rattle.items.proofs.Offsets.{Met, met-open, met-close, met-data, both, both-spot}
 use Rattle.items.proofs.Passes.{AlikeItem, alike-taken, alike-ragged, alike-alone, alike-absent, alike-unnamed, alike-over, item-alike}
-use Rattle.items.proofs.Onward.{closing, DroppedAt, PassedInside, item-inside, frame-item, block-item, left-from, plain, open-reads, left-gap, open-answer, close-answer, begin-reads, end-answer, failed-stops, no-data, decided-from}
-use Rattle.writing.specs.declared.Next.{Next}
+use Rattle.items.proofs.Onward.{DroppedAt, PassedInside, item-inside, frame-item, block-item, left-from, plain, open-reads, left-gap, open-answer, close-answer, begin-reads, end-answer, failed-stops, no-data, decided-from}
 use Rattle.writing.specs.declared.Next.the-variants.{Item as Item′, Stop}
 use Rattle.writing.specs.Walk.{recAt, itemRecs, itemRest, isTaken, itemOf, answerRecs, isDone, recsLeft, nextOf}
 use Rattle.writing.proofs.Prefix.{prefixed, started, run-after}

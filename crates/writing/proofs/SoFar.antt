@@ -1,10 +1,9 @@
 -- The loops that write names and values: what is written so far, and what is left from the cursor on. Assumes nothing.
-use Prim.Native.Nat.{ℕ, zero, suc, _+_, _-_, _≤_, _<_}
+use Prim.Native.Nat.{ℕ}
 use mathlib.Core.Path.{_≡_, refl, sym, ap, _∙_}
-use mathlib.Core.Bool.{Bool, true, false, cond}
-use mathlib.Core.List.{List, [], _∷_, _++_}
+use mathlib.Core.Bool.{Bool, true, false}
+use mathlib.Core.List.{List, [], _∷_}
 use native.Mathlib.Omega.{arith}
-use lib.ListN.{length}
 use Rattle.text.specs.Gaps.{gapEnd}
 use Rattle.text.specs.Places.{placeAt}
 use Rattle.text.proofs.Places.{place-offset}
@@ -13,13 +12,13 @@ use Rattle.records.specs.declared.Shape.the-variants.{Empty, Place, Content, Co
 use Rattle.records.specs.Kinds.{kindOf, shapeOf, outlineShape}
 use Rattle.items.specs.Tokens.{Tok}
 use Rattle.items.specs.Machine.{Rec}
-use Rattle.items.specs.Sizes.{contentSize, areaSize}
+use Rattle.items.specs.Sizes.{areaSize}
 use Rattle.writing.specs.declared.Cursor.{Cursor}
 use Rattle.writing.specs.Writing.{shaped, shapeIn, recordBytes, tagsOf}
-use Rattle.writing.specs.Walk.{storeLength, Desk, desk, Going, Room, WroteOne, Wrote, Onward, behindGap}
+use Rattle.writing.specs.Walk.{Desk, desk, Going, Room, WroteOne, Wrote, Onward, behindGap}
 use Rattle.writing.proofs.Bytes.{record-length, store-none}
 use Rattle.writing.proofs.Onward.{onward-here, onward-then, room-onward, one-onward, onward-wrote}
-use Rattle.writing.proofs.Values.{trim-at, trim-area, trim-place, trim-going, trim-offset}
+use Rattle.writing.proofs.Values.{trim-at, trim-area, trim-going, trim-offset}
 
 -- only a loop's record counts tags
 unfoldable pub isCount : Shape → Bool

@@ -2,13 +2,13 @@
 use Prim.Native.Nat.{ℕ, zero, suc, _+_, _-_, _≤_, _<_}
 use mathlib.Core.Path.{_≡_, refl, sym, ap, _∙_}
 use mathlib.Core.Bool.{Bool, true, false, cond, _&&_, _||_}
-use mathlib.Core.List.{List, [], _∷_, _++_}
+use mathlib.Core.List.{List, [], _∷_}
 use native.Mathlib.Omega.{arith}
 use borrow.Author.Tests.{leb-true, eqb-false}
 use lib.Dec.{eqb, leb}
 use lib.ListN.{length, take, drop}
 use Rattle.text.specs.Gaps.{gap, gapEnd}
-use Rattle.text.specs.Places.{placeAt, IsPlace}
+use Rattle.text.specs.Places.{placeAt}
 use Rattle.text.proofs.Bools.{or-l, or-r, and-l, and-r}
 use Rattle.text.proofs.Gaps.{gap-from, gap-within, gap-none}
 use Rattle.text.proofs.Places.{place-offset, is-gap-end}
@@ -17,25 +17,24 @@ use Rattle.words.proofs.Words.{word-end}
 use Rattle.numbers.specs.declared.Decimal.{Decimal}
 use Rattle.numbers.specs.Parts.{parts, within}
 use Rattle.numbers.specs.Meaning.{meaning}
-use Rattle.values.specs.Values.{Class, block, loop, save, tag, value, overLimit, nothing, Lexed, lexed, lexAsValue}
+use Rattle.values.specs.Values.{Class, block, loop, save, tag, value, overLimit, nothing, lexed, lexAsValue}
 use Rattle.values.specs.Answers.{answer, valueAnswer, valueAt}
-use Rattle.values.specs.declared.Value.{Value as ValueAnswer}
-use Rattle.values.specs.declared.Value.the-variants.{Token, Number, Over, Missing}
+use Rattle.values.specs.declared.Value.the-variants.{Token, Number}
 use Rattle.records.specs.declared.Shape.the-variants.{Place as PlaceAlone, Content}
 use Rattle.records.specs.Kinds.{kindOf, shapeOf, marksOf}
 use Rattle.items.specs.declared.Found.the-variants.{Value}
-use Rattle.items.specs.Tokens.{Mode, inBlock, lexIn, lex, after, Tok, tok}
-use Rattle.items.specs.Machine.{Rec, rec}
+use Rattle.items.specs.Tokens.{inBlock, lexIn, lex, after, tok}
+use Rattle.items.specs.Machine.{rec}
 use Rattle.items.specs.Descent.{nameRecs, afterNames, valueRecs, afterValues}
 use Rattle.items.specs.Decisions.{tokensAt}
 use Rattle.items.specs.Answers.{tagAt, foundOf, foundAt, kindOfNumber}
-use Rattle.items.proofs.Descent.{NoName, NoValue, names-more, names-none, values-more, values-none}
+use Rattle.items.proofs.Descent.{names-more, names-none, values-more, values-none}
 use Rattle.items.proofs.Lexes.{no-name}
-use Rattle.items.proofs.Wanted.{wanted, found-wanted}
+use Rattle.items.proofs.Wanted.{found-wanted}
 use Rattle.items.proofs.Lists.{met-value, no-value}
 use Rattle.items.proofs.Offsets.{tokens-gap, Met, met-tag, first}
 use Rattle.writing.specs.declared.Cursor.{Cursor}
-use Rattle.writing.specs.Walk.{IsToken, Going, recAt}
+use Rattle.writing.specs.Walk.{IsToken, Going, ValueHere, recAt}
 use Rattle.writing.specs.Writing.{decimalOf, tokenText}
 use Rattle.writing.proofs.Lines.{part-token, value-in, value-token}
 
@@ -116,20 +115,34 @@ value-none s o j e h =
     let y = values-none (tok x j) (f .0) (no-value (x .class) (x .size) (λ k n q. h k n (found-wanted inBlock s j ∙ q))) in
     (ap valueRecs z ∙ y .0, ap afterValues z ∙ y .1 ∙ sym z)
 
--- a number's answer
-number-means : (u : List ℕ) (c : Class) (m n : ℕ) (d : Decimal) → answer u c m ≡ Number d n → d ≡ meaning (parts (take n u))
+-- where no space stands before it
+pub value-here : (s : List ℕ) (o k n : ℕ) → gap (drop o s) ≡ 0 → foundAt s o ≡ Value k n → ValueHere s o k n
+value-here s o k n g f = record { bare = g; found = f }
+
+pub here-turn : (s : List ℕ) (o k n : ℕ) → ValueHere s o k n → ValueTurn s o o k n
+here-turn s o k n h = value-turn s o o k n (unfold gapEnd in omega (arith, h .bare)) (h .found)
+
+-- a number's kind goes by its meaning
+number-kind : (u : List ℕ) (c : Class) (m k n : ℕ) → foundOf (answer u c m) ≡ Value k n → 14 ≤ k → k ≤ 15 → k ≡ kindOfNumber (meaning (parts (take n u)))
 unfolding answer
-number-means u (value k) m n d e = by (eqb k 14 || eqb k 15) e
+number-kind u (value j) m k n e l h = by (eqb j 14 || eqb j 15) refl e
   where
-    by : (t : Bool) → cond t (Number (meaning (parts (take m u))) m) (Token k m) ≡ Number d n → d ≡ meaning (parts (take n u))
-    by true e = cc
-    by false e = cc
-number-means u overLimit m n d e = cc
-number-means u block m n d e = cc
-number-means u loop m n d e = cc
-number-means u save m n d e = cc
-number-means u tag m n d e = cc
-number-means u (nothing w) m n d e = cc
+    by : (t : Bool) → (eqb j 14 || eqb j 15) ≡ t → foundOf (cond t (Number (meaning (parts (take m u))) m) (Token j m)) ≡ Value k n → k ≡ kindOfNumber (meaning (parts (take n u)))
+    by true q e =
+        let z : m ≡ n = cc in
+        let y : k ≡ kindOfNumber (meaning (parts (take m u))) = cc in
+        rw z at y
+    by false q e =
+        let z : j ≡ k = cc in
+        let a = eqb-false j 14 (or-l (eqb j 14) (eqb j 15) q) in
+        let b = eqb-false j 15 (or-r (eqb j 14) (eqb j 15) q) in
+        absurd (omega arith)
+number-kind u overLimit m k n e l h = cc
+number-kind u block m k n e l h = cc
+number-kind u loop m k n e l h = cc
+number-kind u save m k n e l h = cc
+number-kind u tag m k n e l h = cc
+number-kind u (nothing w) m k n e l h = cc
 
 few-places : (w : List ℕ) → within (parts w) ≡ true → meaning (parts w) .places ≤ 18
 unfolding within meaning
@@ -137,22 +150,39 @@ few-places w e =
     let p = parts w in
     leb-true (length (p .frac)) 18 (and-r (leb (length (p .int)) 9) _ (and-l (leb (length (p .int)) 9 && leb (length (p .frac)) 18) _ (and-l (leb (length (p .int)) 9 && leb (length (p .frac)) 18 && leb (length (p .exp .run)) 9) _ e)))
 
-pub record NumberTurn (s : List ℕ) (o j n : ℕ) (d : Decimal) : Type 0 where
-  pub turn : ValueTurn s o j (kindOfNumber d) n
-  pub decimal : decimalOf s (recAt (kindOfNumber d) j n) ≡ d
-  pub places : d .places < 256
+-- what Read and Outline want of a number
+pub record NumberTurn (s : List ℕ) (o k n : ℕ) : Type 0 where
+  pub turn : ValueTurn s o o k n
+  pub kind : k ≡ kindOfNumber (decimalOf s (recAt k o n))
+  pub limits : within (parts (take n (drop o s))) ≡ true
+  pub places : decimalOf s (recAt k o n) .places < 256
 
-pub number-turn : (s : List ℕ) (o j n : ℕ) (d : Decimal) → j ≡ gapEnd s o → valueAt s j ≡ Number d n → NumberTurn s o j n d
+pub number-turn : (s : List ℕ) (o k n : ℕ) → ValueHere s o k n → 14 ≤ k → NumberTurn s o k n
 unfolding valueAt valueAnswer decimalOf tokenText
-number-turn s o j n d e f =
-    let t = value-turn s o j (kindOfNumber d) n e (unfold valueAt valueAnswer in ap foundOf f) in
-    let m : d ≡ meaning (parts (take n (drop j s))) = number-means (drop j s) (lexAsValue (drop j s) .class) (lexAsValue (drop j s) .size) n d f in
-    let p : meaning (parts (take n (drop j s))) .places ≤ 18 = few-places (take n (drop j s)) (t .limits (either (d .uncertain))) in
-    record { turn = t; decimal = sym m; places = omega (arith, ap (λ (x : Decimal). x .places) m) }
+number-turn s o k n h l =
+    let t = here-turn s o k n h in
+    let w = t .limits (either k l (t .most)) in
+    record {
+      turn = t;
+      kind = number-kind (drop o s) (lexAsValue (drop o s) .class) (lexAsValue (drop o s) .size) k n (h .found) l (t .most);
+      limits = w;
+      places = omega (arith, few-places (take n (drop o s)) w);
+    }
   where
-    either : (u : Bool) → (eqb (cond u 15 14) 14 || eqb (cond u 15 14) 15) ≡ true
-    either true = refl
-    either false = refl
+    either : (k : ℕ) → 14 ≤ k → k ≤ 15 → (eqb k 14 || eqb k 15) ≡ true
+    either k l h = by (k - 14) (omega arith)
+      where
+        by : (j : ℕ) → k ≡ 14 + j → (eqb k 14 || eqb k 15) ≡ true
+        by zero e = rw e
+        by (suc zero) e = rw e
+        by (suc (suc j)) e = absurd (omega arith)
+
+-- a part of the text means what its record says
+pub decimal-here : (s : List ℕ) (o k n : ℕ) (d : Decimal) → d ≡ meaning (parts (take (o + n - o) (drop o s))) → d ≡ decimalOf s (recAt k o n)
+unfolding decimalOf tokenText
+decimal-here s o k n d e =
+    let z : o + n - o ≡ n = omega arith in
+    rw z at e
 
 -- the shape of a value's record
 pub mark-kind : (k : ℕ) → 8 ≤ k → k < 10 → shapeOf (kindOf k) ≡ PlaceAlone
@@ -174,31 +204,3 @@ text-kind k l h = by (k - 10) (omega arith)
     by (suc (suc zero)) e = rw e
     by (suc (suc (suc zero))) e = rw e
     by (suc (suc (suc (suc j)))) e = absurd (omega arith)
-
--- a token's kind is no number's
-token-kind : (u : List ℕ) (c : Class) (m k n : ℕ) → answer u c m ≡ Token k n → (eqb k 14 || eqb k 15) ≡ false
-unfolding answer
-token-kind u (value j) m k n e = by (eqb j 14 || eqb j 15) refl e
-  where
-    by : (t : Bool) → (eqb j 14 || eqb j 15) ≡ t → cond t (Number (meaning (parts (take m u))) m) (Token j m) ≡ Token k n → (eqb k 14 || eqb k 15) ≡ false
-    by true q e = cc
-    by false q e = let z : j ≡ k = cc in rw z at q
-token-kind u overLimit m k n e = cc
-token-kind u block m k n e = cc
-token-kind u loop m k n e = cc
-token-kind u save m k n e = cc
-token-kind u tag m k n e = cc
-token-kind u (nothing w) m k n e = cc
-
-pub record TokenTurn (s : List ℕ) (o j k n : ℕ) : Type 0 where
-  pub turn : ValueTurn s o j k n
-  pub kind : k ≤ 13
-
-pub token-turn : (s : List ℕ) (o j k n : ℕ) → j ≡ gapEnd s o → valueAt s j ≡ Token k n → TokenTurn s o j k n
-unfolding valueAt valueAnswer
-token-turn s o j k n e f =
-    let t = value-turn s o j k n e (unfold valueAt valueAnswer in ap foundOf f) in
-    let q = token-kind (drop j s) (lexAsValue (drop j s) .class) (lexAsValue (drop j s) .size) k n f in
-    let a = eqb-false k 14 (or-l (eqb k 14) (eqb k 15) q) in
-    let b = eqb-false k 15 (or-r (eqb k 14) (eqb k 15) q) in
-    record { turn = t; kind = omega (arith, t .most) }

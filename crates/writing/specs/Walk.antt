@@ -4,7 +4,7 @@ use Prim.Native.Nat.{ℕ, suc, _+_, _≤_, _<_}
 use mathlib.Core.Path.{_≡_}
 use mathlib.Core.Bool.{Bool, true, false, cond}
 use mathlib.Core.List.{List, [], _∷_}
-use mathlib.Core.Option.{Option, none, some}
+use mathlib.Core.Option.{Option, some}
 use lib.Dec.{eqb}
 use lib.ListN.{length, drop, getD}
 use Rattle.text.specs.Bytes.{isEol}
@@ -24,8 +24,6 @@ use Rattle.items.specs.Descent.{Item, taken, failed, broken, item}
 use Rattle.items.specs.Decisions.{tokensAt, headAt}
 use Rattle.items.specs.Sizes.{contentSize, storeSize, outlineSize, areaSize}
 use Rattle.writing.specs.declared.Cursor.{Cursor}
-use Rattle.writing.specs.declared.Written.{Written}
-use Rattle.writing.specs.declared.Written.the-variants.{Value as Value′, Ended}
 use Rattle.writing.specs.declared.Next.{Next}
 use Rattle.writing.specs.declared.Next.the-variants.{Item as Item′, Stop}
 use Rattle.writing.specs.Writing.{shapeIn, recordBytes, storeOf, contentOf, areaOf, areaIn}
@@ -94,26 +92,10 @@ pub record Wrote (full : Bool) (s : List ℕ) (rs : List Rec) (o : ℕ) (d e : D
 unfoldable pub behindGap : List ℕ → Cursor → Cursor
 behindGap s c = record { place = placeAt s (gapEnd s (c .place .offset)); at = c .at; area = c .area }
 
--- the value that stands behind space and comments is written
-pub record WroteValue (full : Bool) (s : List ℕ) (d e : Desk) : Type 0 where
-  pub kind : ℕ
-  pub size : ℕ
-  pub found : foundAt s (gapEnd s (d .cursor .place .offset)) ≡ Value kind size
-  pub wrote : WroteOne full s 0 (recAt kind (gapEnd s (d .cursor .place .offset)) size) (gapEnd s (d .cursor .place .offset) + size) d e
-
--- or none stands there, and nothing is written
-pub record NoValue (s : List ℕ) (d : Desk) (l a : List ℕ) : Type 0 where
-  pub none : (k n : ℕ) → foundAt s (gapEnd s (d .cursor .place .offset)) ≡ Value k n → ⊥
-  pub store : l ≡ d .store
-  pub area : a ≡ d .area
-
-unfoldable pub ValueDone : Bool → List ℕ → Desk → Written → List ℕ → List ℕ → Type 0
-ValueDone full s d (Value′ c) l a = WroteValue full s d (desk c l a)
-ValueDone full s d Ended l a = NoValue s d l a
-
--- there is room for the value that stands there
-unfoldable pub ValueRoom : Bool → List ℕ → Desk → Type 0
-ValueRoom full s d = (k n : ℕ) → foundAt s (gapEnd s (d .cursor .place .offset)) ≡ Value k n → Room full (recAt k (gapEnd s (d .cursor .place .offset)) n ∷ []) d
+-- a value of kind k and n bytes stands at offset o, where no space does
+pub record ValueHere (s : List ℕ) (o k n : ℕ) : Type 0 where
+  pub bare : gap (drop o s) ≡ 0
+  pub found : foundAt s o ≡ Value k n
 
 -- an item that is read: its records, and the tokens behind it
 unfoldable pub itemRecs : Item → List Rec

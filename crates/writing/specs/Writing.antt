@@ -1,6 +1,6 @@
 -- What Read and Outline write of a text's records (document 01, 'Records'): store bytes and area bytes. Content, decimal parts and places are functions of the
 -- text and of a record's kind, offset and length. The flag `full` tells Read's bodies from the outline's, which are P alone. Assumes nothing.
-use Prim.Native.Nat.{ℕ, suc, _+_, _-_}
+use Prim.Native.Nat.{ℕ, suc, _+_}
 use mathlib.Core.Bool.{Bool, true, false, cond}
 use mathlib.Core.List.{List, [], _∷_, _++_}
 use lib.Dec.{eqb}
@@ -37,16 +37,16 @@ decimalOf s r = meaning (parts (tokenText s r))
 unfoldable pub tokenAt : Place → ℕ → Token
 tokenAt p n = record { offset = p .offset; length = n; line = p .line; column = p .column }
 
--- the bytes of a record with content, of a loop, of a number: P alone in the outline
+-- the bytes of a record with content, of a loop: P alone in the outline
 unfoldable pub contentBytes : Bool → ℕ → Token → ℕ → List ℕ
 contentBytes full k t a = cond full (contentRecord k t a) (placeRecord k t)
 
 unfoldable pub loopBytes : Bool → Token → ℕ → List ℕ
 loopBytes full t n = cond full (loopRecord t n) (placeRecord 5 t)
 
-unfoldable pub numberBytes : Bool → Token → Decimal → List ℕ
-numberBytes full t d =
-    cond (d .uncertain) (cond full (uncertainRecord t d) (placeRecord 15 t)) (cond full (numberRecord t d) (placeRecord 14 t))
+-- and of a number in Read
+unfoldable pub numberBytes : Token → Decimal → List ℕ
+numberBytes t d = cond (d .uncertain) (uncertainRecord t d) (numberRecord t d)
 
 -- a record's bytes by its shape: a is the area offset, n the number of tags
 unfoldable pub shaped : Shape → List ℕ → ℕ → ℕ → Rec → List ℕ

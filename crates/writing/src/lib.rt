@@ -1,9 +1,8 @@
 // Writing the records of a text that is known to be good, into a store and an area that are known to have room.
 ghost use mathlib.Core.Path.{_≡_};
-ghost use mathlib.Core.Bool.{true, false, cond};
+ghost use mathlib.Core.Bool.{true, cond};
 ghost use mathlib.Core.List.{List, [], _∷_};
 ghost use Prim.Native.Nat.{ℕ, _+_, _≤_, _<_, _^_};
-ghost use lib.Dec.{eqb};
 ghost use lib.ListN.{length, take, drop};
 ghost use Rattle.text.specs.Places.{IsPlace, placeAt};
 ghost use Rattle.words.specs.Keywords.{startsAt, keyLoop, keySave};
@@ -12,33 +11,26 @@ ghost use Rattle.records.specs.declared.Shape.the-variants.{Content, Place as P
 ghost use Rattle.items.specs.Sizes.{areaSize};
 ghost use Rattle.records.specs.Put.{front, put};
 ghost use Rattle.items.specs.Machine.{loopEnd};
-ghost use mathlib.Core.Option.{none, some};
-ghost use Rattle.items.specs.Answers.{kindOfNumber, tagAt, Here, itemAt};
+ghost use mathlib.Core.Option.{none};
+ghost use Rattle.items.specs.Answers.{tagAt, Here, itemAt};
 ghost use Rattle.items.specs.Reading.{limit, decided};
-ghost use Rattle.items.specs.Frames.{left};
 ghost use Rattle.items.specs.Tokens.{inBlock};
 ghost use Rattle.items.specs.Decisions.{tokensAt, headAt};
 ghost use Rattle.items.specs.Descent.{nameRecs, afterNames, valueRecs, afterValues};
-ghost use Rattle.writing.specs.Writing.{storeOf, areaIn, tokenAt, decimalOf, contentBytes, loopBytes, numberBytes};
-ghost use Rattle.writing.specs.Walk.{storeLength, recordLength, Going, Room, IsToken, recAt, WroteOne, Wrote, behindGap, ValueRoom, ValueDone, ItemHere, WroteItem, nextOf, Closing, Closed, Ahead, Moved, recsLeft, isDone, answerRecs, desk};
+ghost use Rattle.writing.specs.Writing.{storeOf, areaIn, tokenAt, contentBytes, loopBytes, numberBytes, recordBytes};
+ghost use Rattle.writing.specs.Walk.{storeLength, recordLength, Going, Room, IsToken, recAt, WroteOne, Wrote, behindGap, ValueHere, ItemHere, WroteItem, nextOf, Closing, Closed, Ahead, Moved, recsLeft, isDone, answerRecs, desk};
+use items::Found;
 use items::Item;
 use numbers::Decimal;
 use records::Kind;
 use records::Token;
 use text::Place;
-use values::Value;
 
 // Where writing stands: the place in the text, and the offsets in the store and in the area.
 pub struct Cursor {
     pub place: Place,
     pub at: usize,
     pub area: usize,
-}
-
-// What comes of writing a value: the cursor behind it, or none stands there.
-pub enum Written {
-    Value { next: Cursor },
-    Ended,
 }
 
 // What stands next in a frame: an item that is read, or where the last one stopped.
@@ -131,25 +123,34 @@ fn put_loop(full: bool, store: &mut [u8], at: usize, token: Token, tags: u32)
     records::write_place(&mut store[at..], 5, token);
 }
 
-// A number's record.
-fn put_number(full: bool, store: &mut [u8], at: usize, token: Token, decimal: Decimal)
-    requires { ⌜ (at + length (numberBytes full token decimal) ≤ length (now store)) × (decimal .places < 256) ⌝ }
-    ensures { λ r. ⌜ now (store .exit) ≡ put at (numberBytes full token decimal) (now (store .entry)) ⌝ }
+// A number's record in Read.
+fn put_decimal(store: &mut [u8], at: usize, token: Token, decimal: Decimal)
+    requires { ⌜ (at + length (numberBytes token decimal) ≤ length (now store)) × (decimal .places < 256) ⌝ }
+    ensures { λ r. ⌜ now (store .exit) ≡ put at (numberBytes token decimal) (now (store .entry)) ⌝ }
 {
     let uncertain = decimal.uncertain;
     if uncertain {
-        if full {
-            records::write_uncertain(&mut store[at..], token, decimal);
-            return;
-        }
-        records::write_place(&mut store[at..], 15, token);
+        records::write_uncertain(&mut store[at..], token, decimal);
         return;
     }
-    if full {
-        records::write_number(&mut store[at..], token, decimal);
+    records::write_number(&mut store[at..], token, decimal);
+}
+
+// A number's record: Outline does not ask what the number means.
+fn put_number(s: &[u8], full: bool, store: &mut [u8], c: Cursor, kind: u8, size: usize)
+    requires { ⌜ Going (now s) c × ValueHere (now s) (c .place .offset) kind size × (14 ≤ kind) × (c .at + storeLength full (recAt kind (c .place .offset) size ∷ []) ≤ length (now store)) ⌝ }
+    ensures { λ r. ⌜ now (store .exit) ≡ put (c .at) (recordBytes full (now (s .entry)) (c .area) 0 (recAt kind (c .place .offset) size)) (now (store .entry)) ⌝ }
+{
+    let place = c.place;
+    let at = c.at;
+    let token = token_at(place, size);
+    if !full {
+        records::write_place(&mut store[at..], kind, token);
         return;
     }
-    records::write_place(&mut store[at..], 14, token);
+    let offset = place.offset;
+    let end = offset + size;
+    put_decimal(store, at, token, numbers::decimal_of(&s[offset..end]));
 }
 
 // A token that has content.
@@ -198,22 +199,14 @@ fn write_mark(s: &[u8], full: bool, store: &mut [u8], c: Cursor, kind: u8, size:
 }
 
 // A number.
-fn write_number(
-    s: &[u8],
-    full: bool,
-    store: &mut [u8],
-    c: Cursor,
-    decimal: Decimal,
-    size: usize,
-) -> Cursor
-    requires { ⌜ Going (now s) c × IsToken (now s) (kindOfNumber decimal) (c .place .offset) size × (decimalOf (now s) (recAt (kindOfNumber decimal) (c .place .offset) size) ≡ decimal) × (decimal .places < 256) × (c .at + storeLength full (recAt (kindOfNumber decimal) (c .place .offset) size ∷ []) ≤ length (now store)) ⌝ }
-    ensures { λ r. ⌜ ((a : List ℕ) → WroteOne full (now (s .entry)) 0 (recAt (kindOfNumber decimal) (c .place .offset) size) (c .place .offset + size) (desk c (now (store .entry)) a) (desk r (now (store .exit)) a)) ⌝ }
+fn write_number(s: &[u8], full: bool, store: &mut [u8], c: Cursor, kind: u8, size: usize) -> Cursor
+    requires { ⌜ Going (now s) c × ValueHere (now s) (c .place .offset) kind size × (14 ≤ kind) × (c .at + storeLength full (recAt kind (c .place .offset) size ∷ []) ≤ length (now store)) ⌝ }
+    ensures { λ r. ⌜ ((a : List ℕ) → WroteOne full (now (s .entry)) 0 (recAt kind (c .place .offset) size) (c .place .offset + size) (desk c (now (store .entry)) a) (desk r (now (store .exit)) a)) ⌝ }
 {
     let place = c.place;
     let at = c.at;
     let area = c.area;
-    let kind = items::number_kind(decimal);
-    put_number(full, store, at, token_at(place, size), decimal);
+    put_number(s, full, store, c, kind, size);
     Cursor {
         place: behind(s, place, kind, size),
         at: at + record_length(full, kind),
@@ -287,26 +280,23 @@ fn write_token(
     write_text(s, full, store, area, c, kind, size)
 }
 
-// The value behind space and comments.
-fn write_value(s: &[u8], full: bool, store: &mut [u8], area: &mut [u8], c: Cursor) -> Written
-    requires { ⌜ Going (now s) c × ValueRoom full (now s) (desk c (now store) (now area)) ⌝ }
-    ensures { λ r. ⌜ ValueDone full (now (s .entry)) (desk c (now (store .entry)) (now (area .entry))) r (now (store .exit)) (now (area .exit)) ⌝ }
+// A value that is found.
+fn write_found(
+    s: &[u8],
+    full: bool,
+    store: &mut [u8],
+    area: &mut [u8],
+    c: Cursor,
+    kind: u8,
+    size: usize,
+) -> Cursor
+    requires { ⌜ Going (now s) c × ValueHere (now s) (c .place .offset) kind size × Room full (recAt kind (c .place .offset) size ∷ []) (desk c (now store) (now area)) ⌝ }
+    ensures { λ r. ⌜ WroteOne full (now (s .entry)) 0 (recAt kind (c .place .offset) size) (c .place .offset + size) (desk c (now (store .entry)) (now (area .entry))) (desk r (now (store .exit)) (now (area .exit))) ⌝ }
 {
-    let here = trimmed(s, c);
-    let place = here.place;
-    let offset = place.offset;
-    let v = values::parse_value(s, offset);
-    if let Value::Token { kind, size } = v {
-        return Written::Value {
-            next: write_token(s, full, store, area, here, kind, size),
-        };
+    if kind < 14 {
+        return write_token(s, full, store, area, c, kind, size);
     }
-    if let Value::Number { decimal, size } = v {
-        return Written::Value {
-            next: write_number(s, full, store, here, decimal, size),
-        };
-    }
-    Written::Ended
+    write_number(s, full, store, c, kind, size)
 }
 
 // The values of a loop, until one fails.
@@ -314,12 +304,14 @@ fn write_values(s: &[u8], full: bool, store: &mut [u8], area: &mut [u8], c: Curs
     requires { ⌜ Going (now s) c × Room full (valueRecs (tokensAt inBlock (now s) (c .place .offset))) (desk c (now store) (now area)) ⌝ }
     ensures { λ r. ⌜ Wrote full (now (s .entry)) (valueRecs (tokensAt inBlock (now (s .entry)) (c .place .offset))) (headAt (afterValues (tokensAt inBlock (now (s .entry)) (c .place .offset)))) (desk c (now (store .entry)) (now (area .entry))) (desk r (now (store .exit)) (now (area .exit))) ⌝ }
 {
-    let mut here = c;
+    let mut here = trimmed(s, c);
     loop {
-        let Written::Value { next } = write_value(s, full, store, area, here) else {
-            return trimmed(s, here);
+        let place = here.place;
+        let offset = place.offset;
+        let Found::Value { kind, size } = items::find_value(s, offset) else {
+            return here;
         };
-        here = next;
+        here = trimmed(s, write_found(s, full, store, area, here, kind, size));
     }
 }
 
@@ -377,11 +369,13 @@ fn write_tag_item(s: &[u8], full: bool, store: &mut [u8], area: &mut [u8], c: Cu
     let place = c.place;
     let offset = place.offset;
     let end = words::parse_identifier(s, offset);
-    let tagged = write_text(s, full, store, area, c, 4, end - offset);
-    let Written::Value { next } = write_value(s, full, store, area, tagged) else {
-        return tagged;
+    let here = trimmed(s, write_text(s, full, store, area, c, 4, end - offset));
+    let spot = here.place;
+    let from = spot.offset;
+    let Found::Value { kind, size } = items::find_value(s, from) else {
+        return here;
     };
-    trimmed(s, next)
+    trimmed(s, write_found(s, full, store, area, here, kind, size))
 }
 
 // An item.

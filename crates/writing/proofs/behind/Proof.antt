@@ -5,8 +5,6 @@ use Rattle.text.proofs.Places.{place-column}
 use Rattle.writing.proofs.Places.{behind-line}
 use Rattle.writing.proofs.behind.Statement.{statement}
 use Rattle.writing.proofs.behind.Tie as tie
-use Rattle.writing.proofs.behind.Reads as reads
-use Rattle.writing.proofs.behind.Lts as lts
 use Rattle.text.proofs.advance.Reads as advance-reads
 
 add-end : tie.Need-add-end

@@ -5,8 +5,6 @@ use Rattle.records.specs.Kinds.{kindOf, shapeOf}
 use Rattle.writing.proofs.Frames.{closing-place, closing-token, closed}
 use Rattle.writing.proofs.close_frame.Statement.{statement}
 use Rattle.writing.proofs.close_frame.Tie as tie
-use Rattle.writing.proofs.close_frame.Reads as reads
-use Rattle.writing.proofs.close_frame.Lts as lts
 use Rattle.text.proofs.advance.Reads as advance-reads
 use Rattle.writing.proofs.trimmed.Reads as trimmed-reads
 use Rattle.writing.proofs.write_mark.Reads as write-mark-reads

@@ -9,8 +9,6 @@ use Rattle.records.specs.Put.{put}
 use Rattle.writing.proofs.Copy.{put-none, copy-more}
 use Rattle.writing.proofs.copy_content.Statement.{statement}
 use Rattle.writing.proofs.copy_content.Tie as tie
-use Rattle.writing.proofs.copy_content.Reads as reads
-use Rattle.writing.proofs.copy_content.Lts as lts
 
 abbrev Inv-loop : tie.InvT-loop
 Inv-loop s full from n area₀ at i₀ area i = (full ≡ true) × (at + n ≤ length area₀) × (i ≤ n) × (length area ≡ length area₀) × (area ≡ put at (take i (drop from s)) area₀)

@@ -1,4 +1,3 @@
-use borrow.Author.Needs.{needs}
 use Prim.Native.Nat.{_+_, _-_, _≤_}
 use mathlib.Core.Path.{_≡_, sym, ap, _∙_}
 use native.Mathlib.Omega.{arith}
@@ -13,8 +12,6 @@ use Rattle.writing.proofs.Lists.{namesFrom, gap-twice}
 use Rattle.writing.proofs.Items.{count-turn, count-none}
 use Rattle.writing.proofs.count_tags.Statement.{statement}
 use Rattle.writing.proofs.count_tags.Tie as tie
-use Rattle.writing.proofs.count_tags.Reads as reads
-use Rattle.writing.proofs.count_tags.Lts as lts
 use Rattle.items.proofs.at_tag.Reads as at-tag-reads
 use Rattle.text.proofs.gap_end.Reads as gap-end-reads
 use Rattle.words.proofs.parse_identifier.Reads as parse-identifier-reads

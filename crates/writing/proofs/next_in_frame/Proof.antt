@@ -3,8 +3,6 @@ use mathlib.Core.Path.{sym, ap, _∙_}
 use Rattle.writing.specs.Walk.{nextOf}
 use Rattle.writing.proofs.next_in_frame.Statement.{statement}
 use Rattle.writing.proofs.next_in_frame.Tie as tie
-use Rattle.writing.proofs.next_in_frame.Reads as reads
-use Rattle.writing.proofs.next_in_frame.Lts as lts
 use Rattle.items.proofs.parse_data_item.Reads as parse-data-item-reads
 
 parse-data-item-requires : tie.Need-parse-data-item-requires

@@ -1,13 +1,10 @@
 use borrow.Author.Needs.{needs}
-use mathlib.Core.Path.{_≡_, sym, ap, _∙_}
 use native.Mathlib.Omega.{arith}
 use Rattle.records.proofs.Putting.{part-put}
 use Rattle.writing.proofs.Copy.{rest-room}
 use Rattle.writing.proofs.Forms.{content-full, content-outline}
 use Rattle.writing.proofs.put_content.Statement.{statement}
 use Rattle.writing.proofs.put_content.Tie as tie
-use Rattle.writing.proofs.put_content.Reads as reads
-use Rattle.writing.proofs.put_content.Lts as lts
 use Rattle.records.proofs.write_content.Reads as write-content-reads
 use Rattle.records.proofs.write_place.Reads as write-place-reads
 

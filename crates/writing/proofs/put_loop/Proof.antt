@@ -1,13 +1,10 @@
 use borrow.Author.Needs.{needs}
-use mathlib.Core.Path.{_≡_, sym, ap, _∙_}
 use native.Mathlib.Omega.{arith}
 use Rattle.records.proofs.Putting.{part-put}
 use Rattle.writing.proofs.Copy.{rest-room}
 use Rattle.writing.proofs.Forms.{loop-full, loop-outline}
 use Rattle.writing.proofs.put_loop.Statement.{statement}
 use Rattle.writing.proofs.put_loop.Tie as tie
-use Rattle.writing.proofs.put_loop.Reads as reads
-use Rattle.writing.proofs.put_loop.Lts as lts
 use Rattle.records.proofs.write_loop.Reads as write-loop-reads
 use Rattle.records.proofs.write_place.Reads as write-place-reads
 

@@ -3,8 +3,6 @@ use mathlib.Core.Path.{refl}
 use Rattle.writing.specs.Writing.{tokenAt}
 use Rattle.writing.proofs.token_at.Statement.{statement}
 use Rattle.writing.proofs.token_at.Tie as tie
-use Rattle.writing.proofs.token_at.Reads as reads
-use Rattle.writing.proofs.token_at.Lts as lts
 
 cast-t6 : tie.Need-cast-t6
 cast-t6 c = search needs

@@ -1,12 +1,9 @@
 use borrow.Author.Needs.{needs}
 use mathlib.Core.Path.{ap}
 use Rattle.text.specs.declared.Place.{Place}
-use Rattle.writing.specs.declared.Cursor.{Cursor}
 use Rattle.writing.specs.Walk.{behindGap}
 use Rattle.writing.proofs.trimmed.Statement.{statement}
 use Rattle.writing.proofs.trimmed.Tie as tie
-use Rattle.writing.proofs.trimmed.Reads as reads
-use Rattle.writing.proofs.trimmed.Lts as lts
 use Rattle.text.proofs.trim_comments_and_whitespace.Reads as trim-comments-and-whitespace-reads
 
 trim-comments-and-whitespace-requires : tie.Need-trim-comments-and-whitespace-requires

@@ -1,6 +1,6 @@
 use borrow.Author.Needs.{needs}
 use Prim.Native.Nat.{_-_}
-use mathlib.Core.Path.{_≡_, refl, ap}
+use mathlib.Core.Path.{refl, ap}
 use native.Mathlib.Omega.{arith}
 use Rattle.text.proofs.Places.{is-start}
 use Rattle.words.proofs.Words.{word-from}
@@ -10,7 +10,6 @@ use Rattle.writing.proofs.Block.{Fits, block-going, block-token, block-
 use Rattle.writing.proofs.write_block.Statement.{statement}
 use Rattle.writing.proofs.write_block.Tie as tie
 use Rattle.writing.proofs.write_block.Reads as reads
-use Rattle.writing.proofs.write_block.Lts as lts
 use Rattle.words.proofs.parse_identifier.Reads as parse-identifier-reads
 use Rattle.writing.proofs.trimmed.Reads as trimmed-reads
 use Rattle.writing.proofs.write_items.Reads as write-items-reads

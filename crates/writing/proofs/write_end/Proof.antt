@@ -1,15 +1,12 @@
 use borrow.Author.Needs.{needs}
 use Prim.Native.Nat.{_+_}
-use mathlib.Core.Path.{_≡_, refl, sym, ap, _∙_}
+use mathlib.Core.Path.{refl, ap}
 use native.Mathlib.Omega.{arith}
-use lib.ListN.{length}
 use Rattle.records.proofs.Putting.{part-put}
 use Rattle.writing.proofs.Copy.{rest-room}
 use Rattle.writing.proofs.Ones.{end-size, end-length, end-wrote}
 use Rattle.writing.proofs.write_end.Statement.{statement}
 use Rattle.writing.proofs.write_end.Tie as tie
-use Rattle.writing.proofs.write_end.Reads as reads
-use Rattle.writing.proofs.write_end.Lts as lts
 use Rattle.records.proofs.write_end.Reads as write-end-reads
 use Rattle.writing.proofs.record_length.Reads as record-length-reads
 

@@ -1,6 +1,6 @@
 use borrow.Author.Needs.{needs}
 use Prim.Native.Nat.{_-_}
-use mathlib.Core.Path.{_≡_, refl, sym, ap, _∙_}
+use mathlib.Core.Path.{refl, sym, ap, _∙_}
 use native.Mathlib.Omega.{arith}
 use lib.ListN.{length}
 use Rattle.words.proofs.Words.{word-from}
@@ -10,8 +10,6 @@ use Rattle.writing.specs.Walk.{desk}
 use Rattle.writing.proofs.Frames.{Inside, inside-start, inside-next, frame-all, heading-token, heading-room, heading-moved, frame-item-here, frame-item-moved, frame-closing, frame-closed}
 use Rattle.writing.proofs.write_frame.Statement.{statement}
 use Rattle.writing.proofs.write_frame.Tie as tie
-use Rattle.writing.proofs.write_frame.Reads as reads
-use Rattle.writing.proofs.write_frame.Lts as lts
 use Rattle.words.proofs.parse_identifier.Reads as parse-identifier-reads
 use Rattle.writing.proofs.close_frame.Reads as close-frame-reads
 use Rattle.writing.proofs.next_in_frame.Reads as next-in-frame-reads

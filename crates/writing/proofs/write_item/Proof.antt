@@ -3,8 +3,6 @@ use mathlib.Core.Path.{sym, _∙_}
 use Rattle.writing.proofs.Items.{tag-here}
 use Rattle.writing.proofs.write_item.Statement.{statement}
 use Rattle.writing.proofs.write_item.Tie as tie
-use Rattle.writing.proofs.write_item.Reads as reads
-use Rattle.writing.proofs.write_item.Lts as lts
 use Rattle.words.proofs.at_loop.Reads as at-loop-reads
 use Rattle.writing.proofs.write_loop_item.Reads as write-loop-item-reads
 use Rattle.writing.proofs.write_tag_item.Reads as write-tag-item-reads

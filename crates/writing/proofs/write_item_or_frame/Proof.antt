@@ -4,8 +4,6 @@ use Rattle.writing.specs.Walk.{desk}
 use Rattle.writing.proofs.Frames.{block-item-here, block-item-moved}
 use Rattle.writing.proofs.write_item_or_frame.Statement.{statement}
 use Rattle.writing.proofs.write_item_or_frame.Tie as tie
-use Rattle.writing.proofs.write_item_or_frame.Reads as reads
-use Rattle.writing.proofs.write_item_or_frame.Lts as lts
 use Rattle.words.proofs.at_save.Reads as at-save-reads
 use Rattle.writing.proofs.write_frame.Reads as write-frame-reads
 use Rattle.writing.proofs.write_item.Reads as write-item-reads

@@ -1,4 +1,3 @@
-use borrow.Author.Needs.{needs}
 use Prim.Native.Nat.{_-_}
 use native.Mathlib.Omega.{arith}
 use lib.ListN.{length}
@@ -6,8 +5,6 @@ use Rattle.writing.specs.Walk.{desk}
 use Rattle.writing.proofs.Frames.{InBlock, block-start, block-next, block-ended}
 use Rattle.writing.proofs.write_items.Statement.{statement}
 use Rattle.writing.proofs.write_items.Tie as tie
-use Rattle.writing.proofs.write_items.Reads as reads
-use Rattle.writing.proofs.write_items.Lts as lts
 use Rattle.writing.proofs.write_item_or_frame.Reads as write-item-or-frame-reads
 
 abbrev Inv-loop : tie.InvT-loop

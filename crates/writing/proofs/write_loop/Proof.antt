@@ -1,6 +1,6 @@
 use borrow.Author.Needs.{needs}
 use Prim.Native.Nat.{_+_}
-use mathlib.Core.Path.{_≡_, refl, sym, ap, _∙_}
+use mathlib.Core.Path.{refl, ap, _∙_}
 use native.Mathlib.Omega.{arith}
 use lib.ListN.{length}
 use Rattle.records.specs.Put.{put}
@@ -9,8 +9,6 @@ use Rattle.writing.specs.Writing.{loopBytes}
 use Rattle.writing.proofs.Ones.{place-small, kind-length, one-length, loop-here, loop-plain, plain-wrote}
 use Rattle.writing.proofs.write_loop.Statement.{statement}
 use Rattle.writing.proofs.write_loop.Tie as tie
-use Rattle.writing.proofs.write_loop.Reads as reads
-use Rattle.writing.proofs.write_loop.Lts as lts
 use Rattle.writing.proofs.behind.Reads as behind-reads
 use Rattle.writing.proofs.put_loop.Reads as put-loop-reads
 use Rattle.writing.proofs.record_length.Reads as record-length-reads

@@ -1,16 +1,11 @@
 use borrow.Author.Needs.{needs}
-use Prim.Native.Nat.{_+_, _-_}
-use mathlib.Core.Path.{_≡_, refl, sym, ap, _∙_}
-use native.Mathlib.Omega.{arith}
-use lib.ListN.{length}
+use Prim.Native.Nat.{_+_}
 use Rattle.text.proofs.Places.{place-offset}
 use Rattle.writing.specs.Walk.{desk}
 use Rattle.writing.proofs.SoFar.{room-first}
 use Rattle.writing.proofs.Items.{names-few, loop-names-room, loop-values-room, loop-token, loop-begun, loop-opened, loop-named, loop-valued, loop-ended}
 use Rattle.writing.proofs.write_loop_item.Statement.{statement}
 use Rattle.writing.proofs.write_loop_item.Tie as tie
-use Rattle.writing.proofs.write_loop_item.Reads as reads
-use Rattle.writing.proofs.write_loop_item.Lts as lts
 use Rattle.writing.proofs.count_tags.Reads as count-tags-reads
 use Rattle.writing.proofs.write_end.Reads as write-end-reads
 use Rattle.writing.proofs.write_loop.Reads as write-loop-reads

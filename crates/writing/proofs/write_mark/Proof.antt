@@ -1,5 +1,5 @@
 use borrow.Author.Needs.{needs}
-use mathlib.Core.Path.{_≡_, refl, sym, ap, _∙_}
+use mathlib.Core.Path.{_≡_, refl, ap, _∙_}
 use native.Mathlib.Omega.{arith}
 use Prim.Native.Nat.{_+_}
 use Rattle.records.specs.Kinds.{isContent}
@@ -12,8 +12,6 @@ use Rattle.writing.proofs.Copy.{rest-room}
 use Rattle.writing.proofs.Ones.{place-small, kind-length, mark-size, mark-bytes, no-content, plain-wrote}
 use Rattle.writing.proofs.write_mark.Statement.{statement}
 use Rattle.writing.proofs.write_mark.Tie as tie
-use Rattle.writing.proofs.write_mark.Reads as reads
-use Rattle.writing.proofs.write_mark.Lts as lts
 use Rattle.records.proofs.write_place.Reads as write-place-reads
 use Rattle.writing.proofs.behind.Reads as behind-reads
 use Rattle.writing.proofs.record_length.Reads as record-length-reads

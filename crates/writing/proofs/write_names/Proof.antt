@@ -1,6 +1,6 @@
 use borrow.Author.Needs.{needs}
 use Prim.Native.Nat.{_-_}
-use mathlib.Core.Path.{_≡_, refl, sym, ap, _∙_}
+use mathlib.Core.Path.{refl, sym, ap, _∙_}
 use native.Mathlib.Omega.{arith}
 use borrow.Author.Tests.{not-true, not-false}
 use lib.ListN.{length}
@@ -13,8 +13,6 @@ use Rattle.writing.proofs.Lists.{namesFrom, behindNames, name-room, nam
 use Rattle.writing.proofs.Values.{trim-offset}
 use Rattle.writing.proofs.write_names.Statement.{statement}
 use Rattle.writing.proofs.write_names.Tie as tie
-use Rattle.writing.proofs.write_names.Reads as reads
-use Rattle.writing.proofs.write_names.Lts as lts
 use Rattle.words.proofs.parse_identifier.Reads as parse-identifier-reads
 use Rattle.items.proofs.at_tag.Reads as at-tag-reads
 use Rattle.writing.proofs.trimmed.Reads as trimmed-reads

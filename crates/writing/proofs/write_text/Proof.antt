@@ -1,10 +1,10 @@
 use borrow.Author.Needs.{needs}
 use Prim.Native.Nat.{_+_, _-_, _≤_}
-use mathlib.Core.Path.{_≡_, refl, sym, ap, _∙_}
+use mathlib.Core.Path.{_≡_, sym, ap, _∙_}
 use mathlib.Core.Bool.{cond}
 use mathlib.Core.List.{[], _∷_}
 use native.Mathlib.Omega.{arith}
-use lib.ListN.{length, take, drop}
+use lib.ListN.{length}
 use Rattle.records.specs.Kinds.{kindOf, marksOf, opening}
 use Rattle.records.specs.Put.{put}
 use Rattle.writing.specs.Writing.{contentBytes}
@@ -13,8 +13,6 @@ use Rattle.writing.proofs.Bytes.{opening-marks}
 use Rattle.writing.proofs.Ones.{place-small, kind-length, one-length, has-content, text-size, text-here, text-room, text-content, one-wrote}
 use Rattle.writing.proofs.write_text.Statement.{statement}
 use Rattle.writing.proofs.write_text.Tie as tie
-use Rattle.writing.proofs.write_text.Reads as reads
-use Rattle.writing.proofs.write_text.Lts as lts
 use Rattle.records.proofs.Kind.marks.Reads as marks-reads
 use Rattle.records.proofs.Kind.of.Reads as of-reads
 use Rattle.records.proofs.Kind.opening.Reads as opening-reads

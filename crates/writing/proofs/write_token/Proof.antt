@@ -2,8 +2,6 @@ use borrow.Author.Needs.{needs}
 use Rattle.writing.proofs.Turns.{mark-kind, text-kind}
 use Rattle.writing.proofs.write_token.Statement.{statement}
 use Rattle.writing.proofs.write_token.Tie as tie
-use Rattle.writing.proofs.write_token.Reads as reads
-use Rattle.writing.proofs.write_token.Lts as lts
 use Rattle.writing.proofs.write_mark.Reads as write-mark-reads
 use Rattle.writing.proofs.write_text.Reads as write-text-reads
 

@@ -1,0 +1,47 @@
+use borrow.Author.Needs.{needs}
+use native.Mathlib.Omega.{arith}
+use Rattle.writing.proofs.Turns.{here-turn}
+use Rattle.writing.proofs.write_found.Statement.{statement}
+use Rattle.writing.proofs.write_found.Tie as tie
+use Rattle.writing.proofs.write_number.Reads as write-number-reads
+use Rattle.writing.proofs.write_token.Reads as write-token-reads
+
+write-token-requires : tie.Need-write-token-requires
+write-token-requires c κs =
+    let a = c .before .before .before .before .before .before .args in
+    let p = c .before .before .before .before .before .before .pre in
+    let t = here-turn (a .s .now) (a .c .place .offset) (a .kind) (a .size) (p .1) in
+    (p .0, t .token, t .least, omega arith, p .2)
+
+same-length : tie.Need-same-length
+same-length c = search needs
+
+same-length-2 : tie.Need-same-length-2
+same-length-2 c = search needs
+
+returns : tie.Need-returns
+returns c = search needs
+
+write-number-requires : tie.Need-write-number-requires
+write-number-requires c κs =
+    let p = c .before .before .before .before .before .pre in
+    (p .0, p .1, omega arith, p .2 .store)
+
+same-length-3 : tie.Need-same-length-3
+same-length-3 c = search needs
+
+returns-2 : tie.Need-returns-2
+returns-2 c =
+    c .before .before .write-number .ensures (c .before .before .before .before .before .before .before .before .args .area .now)
+
+pub write-found-spec : {M : Type 1} → statement M
+write-found-spec =
+    tie.close
+    (tie.spec
+    write-token-requires
+    same-length
+    same-length-2
+    returns
+    write-number-requires
+    same-length-3
+    returns-2)
