@@ -4,6 +4,8 @@
 #![cfg_attr(not(has_source), allow(dead_code))]
 
 mod answer;
+#[cfg(feature = "library")]
+mod calls;
 mod compare;
 mod exhaustive;
 mod files;
@@ -12,7 +14,11 @@ mod generate;
 mod library;
 mod list;
 mod model;
+#[cfg(feature = "library")]
+mod model_stores;
 mod options;
+#[cfg(feature = "library")]
+mod over_stores;
 mod random;
 mod report;
 mod shrink;
