@@ -1,6 +1,6 @@
 //! Writes the modules that name the source's files where they stand, and finds the archive.
 //! Nothing of the source is copied: the modules point at the files of PDBTBX_SRC, or of the
-//! folder shared/docs/src beside the repository.
+//! folder shared/docs/src beside the repository. Where neither is there, the source is left out.
 
 use std::env;
 use std::fs;
@@ -11,13 +11,16 @@ fn main() {
         println!("cargo:rerun-if-env-changed={name}");
     }
     println!("cargo:rerun-if-changed=build.rs");
+    println!("cargo:rustc-check-cfg=cfg(has_source)");
     let package = folder("CARGO_MANIFEST_DIR");
-    let root = source_root(&package);
-    fs::write(
-        folder("OUT_DIR").join("source_modules.rs"),
-        modules(&root, &package),
-    )
-    .expect("the build folder can be written");
+    if let Some(root) = source_root(&package) {
+        println!("cargo:rustc-cfg=has_source");
+        fs::write(
+            folder("OUT_DIR").join("source_modules.rs"),
+            modules(&root, &package),
+        )
+        .expect("the build folder can be written");
+    }
     if env::var_os("CARGO_FEATURE_LIBRARY").is_some() {
         link_library();
     }
@@ -29,17 +32,14 @@ fn folder(name: &str) -> PathBuf {
 }
 
 /// The folder of the source's files: the one named, or the nearest shared/docs/src above.
-fn source_root(package: &Path) -> PathBuf {
+fn source_root(package: &Path) -> Option<PathBuf> {
     if let Some(named) = env::var_os("PDBTBX_SRC") {
-        return PathBuf::from(named);
+        return Some(PathBuf::from(named));
     }
-    let found = package
-        .ancestors()
+    let above = package.ancestors();
+    above
         .map(|above| above.join("shared/docs/src"))
-        .find(|folder| folder.is_dir());
-    found.unwrap_or_else(|| {
-        panic!("no folder shared/docs/src beside the repository: set PDBTBX_SRC to the source's folder")
-    })
+        .find(|folder| folder.is_dir())
 }
 
 /// One file of the source, under its own path or under the flat name of the document set.

@@ -183,6 +183,22 @@ fn thing(record: &Record) -> Thing {
     }
 }
 
+/// Our answer as the source would tell it. What it would show of the text is left out.
+pub fn as_told(answer: &Answer) -> Told {
+    match answer {
+        Ok(records) => Told::Read(things(records)),
+        Err(refusal) => Told::Refused(ToldRefusal {
+            number: refusal.number,
+            line: refusal.place.line,
+            column: (4..=6)
+                .contains(&refusal.number)
+                .then_some(refusal.place.column),
+            detail: refusal.detail,
+            shown: Shown::Start(String::new()),
+        }),
+    }
+}
+
 /// The `f64` that the source makes of these parts: each digit behind the point divided by its own
 /// power of ten and added from the left, then the integer, the sign and the exponent.
 /// An exponent of 0 needs no step, whether written or not: it would be a product with 1.

@@ -1,64 +1,20 @@
 //! The proved library's answer to a text, through its C functions. The store and the area that come
-//! back are cut into records again and held, byte for byte, to what the model writes.
+//! back are held, byte for byte, to what the model writes, lent to every other service of the library,
+//! and cut into records again.
 
 use crate::answer::{Answer, Refusal};
-use crate::{model, stores};
+use crate::calls::{self, Called, Kept};
+use crate::{model, over_stores, stores};
 
-/// The answer of one call, as the header gives it.
-#[repr(C)]
-#[derive(Debug, Clone, Copy, PartialEq, Eq)]
-struct Called {
-    number: u64,
-    offset: u64,
-    line: u64,
-    column: u64,
-    detail: u64,
-    first_length: u64,
-    second_length: u64,
-}
-
-extern "C" {
-    fn chuntarek_read(
-        text: *const u8,
-        text_len: usize,
-        store: *mut u8,
-        store_len: usize,
-        area: *mut u8,
-        area_len: usize,
-    ) -> Called;
-    fn chuntarek_outline(
-        text: *const u8,
-        text_len: usize,
-        store: *mut u8,
-        store_len: usize,
-    ) -> Called;
-}
-
-/// Read, with this much of the two buffers lent.
-fn call_read(text: &[u8], store: &mut [u8], area: &mut [u8]) -> Called {
-    // SAFETY: pointers and lengths come from slices that live through the call and do not overlap.
-    unsafe {
-        chuntarek_read(
-            text.as_ptr(),
-            text.len(),
-            store.as_mut_ptr(),
-            store.len(),
-            area.as_mut_ptr(),
-            area.len(),
-        )
-    }
-}
-
-/// Outline, with this much of the buffer lent. It has no area, and the one given is left alone.
-fn call_outline(text: &[u8], store: &mut [u8], _area: &mut [u8]) -> Called {
-    // SAFETY: as above.
-    unsafe { chuntarek_outline(text.as_ptr(), text.len(), store.as_mut_ptr(), store.len()) }
+/// Outline has no area; the one given is left alone.
+fn outline(text: &[u8], store: &mut [u8], _area: &mut [u8]) -> Called {
+    calls::outline(text, store)
 }
 
 /// The library's answer, or what is wrong with it whatever the source says.
 pub fn read(text: &[u8]) -> Result<Answer, String> {
     let service = |name, call| Service { name, call, text };
-    let (read, outline) = (service("read", call_read), service("outline", call_outline));
+    let (read, outline) = (service("read", calls::read), service("outline", outline));
     match model::read(text) {
         Err(refusal) => {
             outline.refuses(&refusal)?;
@@ -69,6 +25,7 @@ pub fn read(text: &[u8]) -> Result<Answer, String> {
             outline.writes(&stores::encode_outline(&records), &[])?;
             let (store, area) = stores::encode(&records);
             let written = read.writes(&store, &area)?;
+            over_stores::hold(&records, written.kept())?;
             let decoded = stores::decode(written.store(), written.area());
             Ok(Ok(decoded.ok_or("library, read: no whole records")?))
         }
@@ -147,12 +104,9 @@ impl Service<'_> {
 fn lengths_call(number: u64, first: usize, second: usize) -> Called {
     Called {
         number,
-        offset: 0,
-        line: 0,
-        column: 0,
-        detail: 0,
         first_length: first as u64,
         second_length: second as u64,
+        ..Called::default()
     }
 }
 
@@ -198,6 +152,14 @@ impl Lent {
     /// The part of the area that the answer counts.
     fn area(&self) -> &[u8] {
         &self.area[..self.called.second_length as usize]
+    }
+
+    /// Both, for the services after reading.
+    fn kept(&self) -> Kept<'_> {
+        Kept {
+            store: self.store(),
+            area: self.area(),
+        }
     }
 
     /// Whether these bytes stand first and all others are as they were.

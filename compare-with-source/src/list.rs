@@ -5,8 +5,8 @@ use std::collections::{BTreeMap, HashSet};
 use std::fs;
 use std::path::Path;
 
-use crate::answer::{Thing, Told};
-use crate::compare::Verdict;
+use crate::answer::{as_told, Answer, Thing, Told};
+use crate::compare::{self, Verdict};
 use crate::generate;
 use crate::source;
 
@@ -53,7 +53,7 @@ pub fn write(
     let mut entries = Vec::new();
     for text in &texts {
         let start = entries.len();
-        put_entry(&mut entries, text);
+        put_entry(&mut entries, text, &told(text));
         assert!(
             entries.len() - start <= LONGEST_ENTRY,
             "a short text has a short entry"
@@ -97,9 +97,9 @@ fn choose(count: usize, seed: u64, judge: impl Fn(&[u8]) -> Verdict) -> Vec<Vec<
     texts
 }
 
-fn put_entry(out: &mut Vec<u8>, text: &[u8]) {
-    match told(text) {
-        Told::Read(things) => put_read(out, text, &things),
+fn put_entry(out: &mut Vec<u8>, text: &[u8], told: &Told) {
+    match told {
+        Told::Read(things) => put_read(out, text, things),
         Told::Refused(refusal) => {
             let column = refusal.column.unwrap_or(0);
             let number = refusal.number.into();
@@ -115,6 +115,7 @@ fn put_entry(out: &mut Vec<u8>, text: &[u8]) {
     }
 }
 
+/// The source's answer.
 fn told(text: &[u8]) -> Told {
     source::read(std::str::from_utf8(text).expect("a chosen text is ASCII"))
 }
@@ -152,14 +153,18 @@ fn amount(thing: &Thing) -> u32 {
     }
 }
 
-/// Holds every entry of a list to the source and to our own answer; answers how many there are.
-pub fn check(file: &Path, judge: impl Fn(&[u8]) -> Verdict) -> Result<usize, String> {
+/// Holds every entry of a list to our own answer, and to the source's where it is at hand; answers
+/// how many there are.
+pub fn check(
+    file: &Path,
+    answer: impl Fn(&[u8]) -> Result<Answer, String>,
+) -> Result<usize, String> {
     let bytes = fs::read(file).map_err(|error| format!("{}: {error}", file.display()))?;
     let (count, mut rest) = opened(&bytes)?;
     for number in 0..count {
         let length = entry_length(rest).ok_or(format!("entry {number} is cut off"))?;
         let (entry, after) = rest.split_at(length);
-        check_entry(entry, &judge).map_err(|what| format!("entry {number}: {what}"))?;
+        check_entry(entry, &answer).map_err(|what| format!("entry {number}: {what}"))?;
         rest = after;
     }
     if rest.is_empty() {
@@ -197,24 +202,41 @@ fn half(head: &[u8], field: usize) -> usize {
     u16::from_le_bytes([head[2 * field], head[2 * field + 1]]).into()
 }
 
-fn check_entry(entry: &[u8], judge: &impl Fn(&[u8]) -> Verdict) -> Result<(), String> {
+fn check_entry(
+    entry: &[u8],
+    answer: &impl Fn(&[u8]) -> Result<Answer, String>,
+) -> Result<(), String> {
     let text = &entry[16..16 + half(entry, 0)];
-    if judge(text) != Verdict::Same(half(entry, 1) as u8) {
+    let ours = answer(text)?;
+    if compare::compare(text, &ours) != Verdict::Same(half(entry, 1) as u8) {
         return Err(String::from("our answer is another"));
     }
+    is_entry(entry, text, &as_told(&ours), "our answer is another")?;
+    match source::AT_HAND {
+        true => is_entry(entry, text, &told(text), "the source's answer is another"),
+        false => Ok(()),
+    }
+}
+
+/// Whether this answer makes this entry.
+fn is_entry(entry: &[u8], text: &[u8], told: &Told, otherwise: &str) -> Result<(), String> {
     let mut now = Vec::new();
-    put_entry(&mut now, text);
+    put_entry(&mut now, text, told);
     if now == entry {
         Ok(())
     } else {
-        Err(String::from("the source's answer is another"))
+        Err(String::from(otherwise))
     }
 }
 
 #[cfg(test)]
 mod tests {
     use super::*;
-    use crate::{compare, model};
+    use crate::model;
+
+    fn answer(text: &[u8]) -> Result<Answer, String> {
+        Ok(model::read(text))
+    }
 
     fn judge(text: &[u8]) -> Verdict {
         compare::compare(text, &model::read(text))
@@ -227,23 +249,25 @@ mod tests {
         }
     }
 
+    #[cfg(has_source)]
     #[test]
     fn a_written_list_holds() {
         let file = std::env::temp_dir().join(format!("cifreads-{}", std::process::id()));
         let (texts, _) = write(&file, 200, 1, judge).expect("a list can be written");
-        assert_eq!(check(&file, judge), Ok(texts));
+        assert_eq!(check(&file, answer), Ok(texts));
         let mut bytes = fs::read(&file).expect("the list is there");
         let first_answer = 16 + 2;
         bytes[first_answer] ^= 1;
         fs::write(&file, &bytes).expect("the list can be changed");
-        assert!(check(&file, judge).is_err());
+        assert!(check(&file, answer).is_err());
         fs::remove_file(&file).expect("the list can be removed");
     }
 
     #[test]
     fn an_entry_has_the_bytes_described() {
         let mut out = Vec::new();
-        put_entry(&mut out, b"data_x _a 1(2)");
+        let text = b"data_x _a 1(2)";
+        put_entry(&mut out, text, &as_told(&model::read(text)));
         let head = [14, 0, 0, 0, 0, 0, 0, 0, 0, 0, 3, 0, 2, 0, 1, 0];
         assert_eq!(out[..16], head);
         assert_eq!(out[30..45], [1, 1, 0, 0, 0, 4, 1, 0, 0, 0, 15, 2, 0, 0, 0]);

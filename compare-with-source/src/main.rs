@@ -1,6 +1,11 @@
 //! Feeds the source and the rules of document 01 the same texts and compares their answers.
 
+// Without the source, what takes its answers apart is idle.
+#![cfg_attr(not(has_source), allow(dead_code))]
+
 mod answer;
+#[cfg(feature = "library")]
+mod calls;
 mod compare;
 mod exhaustive;
 mod files;
@@ -9,14 +14,23 @@ mod generate;
 mod library;
 mod list;
 mod model;
+#[cfg(feature = "library")]
+mod model_stores;
 mod options;
+#[cfg(feature = "library")]
+mod over_stores;
 mod random;
 mod report;
 mod shrink;
+#[cfg(has_source)]
+mod source;
+#[cfg(not(has_source))]
+#[path = "no_source.rs"]
 mod source;
 mod stores;
 mod tokens;
 
+#[cfg(has_source)]
 include!(concat!(env!("OUT_DIR"), "/source_modules.rs"));
 
 use std::process::ExitCode;
@@ -41,25 +55,30 @@ fn main() -> ExitCode {
             ExitCode::SUCCESS
         }
         Work::Compare => compare_all(&options, &judge),
-        Work::Show(file) => finish(files::load(file).map(|text| shown(&text))),
-        Work::WriteList(file) => finish(
-            list::write(file, options.count, options.seed, judge)
-                .map(|(texts, bytes)| format!("{texts} texts in {bytes} bytes")),
-        ),
+        Work::Show(file) => finish(with_source().and_then(|()| Ok(shown(&files::load(file)?)))),
+        Work::WriteList(file) => finish(with_source().and_then(|()| {
+            let (texts, bytes) = list::write(file, options.count, options.seed, judge)?;
+            Ok(format!("{texts} texts in {bytes} bytes"))
+        })),
         Work::CheckList(file) => {
-            finish(list::check(file, judge).map(|texts| format!("{texts} texts of the list hold")))
+            let answer = |text: &[u8]| answer(options.backend, text);
+            finish(list::check(file, answer).map(|texts| format!("{texts} texts of the list hold")))
         }
+    }
+}
+
+/// This backend's answer to a text, or what is wrong with it.
+fn answer(backend: Backend, text: &[u8]) -> Result<Answer, String> {
+    match backend {
+        Backend::Model => model_answer(text),
+        #[cfg(feature = "library")]
+        Backend::Library => library::read(text),
     }
 }
 
 /// What comes of one text with this backend.
 fn judge(backend: Backend, text: &[u8]) -> Verdict {
-    let answer = match backend {
-        Backend::Model => model_answer(text),
-        #[cfg(feature = "library")]
-        Backend::Library => library::read(text),
-    };
-    match answer {
+    match answer(backend, text) {
         Ok(answer) => compare::compare(text, &answer),
         Err(fault) => Verdict::Different(fault),
     }
@@ -78,6 +97,11 @@ fn model_answer(text: &[u8]) -> Result<Answer, String> {
 }
 
 fn compare_all(options: &Options, judge: &impl Fn(&[u8]) -> Verdict) -> ExitCode {
+    if !source::AT_HAND {
+        println!(
+            "the source is not at hand: only the backend, the model and the texts are compared"
+        );
+    }
     let mut report = Report::default();
     if let Err(words) = compare_files(options, &mut report, judge) {
         eprintln!("{words}");
@@ -131,6 +155,16 @@ fn compare_generated(options: &Options, report: &mut Report, judge: &impl Fn(&[u
         let text = generate::text(options.seed, number);
         report.add(&text, judge(&text), judge);
         number += 1;
+    }
+}
+
+/// Nothing, if the source can be asked.
+fn with_source() -> Result<(), String> {
+    match source::AT_HAND {
+        true => Ok(()),
+        false => Err(String::from(
+            "the source is not at hand: set PDBTBX_SRC to its folder and build again",
+        )),
     }
 }
 

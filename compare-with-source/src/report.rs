@@ -5,6 +5,7 @@ use std::fmt::Write;
 
 use crate::compare::Verdict;
 use crate::shrink::shrink;
+use crate::source;
 
 /// How often a kind was met, and its smallest input so far.
 struct Found {
@@ -52,10 +53,11 @@ impl Report {
     pub fn lines(&self) -> String {
         let mut out = String::new();
         put_count(&mut out, "texts", self.texts);
+        let both = if source::AT_HAND { " by both" } else { "" };
         for (number, count) in &self.same {
             match number {
-                0 => put_count(&mut out, "read by both", *count),
-                _ => put_count(&mut out, &format!("refused by both: {number}"), *count),
+                0 => put_count(&mut out, &format!("read{both}"), *count),
+                _ => put_count(&mut out, &format!("refused{both}: {number}"), *count),
             }
         }
         put_found(&mut out, "set apart", &self.set_apart);

@@ -3,34 +3,37 @@
 /// Simple bytes, simplest first; a byte is only replaced by one that stands before it.
 const SIMPLE: &[u8] = b" a1\n_";
 
-/// How many texts may be tried, and how many bytes they may have together: a long text is tried less often.
-const TRIES: usize = 20_000;
-const BYTES: usize = 200_000_000;
+/// How many bytes may be tried in all, each text counted with its length and one more.
+const BUDGET: usize = 20_000_000;
 
 /// A small text of which `keeps` still holds.
 pub fn shrink(text: &[u8], keeps: impl Fn(&[u8]) -> bool) -> Vec<u8> {
     let mut small = text.to_vec();
-    let mut tries = TRIES.min(BYTES / text.len().max(1));
+    let mut budget = BUDGET;
     loop {
         let length = small.len();
-        small = without_pieces(small, &keeps, &mut tries);
+        small = without_pieces(small, &keeps, &mut budget);
         let bytes = small.clone();
-        small = simpler_bytes(small, &keeps, &mut tries);
-        if tries == 0 || (small.len() == length && small == bytes) {
+        small = simpler_bytes(small, &keeps, &mut budget);
+        if budget == 0 || (small.len() == length && small == bytes) {
             return small;
         }
     }
 }
 
 /// Leaves out pieces, long ones first.
-fn without_pieces(mut text: Vec<u8>, keeps: &impl Fn(&[u8]) -> bool, tries: &mut usize) -> Vec<u8> {
+fn without_pieces(
+    mut text: Vec<u8>,
+    keeps: &impl Fn(&[u8]) -> bool,
+    budget: &mut usize,
+) -> Vec<u8> {
     let mut size = text.len().max(1);
     while size > 0 {
         let mut at = 0;
-        while at < text.len() && *tries > 0 {
+        while at < text.len() && *budget > 0 {
             let end = (at + size).min(text.len());
             let shorter = [&text[..at], &text[end..]].concat();
-            if tried(&shorter, keeps, tries) {
+            if tried(&shorter, keeps, budget) {
                 text = shorter;
             } else {
                 at += size;
@@ -42,9 +45,9 @@ fn without_pieces(mut text: Vec<u8>, keeps: &impl Fn(&[u8]) -> bool, tries: &mut
 }
 
 /// Puts simpler bytes in.
-fn simpler_bytes(mut text: Vec<u8>, keeps: &impl Fn(&[u8]) -> bool, tries: &mut usize) -> Vec<u8> {
+fn simpler_bytes(mut text: Vec<u8>, keeps: &impl Fn(&[u8]) -> bool, budget: &mut usize) -> Vec<u8> {
     for at in 0..text.len() {
-        if *tries == 0 {
+        if *budget == 0 {
             break;
         }
         let old = text[at];
@@ -52,7 +55,7 @@ fn simpler_bytes(mut text: Vec<u8>, keeps: &impl Fn(&[u8]) -> bool, tries: &mut 
         let simpler = SIMPLE.iter().chain(&lower);
         for new in simpler.take_while(|new| **new != old) {
             text[at] = *new;
-            if tried(&text, keeps, tries) {
+            if tried(&text, keeps, budget) {
                 break;
             }
             text[at] = old;
@@ -61,12 +64,9 @@ fn simpler_bytes(mut text: Vec<u8>, keeps: &impl Fn(&[u8]) -> bool, tries: &mut 
     text
 }
 
-fn tried(text: &[u8], keeps: &impl Fn(&[u8]) -> bool, tries: &mut usize) -> bool {
-    if *tries == 0 {
-        return false;
-    }
-    *tries -= 1;
-    keeps(text)
+fn tried(text: &[u8], keeps: &impl Fn(&[u8]) -> bool, budget: &mut usize) -> bool {
+    *budget = budget.saturating_sub(text.len() + 1);
+    *budget > 0 && keeps(text)
 }
 
 #[cfg(test)]
@@ -94,8 +94,8 @@ mod tests {
             tries.set(tries.get() + 1);
             false
         };
-        let text = vec![b'x'; 50_000_000];
+        let text = vec![b'x'; 8_000_000];
         assert_eq!(shrink(&text, never), text);
-        assert_eq!(tries.get(), 4);
+        assert!(tries.get() <= 5);
     }
 }

@@ -9,6 +9,9 @@ use crate::error::{Context, PDBError};
 use crate::mmcif::lexer::lex_cif;
 use crate::mmcif::lexitem::{DataBlock, DataItem, Item, Loop, Value};
 
+/// Whether the source can be asked.
+pub const AT_HAND: bool = true;
+
 /// What the source makes of a text. A panic is caught and is an answer too.
 pub fn read(text: &str) -> Told {
     keep_quiet();

@@ -1,0 +1,115 @@
+//! What document 01 says of records that were read: their rendering, names that stand twice, and
+//! each record in the numbers of the header. A test aid, as the model is.
+
+use std::collections::HashMap;
+
+use crate::answer::{Body, Decimal, Record};
+
+/// The rendering: each record's token and a line end; the end of a loop has none.
+pub fn rendering(records: &[Record]) -> Vec<u8> {
+    let mut out = Vec::new();
+    for record in records.iter().filter(|record| record.kind != 7) {
+        let (before, behind) = marks(record.kind);
+        out.extend(before.as_bytes());
+        match &record.body {
+            Body::Content(content) => out.extend(content),
+            Body::Number(decimal) => out.extend(number(decimal).bytes()),
+            Body::Nothing | Body::Tags(_) => {}
+        }
+        out.extend(behind.as_bytes());
+        out.push(b'\n');
+    }
+    out
+}
+
+/// What stands before and behind the content of a kind.
+fn marks(kind: u8) -> (&'static str, &'static str) {
+    match kind {
+        1 => ("data_", ""),
+        2 | 3 => ("save_", ""),
+        4 | 6 => ("_", ""),
+        5 => ("loop_", ""),
+        8 => (".", ""),
+        9 => ("?", ""),
+        11 => ("'", "'"),
+        12 => ("\"", "\""),
+        13 => (";", ";"),
+        _ => ("", ""),
+    }
+}
+
+fn number(decimal: &Decimal) -> String {
+    let mut out = String::from(if decimal.minus { "-" } else { "" });
+    out += &decimal.integer.to_string();
+    if decimal.fraction_digits > 0 {
+        let digits = decimal.fraction.to_string();
+        let zeros = usize::from(decimal.fraction_digits) - digits.len();
+        out += &format!(".{}{digits}", "0".repeat(zeros));
+    }
+    if decimal.exponent != 0 {
+        out += &format!("e{}", decimal.exponent);
+    }
+    if let Some(uncertainty) = decimal.uncertainty {
+        out += &format!("({uncertainty})");
+    }
+    out
+}
+
+/// The earliest record that repeats a name of its scope, behind the first record of that name.
+pub fn repeated_name(records: &[Record]) -> Option<(usize, usize)> {
+    let mut block = HashMap::new();
+    let mut frame = HashMap::new();
+    let mut in_frame = false;
+    for (number, record) in records.iter().enumerate() {
+        match (record.kind, &record.body) {
+            (2, _) => {
+                frame.clear();
+                in_frame = true;
+            }
+            (3, _) => in_frame = false,
+            (4 | 6, Body::Content(name)) => {
+                let scope = if in_frame { &mut frame } else { &mut block };
+                if let Some(first) = scope.insert(name, number) {
+                    return Some((first, number));
+                }
+            }
+            _ => {}
+        }
+    }
+    None
+}
+
+#[cfg(test)]
+mod tests {
+    use super::*;
+    use crate::model;
+
+    fn records(text: &[u8]) -> Vec<Record> {
+        model::read(text).expect("the text is read")
+    }
+
+    #[test]
+    fn records_are_rendered() {
+        let text = b"DATA_t _a +01.050e-07(02) loop_ _b\n;c\n; 'd' \"e\" ? . f -.5 SAVE_f save_";
+        let rendered =
+            "data_t\n_a\n1.050e-7(2)\nloop_\n_b\n;c\n;\n'd'\n\"e\"\n?\n.\nf\n-0.5\nsave_f\nsave_\n";
+        assert_eq!(rendering(&records(text)), rendered.as_bytes());
+    }
+
+    #[test]
+    fn names_are_found_twice() {
+        let found = |text| repeated_name(&records(text));
+        assert_eq!(
+            found(b"data_x _a 1 _A 2 save_f _a 3 save_ save_g _a 4 save_"),
+            None
+        );
+        assert_eq!(
+            found(b"data_x _a 1 save_f _b 2 _b 3 save_ _a 4"),
+            Some((4, 6))
+        );
+        assert_eq!(
+            found(b"data_x _a 1 save_f _a 2 save_ loop_ _a 3"),
+            Some((1, 8))
+        );
+    }
+}

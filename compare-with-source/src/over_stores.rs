@@ -1,0 +1,205 @@
+//! The library's services over a store that it has written: Render, Name check, Content and the
+//! walk, held to the model.
+
+use crate::answer::{mark_bytes, Body, Decimal, Record};
+use crate::calls::{self, Called, Kept, Part, Walked};
+use crate::model::TEXT_LIMIT;
+use crate::{model_stores, stores};
+
+/// Of a longer store not every content is asked for: each question walks all of it.
+const MOST_QUESTIONS: usize = 40;
+
+/// What is wrong with what the services make of this store and area, if anything.
+pub fn hold(records: &[Record], kept: Kept) -> Result<(), String> {
+    walk(records, kept)?;
+    contents(records, kept)?;
+    names(records, kept)?;
+    rendering(records, kept)
+}
+
+fn must(holds: bool, what: &str) -> Result<(), String> {
+    match holds {
+        true => Ok(()),
+        false => Err(format!("library, {what}")),
+    }
+}
+
+fn refused(number: u64) -> Called {
+    Called {
+        number,
+        ..Called::default()
+    }
+}
+
+/// The walk meets every record, and then the end.
+fn walk(records: &[Record], kept: Kept) -> Result<(), String> {
+    let (mut at, mut start) = (0, 0);
+    for record in records {
+        let walked = kept.record_at(at);
+        at += body_length(record);
+        must(
+            walked == expected(record, start, at),
+            "walk: a record differs",
+        )?;
+        start += walked.content;
+    }
+    let end = Walked {
+        number: 14,
+        ..Walked::default()
+    };
+    must(kept.record_at(at) == end, "walk: something follows the end")
+}
+
+/// The kind and the body that document 01's table gives it.
+fn body_length(record: &Record) -> u64 {
+    1 + match record.kind {
+        7 => 0,
+        3 | 8 | 9 => 16,
+        14 => 34,
+        15 => 38,
+        _ => 20,
+    }
+}
+
+fn expected(record: &Record, start: u64, next: u64) -> Walked {
+    let walked = Walked {
+        kind: record.kind.into(),
+        offset: record.place.offset as u64,
+        length: record.length as u64,
+        line: record.place.line as u64,
+        column: record.place.column as u64,
+        next,
+        ..Walked::default()
+    };
+    match &record.body {
+        Body::Nothing => walked,
+        Body::Tags(tags) => Walked {
+            tags: (*tags).into(),
+            ..walked
+        },
+        Body::Content(_) => Walked {
+            start,
+            content: (record.length - mark_bytes(record.kind)) as u64,
+            ..walked
+        },
+        Body::Number(decimal) => with_parts(walked, decimal),
+    }
+}
+
+fn with_parts(walked: Walked, decimal: &Decimal) -> Walked {
+    Walked {
+        sign: decimal.minus.into(),
+        integer: decimal.integer.into(),
+        fraction: decimal.fraction,
+        digits: decimal.fraction_digits.into(),
+        exponent_sign: (decimal.exponent < 0).into(),
+        exponent: decimal.exponent.unsigned_abs().into(),
+        uncertainty: decimal.uncertainty.unwrap_or(0).into(),
+        ..walked
+    }
+}
+
+/// The content of each record, or of some, and of two that are not there.
+fn contents(records: &[Record], kept: Kept) -> Result<(), String> {
+    let step = records.len().div_ceil(MOST_QUESTIONS);
+    let mut start = 0;
+    for (number, record) in records.iter().enumerate() {
+        let content = match &record.body {
+            Body::Content(content) => Some(content),
+            _ => None,
+        };
+        if number % step == 0 {
+            content_is(kept, number as u64, start, content)?;
+        }
+        start += content.map_or(0, Vec::len);
+    }
+    content_is(kept, records.len() as u64, 0, None)?;
+    content_is(kept, u64::MAX, 0, None)
+}
+
+fn content_is(
+    kept: Kept,
+    number: u64,
+    start: usize,
+    content: Option<&Vec<u8>>,
+) -> Result<(), String> {
+    let (answer, part) = match content {
+        Some(content) => (refused(0), (start, content.len())),
+        None => (refused(14), (0, 0)),
+    };
+    must(
+        kept.content(number) == answer,
+        "content: the answer differs",
+    )?;
+    let part = Part {
+        start: part.0 as u64,
+        length: part.1 as u64,
+    };
+    must(
+        kept.content_part(number) == part,
+        "content: the part differs",
+    )
+}
+
+fn names(records: &[Record], kept: Kept) -> Result<(), String> {
+    let answer = match model_stores::repeated_name(records) {
+        None => refused(0),
+        Some((first, second)) => Called {
+            offset: first as u64,
+            line: second as u64,
+            ..refused(13)
+        },
+    };
+    must(kept.names() == answer, "names: the answer differs")
+}
+
+/// The rendering is document 01's, in exact room and in no less, and reads as the same records.
+fn rendering(records: &[Record], kept: Kept) -> Result<(), String> {
+    let text = model_stores::rendering(records);
+    if text.len() > TEXT_LIMIT {
+        return must(
+            kept.render(&mut []) == refused(1),
+            "render: not refused by 1",
+        );
+    }
+    let with_length = |number| Called {
+        first_length: text.len() as u64,
+        ..refused(number)
+    };
+    let mut out = vec![0xA5; text.len()];
+    let room = text.len() - 1;
+    must(
+        kept.render(&mut out[..room]) == with_length(11),
+        "render: the length differs",
+    )?;
+    must(
+        out.iter().all(|byte| *byte == 0xA5),
+        "render: too little room, and it wrote",
+    )?;
+    must(
+        kept.render(&mut out) == with_length(0),
+        "render: the answer differs",
+    )?;
+    must(out == text, "render: the bytes differ from the model's")?;
+    read_back(records, kept, &text)
+}
+
+fn read_back(records: &[Record], kept: Kept, text: &[u8]) -> Result<(), String> {
+    let (mut store, mut area) = (vec![0; kept.store.len()], vec![0; kept.area.len()]);
+    let answer = Called {
+        first_length: store.len() as u64,
+        second_length: area.len() as u64,
+        ..refused(0)
+    };
+    must(
+        calls::read(text, &mut store, &mut area) == answer,
+        "render: what is read back differs",
+    )?;
+    let again = stores::decode(&store, &area).unwrap_or_default();
+    let same = again.len() == records.len()
+        && again
+            .iter()
+            .zip(records)
+            .all(|(one, other)| one.kind == other.kind && one.body == other.body);
+    must(same, "render: the records read back differ")
+}
