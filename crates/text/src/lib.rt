@@ -323,3 +323,11 @@ pub fn trim_comments_and_whitespace(s: &[u8], p: Place) -> Place
         column: c.column,
     }
 }
+
+// The same on a lent place, which moves on.
+pub fn skip_on(s: &[u8], p: &mut Place)
+    requires { ⌜ IsPlace (now s) (now p) ⌝ }
+    ensures { λ _. ⌜ now (p .exit) ≡ placeAt (now (s .entry)) (gapEnd (now (s .entry)) (now (p .entry) .offset)) ⌝ }
+{
+    *p = trim_comments_and_whitespace(s, *p);
+}

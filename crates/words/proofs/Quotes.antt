@@ -1,16 +1,20 @@
 -- Laws of quotes and text fields. Assumes nothing.
 use Prim.Native.Nat.{ℕ, zero, suc, _+_, _-_, _≤_, _<_}
-use mathlib.Core.Path.{_≡_, refl, ap}
-use mathlib.Core.Bool.{Bool, true, false, cond, _&&_}
+use mathlib.Core.Path.{_≡_, refl, sym, ap, _∙_}
+use mathlib.Core.Bool.{Bool, true, false, cond, not, _&&_}
 use mathlib.Core.List.{List, [], _∷_}
 use mathlib.Core.Option.{Option, none, some}
 use native.Mathlib.Numerals.{add-one}
+use native.Mathlib.Nat.{add-zero}
 use native.Mathlib.Omega.{arith}
 use borrow.Author.Tests.{eqb-true}
 use lib.ListN.{length, drop, getD, drop-of-length-le}
-use lib.Seq.{drop-cons}
+use lib.Seq.{drop-cons, drop-drop}
 use Rattle.text.specs.Bytes.{is, isEol}
+use Rattle.text.specs.Runs.{span, spanEnd}
+use Rattle.text.specs.Lines.{inLine, lineEnd}
 use Rattle.text.proofs.Bools.{and-r}
+use Rattle.text.proofs.Lines.{line-stops}
 use Rattle.words.specs.declared.Closing.{Closing}
 use Rattle.words.specs.declared.Closing.the-variants.{Behind, Nothing}
 use Rattle.words.specs.Quotes.{more, quoted, fieldIn, field}
@@ -60,6 +64,32 @@ module _ (eol : Bool) (s : List ℕ) (o : ℕ) where
   pub field-over : length s ≤ o → fieldFrom eol s o ≡ Nothing
   unfolding fieldFrom fieldIn closing
   field-over h = rw (drop-of-length-le s h)
+
+-- by lines: a line of a field may be skipped, and behind its end stands the `;`, or the field goes on as before
+
+line-skipped : (s : List ℕ) (o : ℕ) → closing o (fieldIn false s) ≡ closing (o + span inLine s) (fieldIn false (drop (span inLine s) s))
+unfolding fieldIn span inLine
+line-skipped [] o = rw (add-zero)
+line-skipped (b ∷ s) o = by (isEol b) refl (line-skipped s (o + 1))
+  where
+    by : (t : Bool) → isEol b ≡ t → closing (o + 1) (fieldIn false s) ≡ closing (o + 1 + span inLine s) (fieldIn false (drop (span inLine s) s)) → closing o (fieldIn false (b ∷ s)) ≡ closing (o + cond (not t) (suc (span inLine s)) 0) (fieldIn false (drop (cond (not t) (suc (span inLine s)) 0) (b ∷ s)))
+    by true e h = rw (add-zero)
+    by false e h = rw e (closing-more o (fieldIn false s) ∙ h ∙ ap (λ (k : ℕ). closing k (fieldIn false (drop (span inLine s) s))) (omega arith))
+
+pub field-line : (s : List ℕ) (o : ℕ) → fieldFrom false s o ≡ fieldFrom false s (lineEnd s o)
+unfolding fieldFrom lineEnd spanEnd
+field-line s o = line-skipped (drop o s) o ∙ rw (drop-drop (span inLine (drop o s)) o s)
+
+pub field-last : (s : List ℕ) (o e : ℕ) → e ≡ lineEnd s o → length s ≤ e → fieldFrom false s o ≡ Nothing
+field-last s o e q h = field-line s o ∙ field-over false s (lineEnd s o) (rw q at h)
+
+pub field-next : (s : List ℕ) (o e : ℕ) → e ≡ lineEnd s o → e < length s → fieldFrom false s o ≡ fieldFrom true s (e + 1)
+field-next s o e q h =
+    let l : lineEnd s o < length s = rw q at h in
+    field-line s o ∙ field-go false s (lineEnd s o) l refl ∙ rw (line-stops s o l, q)
+
+pub field-on : (s : List ℕ) (o : ℕ) → o < length s → is 59 (getD s o 0) ≡ false → fieldFrom true s o ≡ fieldFrom false s o
+field-on s o h e = field-go true s o h e ∙ sym (field-go false s o h refl)
 
 -- a closing found lies behind the start, at its length
 closing-behind : (o e : ℕ) (r : Option ℕ) → closing o r ≡ Behind e → (o ≤ e) × (r ≡ some (e - o))

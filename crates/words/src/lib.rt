@@ -165,32 +165,23 @@ pub fn parse_enclosed(s: &[u8], from: usize, mark: u8) -> Closing
     Closing::Nothing
 }
 
-// Whether a byte closes a text field.
-fn closes(eol: bool, b: u8) -> bool
-    ensures { λ r. ⌜ r ≡ (eol && is 59 b) ⌝ }
-{
-    if eol {
-        return b == 59;
-    }
-    false
-}
-
 // Behind the `;` that closes a text field; `from` is behind the `;` that opens it.
 pub fn parse_multiline_string(s: &[u8], from: usize) -> Closing
     ensures { λ r. ⌜ r ≡ fieldEnd (now (s .entry)) from ⌝ }
 {
     let mut at = from;
-    let mut eol = false;
     let end = loop {
+        let eol = text::line_end(s, at);
+        if s.len() <= eol {
+            return Closing::Nothing;
+        }
+        at = eol + 1;
         if s.len() <= at {
             return Closing::Nothing;
         }
-        let b = s[at];
-        if closes(eol, b) {
+        if s[at] == 59 {
             break at;
         }
-        eol = text::is_eol(b);
-        at += 1;
     };
     Closing::Behind(end + 1)
 }
