@@ -7,6 +7,8 @@ use mathlib.Core.Option.{none}
 use native.Mathlib.Omega.{arith}
 use lib.ListN.{length, drop}
 use Rattle.text.specs.Gaps.{gapEnd}
+use Rattle.text.specs.Places.{placeAt}
+use Rattle.text.specs.declared.Place.{Place}
 use Rattle.text.proofs.Gaps.{gap-none}
 use Rattle.text.proofs.Places.{is-start, place-offset}
 use Rattle.words.specs.Words.{word, wordEnd}
@@ -33,6 +35,14 @@ use Rattle.writing.proofs.Values.{trim-at, trim-area, trim-offset, trim
 -- the text's start
 abbrev pub atStart : Cursor
 atStart = record { place = record { offset = 0; line = 1; column = 1 }; at = 0; area = 0 }
+
+-- the cursor at the first token, whose place is found
+abbrev pub begun : Place → Cursor
+begun p = record { place = p; at = 0; area = 0 }
+
+pub begins : (s : List ℕ) (p : Place) → p ≡ placeAt s (gapEnd s 0) → begun p ≡ behindGap s atStart
+unfolding behindGap
+begins s p e = ap begun e
 
 pub start-going : (s : List ℕ) → length s ≤ 16777216 → Going s atStart
 start-going s h = record { place = is-start s; short = h; behind = omega arith }

@@ -5,6 +5,7 @@ ghost use mathlib.Core.List.{List, [], _∷_};
 ghost use Prim.Native.Nat.{ℕ, _+_, _≤_, _<_, _^_};
 ghost use lib.ListN.{length, take, drop};
 ghost use Rattle.text.specs.Places.{IsPlace, placeAt};
+ghost use Rattle.text.specs.Gaps.{gapEnd};
 ghost use Rattle.words.specs.Keywords.{startsAt, keyLoop, keySave};
 ghost use Rattle.records.specs.Kinds.{kindOf, shapeOf};
 ghost use Rattle.records.specs.declared.Shape.the-variants.{Content, Place as PlaceAlone};
@@ -17,7 +18,7 @@ ghost use Rattle.items.specs.Reading.{limit, decided};
 ghost use Rattle.items.specs.Tokens.{inBlock};
 ghost use Rattle.items.specs.Decisions.{tokensAt, headAt};
 ghost use Rattle.items.specs.Descent.{nameRecs, afterNames, valueRecs, afterValues};
-ghost use Rattle.writing.specs.Writing.{storeOf, areaIn, tokenAt, contentBytes, loopBytes, numberBytes, recordBytes};
+ghost use Rattle.writing.specs.Writing.{storeOf, areaIn, placed, tokenAt, contentBytes, loopBytes, numberBytes, recordBytes};
 ghost use Rattle.writing.specs.Walk.{storeLength, recordLength, Going, Room, IsToken, recAt, WroteOne, Wrote, behindGap, ValueHere, ItemHere, WroteItem, nextOf, Closing, Closed, Ahead, Moved, recsLeft, isDone, answerRecs, desk};
 use items::Found;
 use items::Item;
@@ -246,6 +247,19 @@ fn write_end(full: bool, store: &mut [u8], c: Cursor) -> Cursor
     }
 }
 
+// The place behind space and comments; lent as three numbers, which stay out of memory.
+fn trim_from(s: &[u8], offset: usize, line: usize, column: usize) -> Place
+    requires { ⌜ IsPlace (now s) (placed offset line column) ⌝ }
+    ensures { λ r. ⌜ r ≡ placeAt (now (s .entry)) (gapEnd (now (s .entry)) offset) ⌝ }
+{
+    let place = Place {
+        offset,
+        line,
+        column,
+    };
+    text::trim_comments_and_whitespace(s, place)
+}
+
 // The cursor behind space and comments.
 fn trimmed(s: &[u8], c: Cursor) -> Cursor
     requires { ⌜ IsPlace (now s) (c .place) ⌝ }
@@ -255,7 +269,7 @@ fn trimmed(s: &[u8], c: Cursor) -> Cursor
     let at = c.at;
     let area = c.area;
     Cursor {
-        place: text::trim_comments_and_whitespace(s, place),
+        place: trim_from(s, place.offset, place.line, place.column),
         at,
         area,
     }
@@ -489,16 +503,11 @@ pub fn write_block(s: &[u8], full: bool, store: &mut [u8], area: &mut [u8])
     requires { ⌜ (length (now s) ≤ limit) × (isDone (decided (now s)) ≡ true) × (storeLength full (answerRecs (decided (now s))) ≤ length (now store)) × (full ≡ true → areaSize (answerRecs (decided (now s))) ≤ length (now area)) ⌝ }
     ensures { λ r. ⌜ (now (store .exit) ≡ front (storeOf full (now (s .entry)) 0 (answerRecs (decided (now (s .entry))))) (now (store .entry))) × (now (area .exit) ≡ front (areaIn full (now (s .entry)) (answerRecs (decided (now (s .entry))))) (now (area .entry))) ⌝ }
 {
-    let start = Cursor {
-        place: Place {
-            offset: 0,
-            line: 1,
-            column: 1,
-        },
+    let here = Cursor {
+        place: trim_from(s, 0, 1, 1),
         at: 0,
         area: 0,
     };
-    let here = trimmed(s, start);
     let place = here.place;
     let offset = place.offset;
     let end = words::parse_identifier(s, offset);
