@@ -1,7 +1,7 @@
 -- What the first byte tells of the value that stands at an offset, and what the value found there lies in. Assumes nothing.
 use Prim.Native.Nat.{ℕ, zero, suc, _+_, _-_, _≤_, _<_}
-use mathlib.Core.Path.{_≡_, refl, sym, ap, _∙_}
-use mathlib.Core.Bool.{Bool, true, false, cond, not, _&&_, _||_}
+use mathlib.Core.Path.{_≡_, refl, _∙_}
+use mathlib.Core.Bool.{Bool, true, false, not, _&&_, _||_}
 use mathlib.Core.List.{List, [], _∷_}
 use native.Mathlib.Decide.{decLt}
 use native.Mathlib.Omega.{arith}
@@ -18,8 +18,7 @@ use Rattle.words.specs.Words.{inWord, wordEnd, isOrdinary}
 use Rattle.words.specs.Keywords.{lower, reserved}
 use Rattle.words.proofs.Words.{word-run}
 use Rattle.words.proofs.Keywords.{reserved-none, reserved-low}
-use Rattle.numbers.specs.declared.Decimal.{Decimal}
-use Rattle.numbers.specs.declared.Number.the-variants.{Not, Is}
+use Rattle.numbers.specs.declared.Number.the-variants.{Not}
 use Rattle.numbers.specs.Parts.{parts}
 use Rattle.numbers.specs.Meaning.{meaning, numberOf}
 use Rattle.numbers.specs.Cuts.{piece, startsNumber}
@@ -34,8 +33,7 @@ use Rattle.values.specs.Answers.{valueAt}
 use Rattle.values.specs.Pieces.{judgedOr, numberAt, wordAt}
 use Rattle.values.proofs.Pieces.{value-end, value-unknown, value-word}
 use Rattle.values.proofs.Laws.{Lies, token-lies, number-lies}
-use Rattle.items.specs.declared.Found.{Found}
-use Rattle.items.specs.declared.Found.the-variants.{Value as FoundValue, Over as FoundOver, Missing as FoundMissing}
+use Rattle.items.specs.declared.Found.the-variants.{Value as FoundValue, Missing as FoundMissing}
 use Rattle.items.specs.Answers.{kindOfNumber, foundOf, foundAt}
 use Rattle.items.specs.First.{isLetter, startsReserved, startsBare, startsDecimal, plainKind}
 

@@ -208,7 +208,7 @@ pub fn number_kind(decimal: Decimal) -> u8
     14
 }
 
-// The value at an offset, by its kind and length, whatever it starts with.
+// The value at an offset, by its kind and length, for any first byte. It takes apart what `parse_value` makes, which is slow.
 fn find_other(s: &[u8], at: usize) -> Found
     ensures { λ r. ⌜ r ≡ foundAt (now (s .entry)) at ⌝ }
 {
@@ -316,7 +316,7 @@ fn find_decimal(s: &[u8], at: usize) -> Found
     }
 }
 
-// The value at an offset, by its kind and length. The first byte tells most of them: only the others are made to be taken apart.
+// The value at an offset, by its kind and length. The first byte tells most of them, without making what they mean.
 pub fn find_value(s: &[u8], at: usize) -> Found
     ensures { λ r. ⌜ r ≡ foundAt (now (s .entry)) at ⌝ }
 {

@@ -1,20 +1,19 @@
 -- Plain numbers: what `decimalEnd` finds is a number within the limits, a whole word, uncertain where its last byte is `)`. Assumes nothing.
-use Prim.Native.Nat.{ℕ, suc, _+_, _-_, _≤_, _<_}
+use Prim.Native.Nat.{ℕ, _+_, _-_, _≤_, _<_}
 use mathlib.Core.Path.{_≡_, refl, sym, ap, _∙_, subst}
 use mathlib.Core.Bool.{Bool, true, false, cond, not, _&&_, _||_}
-use mathlib.Core.List.{List, [], _∷_, _++_}
+use mathlib.Core.List.{List, [], _++_}
 use native.Mathlib.Decide.{decLt}
 use native.Mathlib.Omega.{arith}
 use lib.Dec.{leb, ltb, eqb, lit<}
 use lib.ListN.{length, take, drop, getD}
 use lib.Seq.{getD-take, getD-drop}
-use borrow.Author.Tests.{leb-true, eqb-true, le-leb, lt-ltb, le-ltb}
+use borrow.Author.Tests.{leb-true, eqb-true, le-leb, lt-ltb}
 use Rattle.text.specs.Bytes.{isDigit, is}
 use Rattle.text.proofs.Bools.{and-l, and-r}
 use Rattle.text.proofs.Ranges.{allBelow, digit-not}
-use Rattle.numbers.specs.declared.Decimal.{Decimal}
 use Rattle.numbers.specs.declared.Number.the-variants.{Is}
-use Rattle.numbers.specs.Parts.{Part, absent, isEmpty, digits, sign, Parts, parts, isNumber, within}
+use Rattle.numbers.specs.Parts.{Part, absent, isEmpty, digits, parts, isNumber, within}
 use Rattle.numbers.specs.Meaning.{meaning, judged, numberOf}
 use Rattle.numbers.specs.Cif.{allDigits, Sign}
 use Rattle.numbers.specs.Cuts.{piece, after, digitsEnd, Run}

@@ -1,6 +1,5 @@
 -- `items::find_decimal`: a plain number is what it is found to be. Assumes nothing.
 use Prim.Native.Nat.{_<_}
-use mathlib.Core.Path.{_∙_}
 use native.Mathlib.Omega.{arith}
 use Rattle.numbers.specs.Plain.{decimalEnd}
 use Rattle.items.proofs.First.{decimal-within, decimal-found}

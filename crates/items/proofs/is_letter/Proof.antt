@@ -1,8 +1,8 @@
 -- `items::is_letter`: each `return` goes by the tests that led there. Assumes nothing.
 use native.Mathlib.Omega.{arith}
-use mathlib.Core.Bool.{and-false, or-false}
+use mathlib.Core.Bool.{and-false}
 use borrow.Author.Tests.{le-leb, lt-leb}
-use Prim.Native.Nat.{_<_, _≤_}
+use Prim.Native.Nat.{_<_}
 use Rattle.items.specs.First.{isLetter}
 use Rattle.items.proofs.is_letter.Statement.{statement}
 use Rattle.items.proofs.is_letter.Tie as tie
