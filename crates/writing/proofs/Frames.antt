@@ -107,14 +107,6 @@ onward-trim full s rs ls d c h l a q o =
       area = rw (trim-area s c h q) (o .area);
     }
 
-pub moved-then : (full : Bool) (s : List ℕ) (f g h : Option ℕ) (d e k : Desk) → Moved full s f d g e → Moved full s g e h k → Moved full s f d h k
-moved-then full s f g h d e k a b =
-    record {
-      ahead = b .ahead;
-      onward = onward-then full s _ _ _ d e k (a .onward) (b .onward);
-      further = omega (arith, a .further, b .further);
-    }
-
 -- one record, and the space behind it
 one-moved : (full : Bool) (s : List ℕ) (f g : Option ℕ) (d e : Desk) (h : Cursor) (r : Rec) (q : ℕ) → Ahead full s f d → d .cursor .place .offset < q → Steps s f (d .cursor .place .offset) g (gapEnd s q) (r ∷ [])
     → isCount (shapeOf (kindOf (r .kind))) ≡ false → WroteOne full s 0 r q d e → h ≡ behindGap s (e .cursor) → Moved full s f d g (desk h (e .store) (e .area))
