@@ -1,7 +1,7 @@
 // One leaf on one text, and its answer written out.
 ghost use Prim.Native.Nat.{_≤_};
 ghost use lib.ListN.{length};
-use crate::say;
+use harness::say;
 use numbers::Decimal;
 use numbers::Number;
 use records::Entry;

@@ -1,11 +1,10 @@
 // Runs worked vectors through the leaves. Each line of standard input is a letter that names the leaf, a space and a text, in which `\` and two hexadecimal digits stand
 // for a byte; it is written back with what the leaf answers. Lines that are empty or start with `#` are written back as they are.
 mod leaves;
-mod lines;
-mod say;
 
-ghost use Prim.Native.Nat.{_≤_};
-ghost use lib.ListN.{length};
+use harness::lines;
+use harness::parts;
+use harness::say;
 use libc::STDIN_FILENO;
 
 fn leaves_of_text(leaf: u8, s: &[u8]) {
@@ -43,7 +42,7 @@ fn leaves_of_records(leaf: u8, s: &[u8]) {
 }
 
 // A line: written back, and behind it what its leaf answers.
-fn run_line(s: &mut [u8]) {
+fn run_line(s: &[u8]) {
     say::bytes(s);
     let from = lines::text_start(s);
     if from == 0 {
@@ -52,18 +51,20 @@ fn run_line(s: &mut [u8]) {
     }
     say::bytes(b" ->");
     let leaf = s[0];
-    let end = lines::unfold(s, from);
-    leaves_of_text(leaf, &s[from..end]);
-    leaves_of_words(leaf, &s[from..end]);
-    leaves_of_records(leaf, &s[from..end]);
+    let mut buffer = io::buffer();
+    let end = lines::unfold(&s[from..], &mut buffer, 0);
+    let text = parts::part(&buffer, 0, end);
+    leaves_of_text(leaf, text);
+    leaves_of_words(leaf, text);
+    leaves_of_records(leaf, text);
     say::bytes(b"\n");
 }
 
-fn run(s: &mut [u8]) {
+fn run(s: &[u8]) {
     let mut at = 0;
     while at < s.len() {
         let end = lines::line_end(s, at);
-        run_line(&mut s[at..end]);
+        run_line(&s[at..end]);
         at = end + 1;
     }
 }
@@ -71,5 +72,5 @@ fn run(s: &mut [u8]) {
 fn main() {
     let mut input = io::large_buffer();
     let n = io::read_full(STDIN_FILENO, &mut input);
-    run(&mut input[..n]);
+    run(&input[..n]);
 }

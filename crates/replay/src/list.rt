@@ -1,7 +1,6 @@
-// The fixed list of the source's answers; the README of compare-with-source has its bytes. Nothing here asks that a list is whole: bytes that lie outside count as 0, parts as
-// empty.
-ghost use Prim.Native.Nat.{_+_, _≤_};
-ghost use lib.ListN.{length};
+// The fixed list of the source's answers; the README of compare-with-source has its bytes. Nothing here asks that a list is whole: bytes that lie outside count as 0.
+ghost use Prim.Native.Nat.{_≤_};
+use harness::parts::part;
 
 // The bytes before the first entry, and an entry's own before its text.
 pub const HEAD: usize = 16;
@@ -42,18 +41,6 @@ pub fn long_at(s: &[u8], at: usize) -> u64 {
         return 0;
     }
     word_at(s, at) as u64 + word_at(s, at + 4) as u64 * 4294967296
-}
-
-// A part of a slice.
-pub fn part(s: &[u8], from: usize, size: usize) -> &[u8] {
-    if s.len() < from {
-        return &s[0..0];
-    }
-    if s.len() - from < size {
-        return &s[0..0];
-    }
-    let end = from + size;
-    &s[from..end]
 }
 
 // Whether a list is one of the length that it says.

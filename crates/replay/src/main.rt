@@ -3,10 +3,10 @@
 mod floats;
 mod list;
 mod same;
-mod say;
 
 ghost use Prim.Native.Nat.{_≤_, _<_};
 ghost use lib.ListN.{length};
+use harness::say;
 use libc::STDIN_FILENO;
 use same::Verdict;
 
@@ -28,7 +28,7 @@ fn note(counts: &mut [u32; 16], which: usize) {
 
 fn say_verdict(number: u32, verdict: Verdict) {
     say::bytes(b"entry ");
-    say::number(number);
+    say::plain(number as u64);
     match verdict {
         Verdict::Same => say::bytes(b" is the same\n"),
         Verdict::CutOff => say::bytes(b" is cut off\n"),
@@ -62,17 +62,28 @@ fn entry_end(s: &[u8], at: usize) -> usize
     at + size
 }
 
-fn say_counts(counts: &[u32; 16]) {
-    say::count(b"read: ", counts[0]);
-    say::count(b"refused by 3: ", counts[3]);
-    say::count(b"refused by 4: ", counts[4]);
-    say::count(b"refused by 5: ", counts[5]);
-    say::count(b"refused by 6: ", counts[6]);
-    say::count(b"refused by 7: ", counts[7]);
-    say::number(counts[PASSED]);
+// A line that ends in a number.
+fn say_count(what: &[u8], count: u32) {
+    say::bytes(what);
+    say::plain(count as u64);
+    say::bytes(b"\n");
+}
+
+fn say_end(passed: u32, failed: u32) {
+    say::plain(passed as u64);
     say::bytes(b" passed, ");
-    say::number(counts[FAILED]);
+    say::plain(failed as u64);
     say::bytes(b" failed\n");
+}
+
+fn say_counts(counts: &[u32; 16]) {
+    say_count(b"read: ", counts[0]);
+    say_count(b"refused by 3: ", counts[3]);
+    say_count(b"refused by 4: ", counts[4]);
+    say_count(b"refused by 5: ", counts[5]);
+    say_count(b"refused by 6: ", counts[6]);
+    say_count(b"refused by 7: ", counts[7]);
+    say_end(counts[PASSED], counts[FAILED]);
 }
 
 fn replay(s: &[u8]) {

@@ -1,8 +1,8 @@
 // Whether the services answer as an entry of the list says, and as each other.
-ghost use Prim.Native.Nat.{_≤_, _<_};
-ghost use lib.ListN.{length};
 use crate::floats;
 use crate::list;
+use harness::fields::body_end;
+use harness::parts::part;
 use records::Fields;
 use records::Parts;
 use stores::Walked;
@@ -133,7 +133,7 @@ fn same_records(store: &[u8], area: &[u8], told: &[u8], numbers: &[u8]) -> bool 
     let mut spot = Spot { at: 0, number: 0 };
     let mut i = 0;
     while i < count {
-        let step = over_record(store, area, list::part(told, i * 5, 5), numbers, spot);
+        let step = over_record(store, area, part(told, i * 5, 5), numbers, spot);
         let Step::On { spot: then } = step else {
             return false;
         };
@@ -146,18 +146,6 @@ fn same_records(store: &[u8], area: &[u8], told: &[u8], numbers: &[u8]) -> bool 
     spot.number == numbers.len()
 }
 
-// Where the record at an offset ends, or the store does.
-fn behind(store: &[u8], at: usize, body: usize) -> usize
-    requires { ⌜ at < length (now store) ⌝ }
-    ensures { λ r. ⌜ (at < r) × (r ≤ length (now (store .entry))) ⌝ }
-{
-    let from = at + 1;
-    if store.len() - from < body {
-        return store.len();
-    }
-    from + body
-}
-
 // Whether an outline has the kinds and places of a store.
 fn same_outline(store: &[u8], outline: &[u8]) -> bool {
     let mut at = 0;
@@ -167,11 +155,11 @@ fn same_outline(store: &[u8], outline: &[u8]) -> bool {
             return false;
         }
         let kind = outline[from];
-        let end = behind(outline, from, records::outline_length(kind));
-        if !check::same(&outline[from..end], list::part(store, at, end - from)) {
+        let end = body_end(outline, from + 1, records::outline_length(kind));
+        if !check::same(&outline[from..end], part(store, at, end - from)) {
             return false;
         }
-        at = behind(store, at, records::body_length(kind));
+        at = body_end(store, at + 1, records::body_length(kind));
         from = end;
     }
     at == store.len()
@@ -201,7 +189,7 @@ fn outlines(text: &[u8], read: Report, store: &[u8]) -> bool {
     if !same_refusal(read, outlined) {
         return false;
     }
-    same_outline(store, list::part(&room, 0, outlined.first))
+    same_outline(store, part(&room, 0, outlined.first))
 }
 
 // Whether what Read wrote is what the list says.
@@ -237,7 +225,7 @@ pub fn judge(entry: &[u8]) -> Verdict {
     judge_written(
         entry,
         read,
-        list::part(&store, 0, read.first),
-        list::part(&area, 0, read.second),
+        part(&store, 0, read.first),
+        part(&area, 0, read.second),
     )
 }

@@ -20,11 +20,14 @@ returns c = search needs
 shared-slice-read-kind : tie.Need-shared-slice-read-kind Inv-loop μ-loop
 shared-slice-read-kind c = search needs
 
+add-body-end : tie.Need-add-body-end Inv-loop μ-loop
+add-body-end c = search needs
+
 outline-length-requires : tie.Need-outline-length-requires Inv-loop μ-loop
 outline-length-requires c κs = search needs
 
-behind-requires : tie.Need-behind-requires Inv-loop μ-loop
-behind-requires c κs = search needs
+body-end-requires : tie.Need-body-end-requires Inv-loop μ-loop
+body-end-requires c κs = search needs
 
 sub-same : tie.Need-sub-same Inv-loop μ-loop
 sub-same c = search needs
@@ -47,11 +50,14 @@ same-requires c κs = search needs
 returns-2 : tie.Need-returns-2 Inv-loop μ-loop
 returns-2 c = search needs
 
+add-body-end-2 : tie.Need-add-body-end-2 Inv-loop μ-loop
+add-body-end-2 c = search needs
+
 body-length-requires : tie.Need-body-length-requires Inv-loop μ-loop
 body-length-requires c κs = search needs
 
-behind-requires-2 : tie.Need-behind-requires-2 Inv-loop μ-loop
-behind-requires-2 c κs = search needs
+body-end-requires-2 : tie.Need-body-end-requires-2 Inv-loop μ-loop
+body-end-requires-2 c κs = search needs
 
 loop-less : tie.Need-loop-less Inv-loop μ-loop
 loop-less c = search needs
@@ -71,8 +77,9 @@ same-outline-spec =
     loop-holds
     returns
     shared-slice-read-kind
+    add-body-end
     outline-length-requires
-    behind-requires
+    body-end-requires
     sub-same
     part-same-start
     part-same-end
@@ -80,8 +87,9 @@ same-outline-spec =
     part-requires
     same-requires
     returns-2
+    add-body-end-2
     body-length-requires
-    behind-requires-2
+    body-end-requires-2
     loop-less
     loop-again
     returns-3)

@@ -1,9 +1,9 @@
--- `check_leaves::lines::line_end`: the offset stays between where it began and the end. Assumes nothing.
+-- `harness::lines::line_end`: the offset stays between where it began and the end. Assumes nothing.
 use Prim.Native.Nat.{_-_, _≤_}
 use native.Mathlib.Omega.{arith}
 use lib.ListN.{length}
-use Rattle.check_leaves.proofs.lines.line_end.Statement.{statement}
-use Rattle.check_leaves.proofs.lines.line_end.Tie as tie
+use Rattle.harness.proofs.lines.line_end.Statement.{statement}
+use Rattle.harness.proofs.lines.line_end.Tie as tie
 
 abbrev Inv-loop : tie.InvT-loop
 Inv-loop s from at₀ at = (from ≤ at) × (at ≤ length s)

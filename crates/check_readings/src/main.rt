@@ -1,0 +1,133 @@
+// Runs whole texts through Read and Outline. Each line of standard input is a letter that names the service, a space and a text, in which `\` and two hexadecimal digits stand
+// for a byte. It is written back, and below it the answer in document 01's numbers (refusal number, offset, line, column, detail, both lengths), whether all bytes that are not
+// counted kept their values, the records of the store, field by field, and the area. Lines that are empty or start with `#` are written back as they are.
+mod shown;
+
+use harness::lines;
+use harness::parts;
+use harness::say;
+use libc::STDIN_FILENO;
+use text::Report;
+
+// The bytes of the store and of the area, and what stands in them before.
+const ROOM: usize = 512;
+
+const BEFORE: u8 = 170;
+
+// How much of a buffer is counted: nothing, if it is refused.
+fn counted(report: Report, length: usize) -> usize {
+    if report.number == 0 {
+        return length;
+    }
+    0
+}
+
+fn say_answer(report: Report, kept: bool) {
+    say::bytes(b"->");
+    say::report(report);
+    if kept {
+        say::bytes(b", the rest kept\n");
+        return;
+    }
+    say::bytes(b", THE REST CHANGED\n");
+}
+
+fn say_read(report: Report, store: &[u8], area: &[u8]) {
+    let m = counted(report, report.first);
+    let k = counted(report, report.second);
+    let store_kept = parts::is_all(store, m, BEFORE);
+    let area_kept = parts::is_all(area, k, BEFORE);
+    say_answer(report, store_kept & area_kept);
+    if report.number != 0 {
+        return;
+    }
+    shown::records(parts::part(store, 0, m), false);
+    say::bytes(b"   area [");
+    say::text(parts::part(area, 0, k));
+    say::bytes(b"]\n");
+}
+
+fn say_outline(report: Report, store: &[u8]) {
+    let m = counted(report, report.first);
+    say_answer(report, parts::is_all(store, m, BEFORE));
+    shown::records(parts::part(store, 0, m), true);
+}
+
+// Read, with so much room of what is lent.
+fn read(text: &[u8], store: &mut [u8], m: usize, area: &mut [u8], k: usize) -> Report {
+    let stores = parts::least(m, store.len());
+    let areas = parts::least(k, area.len());
+    reading::read(text, &mut store[..stores], &mut area[..areas]).report()
+}
+
+fn outline(text: &[u8], store: &mut [u8], m: usize) -> Report {
+    let stores = parts::least(m, store.len());
+    reading::outline(text, &mut store[..stores]).report()
+}
+
+fn try_read(text: &[u8], m: usize, k: usize) {
+    let mut store = [BEFORE; ROOM];
+    let mut area = [BEFORE; ROOM];
+    let report = read(text, &mut store, m, &mut area, k);
+    say_read(report, &store, &area);
+}
+
+fn try_outline(text: &[u8], m: usize) {
+    let mut store = [BEFORE; ROOM];
+    let report = outline(text, &mut store, m);
+    say_outline(report, &store);
+}
+
+// r: Read. o: Outline. R and O: the same, with so much room for the store, and for Read the area.
+fn run_vector(letter: u8, s: &[u8]) {
+    let mut buffer = io::buffer();
+    match letter {
+        b'r' => {
+            let end = lines::unfold(s, &mut buffer, 0);
+            try_read(parts::part(&buffer, 0, end), ROOM, ROOM);
+        }
+        b'o' => {
+            let end = lines::unfold(s, &mut buffer, 0);
+            try_outline(parts::part(&buffer, 0, end), ROOM);
+        }
+        b'R' => {
+            let store = lines::number(s, 0);
+            let area = lines::number(s, store.next);
+            let from = area.next;
+            let end = lines::unfold(&s[from..], &mut buffer, 0);
+            try_read(parts::part(&buffer, 0, end), store.number, area.number);
+        }
+        b'O' => {
+            let store = lines::number(s, 0);
+            let from = store.next;
+            let end = lines::unfold(&s[from..], &mut buffer, 0);
+            try_outline(parts::part(&buffer, 0, end), store.number);
+        }
+        _ => (),
+    }
+}
+
+fn run_line(s: &[u8]) {
+    say::bytes(s);
+    say::bytes(b"\n");
+    let from = lines::text_start(s);
+    if from == 0 {
+        return;
+    }
+    run_vector(s[0], &s[from..]);
+}
+
+fn run(s: &[u8]) {
+    let mut at = 0;
+    while at < s.len() {
+        let end = lines::line_end(s, at);
+        run_line(&s[at..end]);
+        at = end + 1;
+    }
+}
+
+fn main() {
+    let mut input = io::large_buffer();
+    let n = io::read_full(STDIN_FILENO, &mut input);
+    run(&input[..n]);
+}
