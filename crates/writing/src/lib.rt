@@ -247,17 +247,18 @@ fn write_end(full: bool, store: &mut [u8], c: Cursor) -> Cursor
     }
 }
 
-// The place behind space and comments; lent as three numbers, which stay out of memory.
+// The place behind space and comments: one made of three numbers and lent, which the step moves on.
 fn trim_from(s: &[u8], offset: usize, line: usize, column: usize) -> Place
     requires { ⌜ IsPlace (now s) (placed offset line column) ⌝ }
     ensures { λ r. ⌜ r ≡ placeAt (now (s .entry)) (gapEnd (now (s .entry)) offset) ⌝ }
 {
-    let place = Place {
+    let mut place = Place {
         offset,
         line,
         column,
     };
-    text::trim_comments_and_whitespace(s, place)
+    text::skip_on(s, &mut place);
+    place
 }
 
 // The cursor behind space and comments.
