@@ -1,0 +1,113 @@
+// One service on one store, and its answer written out.
+use crate::services;
+use crate::services::Judged;
+use harness::parts::is_all;
+use harness::parts::least;
+use harness::parts::part;
+use harness::say;
+use records::Fields;
+use records::Parts;
+use stores::Content;
+use stores::Walked;
+use text::Report;
+
+pub fn judged(store: &[u8], area: &[u8]) {
+    let judged = services::judge(store, area, true);
+    match judged {
+        Judged::Sound => say::bytes(b" -> sound"),
+        Judged::NotSound => say::bytes(b" -> not sound"),
+        Judged::Disagree => say::bytes(b" -> THE SERVICES DISAGREE"),
+    }
+}
+
+pub fn names(store: &[u8], area: &[u8]) {
+    say::bytes(b" ->");
+    say::report(naming::check_names(store, area).report());
+}
+
+// Content: the answer, where the part starts and how long it is, and its bytes.
+pub fn content(store: &[u8], area: &[u8], number: usize) {
+    let found = stores::find_content(store, area, number);
+    let answer = found.report();
+    say::bytes(b" ->");
+    say::size(answer.number);
+    if let Content::Part { from, size } = found {
+        say::size(from);
+        say::size(size);
+    }
+    say::bytes(b" [");
+    say::text(stores::content_part(store, area, number));
+    say::bytes(b"]");
+}
+
+fn decimal(p: Parts) {
+    say::number(p.sign as u64);
+    say::number(p.integer as u64);
+    say::number(p.fraction);
+    say::number(p.places as u64);
+    say::number(p.exponent as u64);
+    say::number(p.uncertainty as u64);
+}
+
+fn fields(f: Fields) {
+    let token = f.token;
+    say::number(token.offset as u64);
+    say::number(token.length as u64);
+    say::number(token.line as u64);
+    say::number(token.column as u64);
+    say::number(f.number as u64);
+    decimal(f.parts);
+}
+
+// The record at an offset: kind, place, area offset or number of tags, decimal parts; the part of the area; where the next one starts.
+pub fn walked(store: &[u8], area: &[u8], at: usize) {
+    let walked = stores::record_at(store, area, at);
+    say::bytes(b" ->");
+    match walked {
+        Walked::Record {
+            number,
+            fields: f,
+            from,
+            size,
+            next,
+        } => {
+            say::number(number as u64);
+            fields(f);
+            say::size(from);
+            say::size(size);
+            say::size(next);
+        }
+        Walked::NoRecord => say::bytes(b" 14"),
+    }
+}
+
+// What stands in the text before it is rendered.
+const BEFORE: u8 = 170;
+
+fn render(store: &[u8], area: &[u8], text: &mut [u8], room: usize) -> Report {
+    let size = least(room, text.len());
+    rendering::render(store, area, &mut text[..size]).report()
+}
+
+// How much of the text is counted: nothing, if it is refused.
+fn counted(answer: Report) -> usize {
+    if answer.number == 0 {
+        return answer.first;
+    }
+    0
+}
+
+// Render with so much room: the answer, whether all bytes that are not counted kept their values, and the text.
+pub fn rendered(store: &[u8], area: &[u8], room: usize) {
+    let mut text = [BEFORE; 512];
+    let answer = render(store, area, &mut text, room);
+    let length = counted(answer);
+    say::bytes(b" ->");
+    say::report(answer);
+    if !is_all(&text, length, BEFORE) {
+        say::bytes(b", THE REST CHANGED");
+    }
+    say::bytes(b" [");
+    say::text(part(&text, 0, length));
+    say::bytes(b"]");
+}

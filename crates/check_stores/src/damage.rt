@@ -1,0 +1,138 @@
+// Damage: each byte of a store and of its area takes all 256 values, one at a time, and how many of them leave the store sound is written. The services must agree on each.
+ghost use Prim.Native.Nat.{_≤_, _<_};
+ghost use lib.ListN.{length};
+use crate::services;
+use crate::services::Judged;
+use harness::fields;
+use harness::say;
+
+// What came of a number of stores.
+struct Tally {
+    sound: u32,
+    not_sound: u32,
+    disagree: u32,
+}
+
+fn tally_of(judged: Judged) -> Tally {
+    match judged {
+        Judged::Sound => Tally {
+            sound: 1,
+            not_sound: 0,
+            disagree: 0,
+        },
+        Judged::NotSound => Tally {
+            sound: 0,
+            not_sound: 1,
+            disagree: 0,
+        },
+        Judged::Disagree => Tally {
+            sound: 0,
+            not_sound: 0,
+            disagree: 1,
+        },
+    }
+}
+
+fn nothing() -> Tally {
+    Tally {
+        sound: 0,
+        not_sound: 0,
+        disagree: 0,
+    }
+}
+
+fn sum(a: Tally, b: Tally) -> Tally {
+    Tally {
+        sound: std::num::wrapping_add_u32(a.sound, b.sound),
+        not_sound: std::num::wrapping_add_u32(a.not_sound, b.not_sound),
+        disagree: std::num::wrapping_add_u32(a.disagree, b.disagree),
+    }
+}
+
+fn say_count(count: u32) {
+    say::number(count as u64);
+}
+
+// What is damaged is the store, or the area of another one. All services are asked at some 20 of the values, the same ones for each byte.
+fn judge(damaged: &[u8], other: &[u8], is_store: bool, value: u8) -> Judged {
+    let by_all = value % 13 == 1;
+    if is_store {
+        return services::judge(damaged, other, by_all);
+    }
+    services::judge(other, damaged, by_all)
+}
+
+// All values of the byte at an offset, which is put back then; how many are sound is written.
+fn try_byte(damaged: &mut [u8], at: usize, other: &[u8], is_store: bool) -> Tally
+    requires { ⌜ at < length (now damaged) ⌝ }
+{
+    let before = damaged[at];
+    let mut tally = nothing();
+    let mut value: u8 = 0;
+    let mut left: u32 = 256;
+    while 0 < left {
+        damaged[at] = value;
+        tally = sum(tally, tally_of(judge(damaged, other, is_store, value)));
+        value = std::num::wrapping_add_u8(value, 1);
+        left -= 1;
+    }
+    damaged[at] = before;
+    say_count(tally.sound);
+    tally
+}
+
+// A record, a line: its kind, and the counts of its bytes, field by field.
+fn try_record(store: &mut [u8], area: &[u8], at: usize, end: usize) -> Tally
+    requires { ⌜ (at < end) × (end ≤ length (now store)) ⌝ }
+{
+    let kind = store[at];
+    say::bytes(b"   ");
+    say::hex(kind);
+    let mut tally = try_byte(store, at, area, true);
+    let body = at + 1;
+    let mut i = body;
+    while i < end {
+        if fields::starts_field(kind, i - body) {
+            say::bytes(b" |");
+        }
+        tally = sum(tally, try_byte(store, i, area, true));
+        i += 1;
+    }
+    say::bytes(b"\n");
+    tally
+}
+
+fn try_store(store: &mut [u8], area: &[u8]) -> Tally {
+    let mut tally = nothing();
+    let mut at = 0;
+    while at < store.len() {
+        let end = fields::body_end(store, at + 1, records::body_length(store[at]));
+        tally = sum(tally, try_record(store, area, at, end));
+        at = end;
+    }
+    tally
+}
+
+fn try_area(area: &mut [u8], store: &[u8]) -> Tally {
+    let mut tally = nothing();
+    let mut at = 0;
+    say::bytes(b"   area");
+    while at < area.len() {
+        tally = sum(tally, try_byte(area, at, store, false));
+        at += 1;
+    }
+    say::bytes(b"\n");
+    tally
+}
+
+pub fn run(store: &mut [u8], area: &mut [u8]) {
+    let stores = try_store(store, area);
+    let all = sum(stores, try_area(area, store));
+    say::bytes(b"   sound");
+    say_count(all.sound);
+    say::bytes(b", not sound");
+    say_count(all.not_sound);
+    say::bytes(b", disagreed on");
+    say_count(all.disagree);
+    say::bytes(b"\n");
+}

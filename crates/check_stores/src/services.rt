@@ -1,0 +1,143 @@
+// All services on one store and its area: whether they agree on what is sound, and whether a sound store is read back from its rendering.
+use harness::fields::body_end;
+use harness::parts::part;
+use stores::Walked;
+
+pub enum Judged {
+    Sound,
+    NotSound,
+    // A service answers otherwise than the others.
+    Disagree,
+}
+
+// Whether a service's refusal number is 12 exactly where the store is not sound.
+fn agrees(is_sound: bool, number: usize) -> bool {
+    if is_sound {
+        return number != 12;
+    }
+    number == 12
+}
+
+// Whether the first record, which is the block's in a sound store, has its content, and otherwise none.
+fn has_part(is_sound: bool, store: &[u8], area: &[u8]) -> bool {
+    let answer = stores::find_content(store, area, 0).report();
+    if !agrees(is_sound, answer.number) {
+        return false;
+    }
+    let content = stores::content_part(store, area, 0);
+    if is_sound {
+        return check::same(content, part(area, 0, content.len()));
+    }
+    content.len() == 0
+}
+
+// Whether the walk by offset meets records up to the end, and their contents fill the area in order.
+fn walks(store: &[u8], area: &[u8]) -> bool {
+    let mut at = 0;
+    let mut from = 0;
+    let mut left = store.len();
+    while 0 < left {
+        if at == store.len() {
+            return from == area.len();
+        }
+        let walked = stores::record_at(store, area, at);
+        let Walked::Record {
+            number: _,
+            fields: _,
+            from: start,
+            size,
+            next,
+        } = walked
+        else {
+            return false;
+        };
+        if size != 0 {
+            if start != from {
+                return false;
+            }
+        }
+        from = std::num::wrapping_add_usize(from, size);
+        at = next;
+        left -= 1;
+    }
+    at == store.len()
+}
+
+// Whether two stores have the same kinds and the same bytes behind each place.
+fn same_but_places(a: &[u8], b: &[u8]) -> bool {
+    let mut at = 0;
+    while at < a.len() {
+        let kind = a[at];
+        let from = at + 1;
+        let behind = body_end(a, from, records::outline_length(kind));
+        let end = body_end(a, from, records::body_length(kind));
+        if end < behind {
+            return false;
+        }
+        if !check::same(part(a, at, 1), part(b, at, 1)) {
+            return false;
+        }
+        if !check::same(part(a, behind, end - behind), part(b, behind, end - behind)) {
+            return false;
+        }
+        at = end;
+    }
+    a.len() == b.len()
+}
+
+// Whether a rendered text is read as the store and the area that it comes from.
+fn reads_back(text: &[u8], store: &[u8], area: &[u8]) -> bool {
+    let mut again = [0u8; 1024];
+    let mut contents = [0u8; 1024];
+    let read = reading::read(text, &mut again, &mut contents).report();
+    if read.number != 0 {
+        return false;
+    }
+    if !check::same(area, part(&contents, 0, read.second)) {
+        return false;
+    }
+    same_but_places(store, part(&again, 0, read.first))
+}
+
+// Whether a store is rendered where it is sound, and then read back.
+fn renders(is_sound: bool, store: &[u8], area: &[u8]) -> bool {
+    let mut text = [0u8; 2048];
+    let rendered = rendering::render(store, area, &mut text).report();
+    if !is_sound {
+        return rendered.number == 12;
+    }
+    if rendered.number != 0 {
+        return false;
+    }
+    reads_back(part(&text, 0, rendered.first), store, area)
+}
+
+// The services that take long: the name check clears a large table.
+fn names_and_renders(is_sound: bool, store: &[u8], area: &[u8]) -> bool {
+    let naming = naming::check_names(store, area).report();
+    if !agrees(is_sound, naming.number) {
+        return false;
+    }
+    renders(is_sound, store, area)
+}
+
+// Is it sound, and do the services agree on that? Those that take long are asked only if all are.
+pub fn judge(store: &[u8], area: &[u8], by_all: bool) -> Judged {
+    let is_sound = stores::is_sound(store, area);
+    if !has_part(is_sound, store, area) {
+        return Judged::Disagree;
+    }
+    let walked = walks(store, area);
+    if by_all {
+        if !names_and_renders(is_sound, store, area) {
+            return Judged::Disagree;
+        }
+    }
+    if !is_sound {
+        return Judged::NotSound;
+    }
+    if !walked {
+        return Judged::Disagree;
+    }
+    Judged::Sound
+}
