@@ -53,7 +53,7 @@ fn say_count(count: u32) {
     say::number(count as u64);
 }
 
-// What is damaged is the store, or the area of another one. All services are asked at some 20 of the values, the same ones for each byte.
+// What is damaged is the store, or the area of another one. The name check and the way back from the rendering are tried at 20 of the values.
 fn judge(damaged: &[u8], other: &[u8], is_store: bool, value: u8) -> Judged {
     let by_all = value % 13 == 1;
     if is_store {

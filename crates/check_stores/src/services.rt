@@ -99,8 +99,8 @@ fn reads_back(text: &[u8], store: &[u8], area: &[u8]) -> bool {
     same_but_places(store, part(&again, 0, read.first))
 }
 
-// Whether a store is rendered where it is sound, and then read back.
-fn renders(is_sound: bool, store: &[u8], area: &[u8]) -> bool {
+// Whether a store is rendered where it is sound, and, if that is asked, read back.
+fn renders(is_sound: bool, store: &[u8], area: &[u8], and_back: bool) -> bool {
     let mut text = [0u8; 2048];
     let rendered = rendering::render(store, area, &mut text).report();
     if !is_sound {
@@ -109,29 +109,33 @@ fn renders(is_sound: bool, store: &[u8], area: &[u8]) -> bool {
     if rendered.number != 0 {
         return false;
     }
+    if !and_back {
+        return true;
+    }
     reads_back(part(&text, 0, rendered.first), store, area)
 }
 
-// The services that take long: the name check clears a large table.
-fn names_and_renders(is_sound: bool, store: &[u8], area: &[u8]) -> bool {
-    let naming = naming::check_names(store, area).report();
-    if !agrees(is_sound, naming.number) {
-        return false;
+// The name check takes long, since it clears a large table: it is made only if that is asked.
+fn names(is_sound: bool, store: &[u8], area: &[u8], asked: bool) -> bool {
+    if !asked {
+        return true;
     }
-    renders(is_sound, store, area)
+    let answer = naming::check_names(store, area).report();
+    agrees(is_sound, answer.number)
 }
 
-// Is it sound, and do the services agree on that? Those that take long are asked only if all are.
+// Is it sound, and do the services agree on that? The name check and the way back from the rendering are asked only if all are.
 pub fn judge(store: &[u8], area: &[u8], by_all: bool) -> Judged {
     let is_sound = stores::is_sound(store, area);
+    let walked = walks(store, area);
     if !has_part(is_sound, store, area) {
         return Judged::Disagree;
     }
-    let walked = walks(store, area);
-    if by_all {
-        if !names_and_renders(is_sound, store, area) {
-            return Judged::Disagree;
-        }
+    if !renders(is_sound, store, area, by_all) {
+        return Judged::Disagree;
+    }
+    if !names(is_sound, store, area, by_all) {
+        return Judged::Disagree;
     }
     if !is_sound {
         return Judged::NotSound;
