@@ -13,3 +13,4 @@ pub mod Items
 pub mod Onward
 pub mod Choices
 pub mod First
+pub mod Packs

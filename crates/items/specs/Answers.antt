@@ -1,5 +1,5 @@
 -- What the code answers of a value, a loop's names and values, and the item at an offset. Assumes nothing.
-use Prim.Native.Nat.{ℕ, _%_, _≤_}
+use Prim.Native.Nat.{ℕ, _+_, _*_, _%_, _≤_}
 use mathlib.Core.Path.{_≡_}
 use mathlib.Core.Bool.{Bool, true, false, cond}
 use mathlib.Core.List.{List, [], _∷_}
@@ -56,6 +56,18 @@ foundOf (MissingAnswer w) = FoundMissing w
 
 abbrev pub foundAt : List ℕ → ℕ → Found
 foundAt s o = foundOf (valueAt s o)
+
+-- a value's kind and length as one number, and 0 for what is no value: kinds end at 15, and none is 0
+unfoldable pub pack : ℕ → ℕ → ℕ
+pack k n = k + n * 16
+
+abbrev pub packedOf : Found → ℕ
+packedOf (FoundValue k n) = pack k n
+packedOf FoundOver = 0
+packedOf (FoundMissing w) = 0
+
+abbrev pub packedAt : List ℕ → ℕ → ℕ
+packedAt s o = packedOf (foundAt s o)
 
 abbrev pub isOverFound : Found → Bool
 isOverFound (FoundValue k n) = false

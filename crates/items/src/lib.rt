@@ -8,7 +8,7 @@ ghost use Rattle.items.specs.Sizes.{contentSize, noSizes, grown, added, 
 ghost use Rattle.items.specs.First.{isLetter, startsReserved, startsBare, startsDecimal, plainKind};
 ghost use Rattle.items.specs.Decisions.{told, tells};
 ghost use Rattle.items.specs.Reading.{decided, limit};
-ghost use Rattle.items.specs.Answers.{Ready, Here, tagAt, kindOfNumber, foundAt, isOverFound, whyFound, namesAt, valuesAt, rowsOf, itemAt};
+ghost use Rattle.items.specs.Answers.{Ready, Here, tagAt, kindOfNumber, foundAt, pack, packedAt, isOverFound, whyFound, namesAt, valuesAt, rowsOf, itemAt};
 ghost use Rattle.items.specs.Frames.{inBlockOf, inFrameOf, frameEnd, Stepped, blockAt};
 use numbers::Decimal;
 use records::Kind;
@@ -301,43 +301,75 @@ fn plain_kind(s: &[u8], end: usize) -> u8
     14
 }
 
-// The value at an offset where a digit or a sign stands.
-fn find_decimal(s: &[u8], at: usize) -> Found
-    requires { ⌜ (at < length (now s)) × (startsDecimal (getD (now s) at 0) ≡ true) ⌝ }
-    ensures { λ r. ⌜ r ≡ foundAt (now (s .entry)) at ⌝ }
+// A value's kind and length as one number: one comes back from a call in a register, a `Found` through memory.
+fn packed(kind: u8, size: usize) -> usize
+    requires { ⌜ size ≤ limit ⌝ }
+    ensures { λ r. ⌜ r ≡ pack kind size ⌝ }
+{
+    kind as usize + size * 16
+}
+
+// The value at an offset, packed, for any first byte; 0 where none stands.
+fn pack_other(s: &[u8], at: usize) -> usize
+    requires { ⌜ length (now s) ≤ limit ⌝ }
+    ensures { λ r. ⌜ r ≡ packedAt (now (s .entry)) at ⌝ }
+{
+    let Found::Value { kind, size } = find_other(s, at) else {
+        return 0;
+    };
+    packed(kind, size)
+}
+
+// The same where a digit or a sign stands.
+fn pack_decimal(s: &[u8], at: usize) -> usize
+    requires { ⌜ (length (now s) ≤ limit) × (at < length (now s)) × (startsDecimal (getD (now s) at 0) ≡ true) ⌝ }
+    ensures { λ r. ⌜ r ≡ packedAt (now (s .entry)) at ⌝ }
 {
     let end = numbers::decimal_end(s, at);
     if end <= at {
-        return find_other(s, at);
+        return pack_other(s, at);
     }
-    Found::Value {
-        kind: plain_kind(s, end),
-        size: end - at,
-    }
+    packed(plain_kind(s, end), end - at)
 }
 
-// The value at an offset, by its kind and length. The first byte tells most of them, without making what they mean.
-pub fn find_value(s: &[u8], at: usize) -> Found
-    ensures { λ r. ⌜ r ≡ foundAt (now (s .entry)) at ⌝ }
+// The same for every first byte: it tells most values, without making what they mean.
+fn pack_value(s: &[u8], at: usize) -> usize
+    requires { ⌜ length (now s) ≤ limit ⌝ }
+    ensures { λ r. ⌜ r ≡ packedAt (now (s .entry)) at ⌝ }
 {
     if s.len() <= at {
-        return Found::Missing { why: Why::AtEnd };
+        return 0;
     }
     let b = s[at];
     if starts_bare(b) {
         let end = words::parse_identifier(s, at);
-        return Found::Value {
-            kind: 10,
-            size: end - at,
-        };
+        return packed(10, end - at);
     }
     if starts_decimal(b) {
-        return find_decimal(s, at);
+        return pack_decimal(s, at);
     }
     if b == 63 {
-        return Found::Value { kind: 9, size: 1 };
+        return packed(9, 1);
     }
-    find_other(s, at)
+    pack_other(s, at)
+}
+
+// The value at an offset, by its kind and length. Longer texts are refused before; here their lengths might not fit.
+pub fn find_value(s: &[u8], at: usize) -> Found
+    ensures { λ r. ⌜ r ≡ foundAt (now (s .entry)) at ⌝ }
+{
+    if 16777216 < s.len() {
+        return find_other(s, at);
+    }
+    let token = pack_value(s, at);
+    if token == 0 {
+        return find_other(s, at);
+    }
+    let kind = token % 16;
+    Found::Value {
+        kind: kind as u8,
+        size: token / 16,
+    }
 }
 
 fn is_over(found: Found) -> bool
