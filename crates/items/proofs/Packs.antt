@@ -37,3 +37,10 @@ unpack s o t e h = rw e (by (foundAt s o) refl)
 -- a value is no longer than its text
 pub size-within : (s : List ℕ) (o k n : ℕ) → foundAt s o ≡ Value k n → n ≤ length s
 size-within s o k n e = omega (arith, found-lies s o k n e .fits, length-drop o s)
+
+-- where 0 comes back, no value stands
+pub no-value-packed : (s : List ℕ) (o : ℕ) → packedAt s o ≡ 0 → (k n : ℕ) → foundAt s o ≡ Value k n → ⊥
+unfolding pack
+no-value-packed s o z k n e =
+    let q : pack k n ≡ 0 = rw e at z in
+    omega (arith, found-lies s o k n e .low)

@@ -333,7 +333,7 @@ fn pack_decimal(s: &[u8], at: usize) -> usize
 }
 
 // The same for every first byte: it tells most values, without making what they mean.
-fn pack_value(s: &[u8], at: usize) -> usize
+pub fn pack_value(s: &[u8], at: usize) -> usize
     requires { ⌜ length (now s) ≤ limit ⌝ }
     ensures { λ r. ⌜ r ≡ packedAt (now (s .entry)) at ⌝ }
 {

@@ -33,7 +33,7 @@ use Rattle.writing.proofs.Items.{loop-parts, tag-parts, tag-here, room-
 use Rattle.writing.proofs.Lines.{part-token}
 use Rattle.writing.proofs.Lists.{namesFrom, behindNames, valuesFrom}
 use Rattle.writing.proofs.Onward.{onward-here, onward-then, room-onward, wrote-before, one-onward, onward-wrote}
-use Rattle.writing.proofs.Rest.{Steps, item-passes, frame-item-steps, block-item-steps, open-steps, close-steps, next-item, next-stop, end-none}
+use Rattle.writing.proofs.Rest.{Steps, item-passes, frame-item-steps, block-item-steps, open-steps, close-steps, next-item, next-stop, end-none, no-value-left}
 use Rattle.writing.proofs.SoFar.{isCount, bytes-free, any-count, room-first}
 use Rattle.writing.proofs.Turns.{value-turn}
 use Rattle.writing.proofs.Values.{trim-at, trim-area, trim-offset, trim-going}
@@ -191,7 +191,7 @@ module _ (full : Bool) (s : List ℕ) (b : ℕ) (d : Desk) (a : Ahead full s (so
   frame-item-here e =
       let r : isTaken (itemOf s here) ≡ true = next-item (itemOf s here) (unfold itemAt in e) in
       let t = frame-item-steps s b here (a .going .place .within) (a .bare) (a .reads) r in
-      record { going = a .going; bare = a .bare; read = r; room = room-prefix full _ _ d (rw (t .recs) at (a .room)) }
+      record { going = a .going; bare = a .bare; read = r; alone = no-value-left (some b) s _ (item-passes s here (a .going .place .within) r .bare) (t .reads); room = room-prefix full _ _ d (rw (t .recs) at (a .room)) }
 
   pub frame-item-moved : (e : Desk) → nextOf (itemAt s here) ≡ Item′ → WroteItem full s d e → Moved full s (some b) d (some b) e
   frame-item-moved e n w =
@@ -243,7 +243,8 @@ module _ (full : Bool) (s : List ℕ) (d : Desk) (a : Ahead full s none d) (l : 
 
   pub block-item-here : ItemHere full s d
   block-item-here =
-      record { going = a .going; bare = a .bare; read = block-steps .0; room = room-prefix full _ _ d (rw (block-steps .1 .recs) at (a .room)) }
+      let i = item-passes s (d .cursor .place .offset) (a .going .place .within) (block-steps .0) in
+      record { going = a .going; bare = a .bare; read = block-steps .0; alone = no-value-left none s _ (i .bare) (block-steps .1 .reads); room = room-prefix full _ _ d (rw (block-steps .1 .recs) at (a .room)) }
 
   pub block-item-moved : (e : Desk) → WroteItem full s d e → Moved full s none d none e
   block-item-moved e w = item-moved full s none d e a (block-steps .0) (block-steps .1) w

@@ -333,54 +333,34 @@ module _ (full : Bool) (s : List ℕ) (d : Desk) (h : ItemHere full s d) (t : ta
       let v = value-turn s (from + w) (gapEnd s (from + w)) (pair .kind) (pair .size) refl (pair .found) in
       partly-one full s records d d e (recAt 4 from w) _ 0 (from + w) tag-begun (sym (tags-value (pair .kind) (gapEnd s (from + w)) (pair .size) [] (v .least))) x
 
-  -- what stands behind it and the space there
-  module _ (e : Desk) (x : WroteOne full s 0 (recAt 4 from w) (from + w) d e) (u : Cursor) (g : u ≡ behindGap s (e .cursor)) where
-    abbrev there : ℕ
-    there = u .place .offset
+  -- its value is the only one there
+  tag-values : (valuesFrom s (from + w) ≡ recAt (pair .kind) (gapEnd s (from + w)) (pair .size) ∷ []) × (headAt (behindValues s (from + w)) ≡ headAt (itemRest (itemOf s from)))
+  tag-values =
+      let j = gapEnd s (from + w) in
+      let p = j + pair .size in
+      let v = value-turn s (from + w) j (pair .kind) (pair .size) refl (pair .found) in
+      let n = value-none s p (gapEnd s p) refl (rw (pair .rest) at (h .alone)) in
+      (v .recs ∙ ap (λ (x : List Rec). recAt (pair .kind) j (pair .size) ∷ x) (n .0), ap headAt (v .rest ∙ n .1) ∙ head-at inBlock s p ∙ sym (pair .rest))
 
-    at-value : there ≡ gapEnd s (from + w)
-    at-value = trim-offset s (e .cursor) u g ∙ ap (gapEnd s) (place-offset s (e .cursor .place) (from + w) (x .place))
+  module _ (e : Desk) (x : WroteOne full s 0 (recAt 4 from w) (from + w) d e) where
+    behind : e .cursor .place .offset ≡ from + w
+    behind = place-offset s (e .cursor .place) (from + w) (x .place)
 
-    same-value : (k n : ℕ) → foundAt s there ≡ Value k n → (pair .kind ≡ k) × (pair .size ≡ n)
-    same-value k n f =
-        let z : foundAt s (gapEnd s (from + w)) ≡ Value k n = rw at-value at f in
-        both-are (pair .kind) k (pair .size) n (sym (pair .found) ∙ z)
-      where
-        both-are : (a b m n : ℕ) → Value a m ≡ Value b n → (a ≡ b) × (m ≡ n)
-        both-are a b m n e = (cc, cc)
+    abbrev value-recs : List Rec
+    value-recs = recAt (pair .kind) (gapEnd s (from + w)) (pair .size) ∷ []
 
-    pub tag-value-here : (k n : ℕ) → foundAt s there ≡ Value k n → ValueHere s there k n
-    tag-value-here k n f = value-here s there k n (trim-bare s (e .cursor) u g) f
+    its-values : valuesFrom s (e .cursor .place .offset) ≡ value-recs
+    its-values = ap (valuesFrom s) behind ∙ tag-values .0
 
-    pub tag-value-there : ((k n : ℕ) → foundAt s there ≡ Value k n → ⊥) → ⊥
-    tag-value-there v = v (pair .kind) (pair .size) (rw at-value (pair .found))
+    pub tag-value-room : Room full (valuesFrom s (e .cursor .place .offset)) e
+    tag-value-room = rw its-values (tag-written e x .room)
 
-    pub tag-value-room : (k n : ℕ) → foundAt s there ≡ Value k n → Room full (recAt k there n ∷ []) (desk u (e .store) (e .area))
-    tag-value-room k n f =
-        let same = same-value k n f in
-        let r : Room full (recAt k there n ∷ []) e = rw (at-value, ← same .0, ← same .1) (tag-written e x .room) in
-        trim-room s (e .cursor) u g full (e .store) (e .area) (recAt k there n ∷ []) r
-
-    pub tag-done : (k n : ℕ) (f : Desk) (c : Cursor) → foundAt s there ≡ Value k n → WroteOne full s 0 (recAt k there n) (there + n) (desk u (e .store) (e .area)) f → c ≡ behindGap s (f .cursor)
-        → Onward full s records d [] f × WroteItem full s d (desk c (f .store) (f .area))
-    tag-done k n f c v o q =
-        let same = same-value k n v in
-        let t = trim-one s (e .cursor) u g full (e .store) (e .area) 0 (recAt k there n) (there + n) f o in
-        let b : WroteOne full s 0 (recAt (pair .kind) (gapEnd s (from + w)) (pair .size)) (gapEnd s (from + w) + pair .size) e f = rw (at-value, ← same .0, ← same .1) at t in
-        let z : f .cursor .place .offset ≡ gapEnd s (from + w) + pair .size = place-offset s (f .cursor .place) _ (b .place) in
-        let all = partly-one full s records d e f (recAt (pair .kind) (gapEnd s (from + w)) (pair .size)) [] 0 _ (tag-written e x) (unfold tagsOf in refl) b in
-        let wrote = onward-wrote full s records (f .cursor .place .offset) d f (all .onward) (b .going) (b .going .place .at) in (
-          all .onward,
-          record {
-            going = trim-going s (f .cursor) c q (b .going);
-            place = trim-place s (f .cursor) c q ∙ ap (placeAt s) (ap (gapEnd s) z ∙ sym (pair .rest));
-            at = trim-at s (f .cursor) c q ∙ wrote .at;
-            behind = trim-area s (f .cursor) c q ∙ wrote .behind;
-            filled = wrote .filled;
-            store = wrote .store;
-            area = wrote .area;
-          },
-        )
+    pub tag-done : (f : Desk) → Wrote full s (valuesFrom s (e .cursor .place .offset)) (headAt (behindValues s (e .cursor .place .offset))) e f → Onward full s records d [] f × WroteItem full s d f
+    tag-done f o =
+        let ends : headAt (behindValues s (e .cursor .place .offset)) ≡ headAt (itemRest (itemOf s from)) = ap (λ x. headAt (behindValues s x)) behind ∙ tag-values .1 in
+        let b : Wrote full s value-recs (headAt (itemRest (itemOf s from))) e f = rw (its-values, ends) at o in
+        let all = partly-many full s records d e f value-recs [] _ (tag-written e x) (unfold tagsOf in refl) b in
+        (all .onward, onward-wrote full s records _ d f (all .onward) (b .going) (b .place))
 
 -- where no loop starts, an item that is read is a tag and its value
 pub tag-here : (s : List ℕ) (o : ℕ) → gap (drop o s) ≡ 0 → startsAt keyLoop s o ≡ false → isTaken (itemOf s o) ≡ true → tagAt s o ≡ true

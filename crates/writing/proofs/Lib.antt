@@ -9,6 +9,7 @@ pub mod Turns
 pub mod Values
 pub mod SoFar
 pub mod Lists
+pub mod Nexts
 pub mod Items
 pub mod Prefix
 pub mod Rest

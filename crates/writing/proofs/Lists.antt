@@ -49,17 +49,22 @@ module _ (full : Bool) (s : List ℕ) (d₀ : Desk) where
   value-room d k n h v = room-first full _ _ d (rw (here-turn s (d .cursor .place .offset) k n v .recs) at (h .room))
 
   -- a turn
-  pub value-next : (d : Desk) (k n : ℕ) (c e : Cursor) (l a : List ℕ) → SoFar full s (valuesFrom s) (behindValues s) d₀ d → ValueHere s (d .cursor .place .offset) k n
-      → WroteOne full s 0 (recAt k (d .cursor .place .offset) n) (d .cursor .place .offset + n) d (desk c l a) → e ≡ behindGap s c
-      → SoFar full s (valuesFrom s) (behindValues s) d₀ (desk e l a) × (d .cursor .place .offset < e .place .offset) × (e .place .offset ≤ length s)
-  value-next d k n c e l a h v w q =
+  pub value-next : (d e : Desk) (k n : ℕ) → SoFar full s (valuesFrom s) (behindValues s) d₀ d → ValueHere s (d .cursor .place .offset) k n
+      → WroteOne full s 0 (recAt k (d .cursor .place .offset) n) (d .cursor .place .offset + n) d e
+      → SoFar full s (valuesFrom s) (behindValues s) d₀ e × (d .cursor .place .offset < e .cursor .place .offset) × (e .cursor .place .offset ≤ length s)
+  value-next d e k n h v w =
       let o = d .cursor .place .offset in
       let t = here-turn s o k n v in
-      let p = c .place .offset in
-      let z : p ≡ o + n = place-offset s (c .place) (o + n) (w .place) in
-      let b : SoFar full s (valuesFrom s) (behindValues s) d₀ (desk c l a) = next full s (valuesFrom s) (behindValues s) d₀ d (desk c l a) (recAt k o n) (o + n) h (t .recs) (t .rest) (value-free k (t .least) (t .most)) w in
-      let g = over-gap full s (valuesFrom s) (behindValues s) d₀ c e l a b q (ap valueRecs (tokens-gap inBlock s p)) (ap afterValues (tokens-gap inBlock s p)) in
-      (g, omega (arith, t .token .some, trim-offset s c e q, gap-from s p), g .going .place .within)
+      let z = place-offset s (e .cursor .place) (o + n) (w .place) in (
+        next full s (valuesFrom s) (behindValues s) d₀ d e (recAt k o n) (o + n) h (t .recs) (t .rest) (value-free k (t .least) (t .most)) w,
+        omega (arith, t .token .some),
+        omega (arith, t .token .within),
+      )
+
+  pub value-gap : (c e : Cursor) (l a : List ℕ) → SoFar full s (valuesFrom s) (behindValues s) d₀ (desk c l a) → e ≡ behindGap s c → SoFar full s (valuesFrom s) (behindValues s) d₀ (desk e l a)
+  value-gap c e l a h q =
+      let o = c .place .offset in
+      over-gap full s (valuesFrom s) (behindValues s) d₀ c e l a h q (ap valueRecs (tokens-gap inBlock s o)) (ap afterValues (tokens-gap inBlock s o))
 
   -- the end
   pub value-last : (d : Desk) → SoFar full s (valuesFrom s) (behindValues s) d₀ d → gap (drop (d .cursor .place .offset) s) ≡ 0 → ((k n : ℕ) → foundAt s (d .cursor .place .offset) ≡ Value k n → ⊥)
@@ -112,22 +117,6 @@ gap-twice s o = ends (gapEnd s o) (gap-none s o)
 
 pub gap-again : (s : List ℕ) (c e : Cursor) → e ≡ behindGap s c → gapEnd s (e .place .offset) ≡ e .place .offset
 gap-again s c e q = rw (trim-offset s c e q) (gap-twice s (c .place .offset))
-
--- the values are the same from behind space and comments on
-pub values-start : (full : Bool) (s : List ℕ) (c h : Cursor) (l a : List ℕ) → h ≡ behindGap s c → Going s c → Room full (valuesFrom s (c .place .offset)) (desk c l a)
-    → SoFar full s (valuesFrom s) (behindValues s) (desk h l a) (desk h l a)
-values-start full s c h l a q g r =
-    let x : valuesFrom s (h .place .offset) ≡ valuesFrom s (c .place .offset) = rw (trim-offset s c h q) (ap valueRecs (tokens-gap inBlock s (c .place .offset))) in
-    start full s (valuesFrom s) (behindValues s) (desk h l a) (trim-going s c h q g) (rw x (trim-room s c h q full l a (valuesFrom s (c .place .offset)) r))
-
-pub values-done : (full : Bool) (s : List ℕ) (c h : Cursor) (l a : List ℕ) (e : Desk) → h ≡ behindGap s c
-    → Wrote full s (valuesFrom s (h .place .offset)) (headAt (behindValues s (h .place .offset))) (desk h l a) e
-    → Wrote full s (valuesFrom s (c .place .offset)) (headAt (behindValues s (c .place .offset))) (desk c l a) e
-values-done full s c h l a e q w =
-    let o = c .place .offset in
-    let x : valuesFrom s (h .place .offset) ≡ valuesFrom s o = rw (trim-offset s c h q) (ap valueRecs (tokens-gap inBlock s o)) in
-    let y : behindValues s (h .place .offset) ≡ behindValues s o = rw (trim-offset s c h q) (ap afterValues (tokens-gap inBlock s o)) in
-    trim-wrote s c h q full l a (valuesFrom s o) (headAt (behindValues s o)) e (rw (x, y) at w)
 
 pub trim-bare : (s : List ℕ) (c h : Cursor) → h ≡ behindGap s c → gap (drop (h .place .offset) s) ≡ 0
 trim-bare s c h q = rw (trim-offset s c h q) (gap-none s (c .place .offset))

@@ -12,18 +12,20 @@ use Rattle.text.specs.Gaps.{gap, gapEnd}
 use Rattle.text.proofs.Gaps.{gap-none}
 use Rattle.words.specs.Words.{word}
 use Rattle.words.specs.Keywords.{startsAt, keySave, keyData}
-use Rattle.values.specs.Values.{lexed, save, block}
+use Rattle.values.specs.Values.{Class, lexed, block, loop, save, tag, value, overLimit, nothing}
 use Rattle.items.specs.declared.Item.{Item as Answered}
 use Rattle.items.specs.declared.Item.the-variants.{Loop, Single, Ragged, NoValue, NoItem, NoNames, Over}
-use Rattle.items.specs.Tokens.{before, inBlock, inFrame, tok}
-use Rattle.items.specs.Machine.{Rec, rec, Answer, refused, done, run, config, items}
+use Rattle.items.specs.Tokens.{Mode, before, inBlock, inFrame, lexIn, lex, Tok, tok}
+use Rattle.items.specs.Machine.{Rec, rec, Answer, refused, done, run, follow, move, atItem, fails, closes, config, items}
 use Rattle.items.specs.Descent.{Item, taken, failed, broken, item}
 use Rattle.items.specs.Decisions.{tokensAt, headAt, headWhy, Told, told, tells, refusal, room}
-use Rattle.items.specs.Answers.{itemAnswer, itemAt}
+use Rattle.items.specs.declared.Found.the-variants.{Value}
+use Rattle.items.specs.Answers.{foundAt, itemAnswer, itemAt}
 use Rattle.items.specs.Frames.{left, modeOf, blockAt, inFrameOf}
 use Rattle.items.specs.Reading.{decided}
 use Rattle.items.proofs.Descent.{itemRun}
-use Rattle.items.proofs.Offsets.{Met, met-open, met-close, met-data, both, both-spot}
+use Rattle.items.proofs.Offsets.{Met, met-open, met-close, met-data, first, both, both-spot}
+use Rattle.items.proofs.Wanted.{wanted, found-wanted}
 use Rattle.items.proofs.Passes.{AlikeItem, alike-taken, alike-ragged, alike-alone, alike-absent, alike-unnamed, alike-over, item-alike}
 use Rattle.items.proofs.Onward.{DroppedAt, PassedInside, item-inside, frame-item, block-item, left-from, plain, open-reads, left-gap, open-answer, close-answer, begin-reads, end-answer, failed-stops, no-data, decided-from}
 use Rattle.writing.specs.declared.Next.the-variants.{Item as Item′, Stop}
@@ -170,6 +172,40 @@ next-stop s a o p h g d e = by (itemAt s o) (item-inside s a o h g) e
     by (NoItem q) x e = rw (stop-is q p e) at x
     by (NoNames q) x e = absurd (told-not (left (some a) s o []) 7 q 0 (x []) d)
     by (Over q) x e = absurd (told-not (left (some a) s o []) 8 q 0 (x []) d)
+
+-- Where all is read on and an item is expected, no value stands
+
+value-class : (c : Class) (n k w : ℕ) → wanted c n ≡ Value k w → (j : ℕ) × (c ≡ value j)
+unfolding wanted
+value-class (value j) n k w e = (j, refl)
+value-class overLimit n k w e = let z : _≡_ {A = ℕ} 0 1 = cc in absurd (omega arith)
+value-class tag n k w e = let z : _≡_ {A = ℕ} 0 1 = cc in absurd (omega arith)
+value-class block n k w e = let z : _≡_ {A = ℕ} 0 1 = cc in absurd (omega arith)
+value-class loop n k w e = let z : _≡_ {A = ℕ} 0 1 = cc in absurd (omega arith)
+value-class save n k w e = let z : _≡_ {A = ℕ} 0 1 = cc in absurd (omega arith)
+value-class (nothing r) n k w e = let z : _≡_ {A = ℕ} 0 1 = cc in absurd (omega arith)
+
+value-refused : (f : Option ℕ) (j : ℕ) (t : Tok) (ts : List Tok) → t .class ≡ value j → isDone (run (t ∷ ts) (config items f [] [])) ≡ false
+unfolding run follow move atItem fails closes config isDone
+value-refused none j t ts e = rw e
+value-refused (some b) j t ts e = rw e
+
+pub no-value-left : (f : Option ℕ) (s : List ℕ) (p : ℕ) → gap (drop p s) ≡ 0 → isDone (left f s p []) ≡ true → (k n : ℕ) → foundAt s p ≡ Value k n → ⊥
+unfolding left modeOf lex tok
+no-value-left f s p g d k n e = by f d
+  where
+    class : (m : Mode) → (j : ℕ) × (lexIn m (drop p s) .class ≡ value j)
+    class m = value-class (lexIn m (drop p s) .class) (lexIn m (drop p s) .size) k n (sym (found-wanted m s p) ∙ e)
+
+    by : (f : Option ℕ) → isDone (left f s p []) ≡ true → ⊥
+    by none d =
+        let t = first s p g inBlock in
+        let c = class inBlock in
+        false≢true (sym (value-refused none (c .0) (tok (lexIn inBlock (drop p s)) p) (t .0) (c .1)) ∙ rw (t .1) at d)
+    by (some b) d =
+        let t = first s p g inFrame in
+        let c = class inFrame in
+        false≢true (sym (value-refused (some b) (c .0) (tok (lexIn inFrame (drop p s)) p) (t .0) (c .1)) ∙ rw (t .1) at d)
 
 -- The block
 

@@ -117,11 +117,12 @@ isTaken (broken n o) = false
 abbrev pub itemOf : List ℕ → ℕ → Item
 itemOf s o = item (tokensAt inBlock s o)
 
--- an item that is read stands at the cursor, where no space does, and there is room for it
+-- an item that is read stands at the cursor, where no space does, no value stands behind it, and there is room for it
 pub record ItemHere (full : Bool) (s : List ℕ) (d : Desk) : Type 0 where
   pub going : Going s (d .cursor)
   pub bare : gap (drop (d .cursor .place .offset) s) ≡ 0
   pub read : isTaken (itemOf s (d .cursor .place .offset)) ≡ true
+  pub alone : (k n : ℕ) → foundAt s (headAt (itemRest (itemOf s (d .cursor .place .offset)))) ≡ Value k n → ⊥
   pub room : Room full (itemRecs (itemOf s (d .cursor .place .offset))) d
 
 -- it is written, and the cursor stands behind it and the space there

@@ -20,7 +20,6 @@ ghost use Rattle.items.specs.Decisions.{tokensAt, headAt};
 ghost use Rattle.items.specs.Descent.{nameRecs, afterNames, valueRecs, afterValues};
 ghost use Rattle.writing.specs.Writing.{storeOf, areaIn, placed, tokenAt, contentBytes, loopBytes, numberBytes, recordBytes};
 ghost use Rattle.writing.specs.Walk.{storeLength, recordLength, Going, Room, IsToken, recAt, WroteOne, Wrote, behindGap, ValueHere, ItemHere, WroteItem, nextOf, Closing, Closed, Ahead, Moved, recsLeft, isDone, answerRecs, desk};
-use items::Found;
 use items::Item;
 use numbers::Decimal;
 use records::Kind;
@@ -314,19 +313,22 @@ fn write_found(
     write_number(s, full, store, c, kind, size)
 }
 
-// The values of a loop, until one fails.
+// Values, until one fails: those of a loop, or of a tag, which in a text that is read has one.
 fn write_values(s: &[u8], full: bool, store: &mut [u8], area: &mut [u8], c: Cursor) -> Cursor
     requires { ⌜ Going (now s) c × Room full (valueRecs (tokensAt inBlock (now s) (c .place .offset))) (desk c (now store) (now area)) ⌝ }
     ensures { λ r. ⌜ Wrote full (now (s .entry)) (valueRecs (tokensAt inBlock (now (s .entry)) (c .place .offset))) (headAt (afterValues (tokensAt inBlock (now (s .entry)) (c .place .offset)))) (desk c (now (store .entry)) (now (area .entry))) (desk r (now (store .exit)) (now (area .exit))) ⌝ }
 {
-    let mut here = trimmed(s, c);
+    let mut last = c;
     loop {
+        let here = trimmed(s, last);
         let place = here.place;
         let offset = place.offset;
-        let Found::Value { kind, size } = items::find_value(s, offset) else {
+        let token = items::pack_value(s, offset);
+        if token == 0 {
             return here;
-        };
-        here = trimmed(s, write_found(s, full, store, area, here, kind, size));
+        }
+        let kind = token % 16;
+        last = write_found(s, full, store, area, here, kind as u8, token / 16);
     }
 }
 
@@ -384,13 +386,8 @@ fn write_tag_item(s: &[u8], full: bool, store: &mut [u8], area: &mut [u8], c: Cu
     let place = c.place;
     let offset = place.offset;
     let end = words::parse_identifier(s, offset);
-    let here = trimmed(s, write_text(s, full, store, area, c, 4, end - offset));
-    let spot = here.place;
-    let from = spot.offset;
-    let Found::Value { kind, size } = items::find_value(s, from) else {
-        return here;
-    };
-    trimmed(s, write_found(s, full, store, area, here, kind, size))
+    let tagged = write_text(s, full, store, area, c, 4, end - offset);
+    write_values(s, full, store, area, tagged)
 }
 
 // An item.
@@ -406,8 +403,8 @@ fn write_item(s: &[u8], full: bool, store: &mut [u8], area: &mut [u8], c: Cursor
     write_tag_item(s, full, store, area, c)
 }
 
-// What stands next in a frame: the item there is decided before it is written, so that one that fails leaves no trace.
-fn next_in_frame(s: &[u8], at: usize) -> Next
+// What stands next in a frame, for any item there: it is decided before it is written, so that one that fails leaves no trace.
+fn decide_next(s: &[u8], at: usize) -> Next
     requires { ⌜ Here (now s) at ⌝ }
     ensures { λ r. ⌜ r ≡ nextOf (itemAt (now (s .entry)) at) ⌝ }
 {
@@ -433,6 +430,22 @@ fn next_in_frame(s: &[u8], at: usize) -> Next
         Item::NoNames { at: here } => Next::Stop { at: here },
         Item::Over { at: here } => Next::Stop { at: here },
     }
+}
+
+// The same; most items are tags, and of a tag only its value is looked for.
+fn next_in_frame(s: &[u8], at: usize) -> Next
+    requires { ⌜ Here (now s) at ⌝ }
+    ensures { λ r. ⌜ r ≡ nextOf (itemAt (now (s .entry)) at) ⌝ }
+{
+    if !items::at_tag(s, at) {
+        return decide_next(s, at);
+    }
+    let end = words::parse_identifier(s, at);
+    let stop = text::gap_end(s, end);
+    if items::pack_value(s, stop) == 0 {
+        return Next::Stop { at: stop };
+    }
+    Next::Item
 }
 
 // The `save_` that closes a frame, where its items stopped.

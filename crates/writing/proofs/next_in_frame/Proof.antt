@@ -1,78 +1,58 @@
 use borrow.Author.Needs.{needs}
-use mathlib.Core.Path.{sym, ap, _∙_}
+use mathlib.Core.Path.{refl, sym, ap, _∙_}
+use borrow.Author.Tests.{not-false}
+use Rattle.items.proofs.Packs.{unpack, no-value-packed}
 use Rattle.writing.specs.Walk.{nextOf}
+use Rattle.writing.proofs.Nexts.{next-value, next-alone}
 use Rattle.writing.proofs.next_in_frame.Statement.{statement}
 use Rattle.writing.proofs.next_in_frame.Tie as tie
-use Rattle.items.proofs.parse_data_item.Reads as parse-data-item-reads
+use Rattle.items.proofs.at_tag.Reads as at-tag-reads
+use Rattle.items.proofs.pack_value.Reads as pack-value-reads
+use Rattle.text.proofs.gap_end.Reads as gap-end-reads
+use Rattle.words.proofs.parse_identifier.Reads as parse-identifier-reads
+use Rattle.writing.proofs.decide_next.Reads as decide-next-reads
 
-parse-data-item-requires : tie.Need-parse-data-item-requires
-parse-data-item-requires c κs = search needs
+at-tag-requires : tie.Need-at-tag-requires
+at-tag-requires c κs = search needs
 
-enum-told : tie.Need-enum-told
-enum-told c = search needs
-
-enum-told-2 : tie.Need-enum-told-2
-enum-told-2 c = search needs
-
-enum-known-item : tie.Need-enum-known-item
-enum-known-item c = search needs
-
-enum-known-item-2 : tie.Need-enum-known-item-2
-enum-known-item-2 c = search needs
-
-enum-known-item-3 : tie.Need-enum-known-item-3
-enum-known-item-3 c = search needs
-
-enum-known-item-4 : tie.Need-enum-known-item-4
-enum-known-item-4 c = search needs
-
-enum-known-item-5 : tie.Need-enum-known-item-5
-enum-known-item-5 c = search needs
+decide-next-requires : tie.Need-decide-next-requires
+decide-next-requires c κs = search needs
 
 returns : tie.Need-returns
-unfolding nextOf
-returns c = ap nextOf (sym (c .enum-told .given .1)) ∙ ap nextOf (c .before .before .parse-data-item .ensures)
+returns c = search needs
+
+parse-identifier-requires : tie.Need-parse-identifier-requires
+parse-identifier-requires c κs = search needs
+
+gap-end-requires : tie.Need-gap-end-requires
+gap-end-requires c κs = search needs
+
+pack-value-requires : tie.Need-pack-value-requires
+pack-value-requires c κs = search needs
 
 returns-2 : tie.Need-returns-2
-unfolding nextOf
-returns-2 c = ap nextOf (sym (c .enum-told2 .given .1)) ∙ ap nextOf (c .before .before .parse-data-item .ensures)
+returns-2 c =
+    let a = c .before .before .before .before .before .before .before .args in
+    let p = c .before .before .before .before .before .before .before .pre in
+    let t = sym (c .before .before .before .before .before .at-tag .ensures) ∙ not-false (c .before .before .before .before .before .at-tag .result) (c .before .before .before .before .if1 .left) in
+    next-alone (a .s .now) (a .at) _ _ (p .none) t (c .before .before .before .parse-identifier .ensures) (c .before .before .gap-end .ensures) (no-value-packed _ _ (sym (c .before .pack-value .ensures) ∙ c .if2 .taken))
 
 returns-3 : tie.Need-returns-3
-unfolding nextOf
-returns-3 c = ap nextOf (sym (c .before .item .given .1)) ∙ ap nextOf (c .before .before .before .parse-data-item .ensures)
-
-returns-4 : tie.Need-returns-4
-unfolding nextOf
-returns-4 c = ap nextOf (sym (c .before .item2 .given .1)) ∙ ap nextOf (c .before .before .before .parse-data-item .ensures)
-
-returns-5 : tie.Need-returns-5
-unfolding nextOf
-returns-5 c = ap nextOf (sym (c .before .item3 .given .1)) ∙ ap nextOf (c .before .before .before .parse-data-item .ensures)
-
-returns-6 : tie.Need-returns-6
-unfolding nextOf
-returns-6 c = ap nextOf (sym (c .before .item4 .given .1)) ∙ ap nextOf (c .before .before .before .parse-data-item .ensures)
-
-returns-7 : tie.Need-returns-7
-unfolding nextOf
-returns-7 c = ap nextOf (sym (c .before .item5 .given .1)) ∙ ap nextOf (c .before .before .before .parse-data-item .ensures)
+returns-3 c =
+    let a = c .before .before .before .before .before .before .before .args in
+    let p = c .before .before .before .before .before .before .before .pre in
+    let t = sym (c .before .before .before .before .before .at-tag .ensures) ∙ not-false (c .before .before .before .before .before .at-tag .result) (c .before .before .before .before .if1 .left) in
+    next-value (a .s .now) (a .at) _ _ _ _ (p .none) t (c .before .before .before .parse-identifier .ensures) (c .before .before .gap-end .ensures) (unpack _ _ _ (c .before .pack-value .ensures) (c .if2 .left))
 
 pub next-in-frame-spec : {M : Type 1} → statement M
 next-in-frame-spec =
     tie.close
     (tie.spec
-    parse-data-item-requires
-    enum-told
-    enum-told-2
-    enum-known-item
-    enum-known-item-2
-    enum-known-item-3
-    enum-known-item-4
-    enum-known-item-5
+    at-tag-requires
+    decide-next-requires
     returns
+    parse-identifier-requires
+    gap-end-requires
+    pack-value-requires
     returns-2
-    returns-3
-    returns-4
-    returns-5
-    returns-6
-    returns-7)
+    returns-3)
