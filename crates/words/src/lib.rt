@@ -1,8 +1,11 @@
 // Words, keywords, quotes and text fields.
 ghost use mathlib.Core.Path.{_≡_};
 ghost use mathlib.Core.Bool.{_&&_};
+ghost use Prim.Native.Nat.{_<_};
 ghost use lib.ListN.{drop};
 ghost use Rattle.text.specs.Bytes.{is};
+ghost use Rattle.text.specs.Runs.{runs, spanEnd};
+ghost use Rattle.words.specs.Blocks.{clear};
 ghost use Rattle.words.specs.Words.{inWord, wordEnd, isOrdinary};
 ghost use Rattle.words.specs.Keywords.{lower, startsAt, keyData, keyLoop, keySave, reserved};
 ghost use Rattle.words.specs.Answers.{quoteEnd, fieldEnd};
@@ -11,6 +14,27 @@ ghost use Rattle.words.specs.Answers.{quoteEnd, fieldEnd};
 pub enum Closing {
     Behind(usize),
     Nothing,
+}
+
+// Whether so many bytes stand at an offset, none of them the mark and none below `least`. Every byte is looked at, so that they are compared many at once.
+fn is_clear(s: &[u8], at: usize, width: usize, least: u8, mark: u8) -> bool
+    requires { ⌜ 0 < width ⌝ }
+    ensures { λ r. ⌜ r ≡ runs (clear least mark) width (now (s .entry)) at ⌝ }
+{
+    if s.len() < width {
+        return false;
+    }
+    if s.len() - width < at {
+        return false;
+    }
+    let mut met = false;
+    let mut i = 0;
+    while i < width {
+        let b = s[at + i];
+        met = met | (b < least) | (b == mark);
+        i += 1;
+    }
+    !met
 }
 
 fn in_word(b: u8) -> bool
