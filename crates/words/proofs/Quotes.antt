@@ -7,18 +7,21 @@ use mathlib.Core.Option.{Option, none, some}
 use native.Mathlib.Numerals.{add-one}
 use native.Mathlib.Nat.{add-zero}
 use native.Mathlib.Omega.{arith}
-use borrow.Author.Tests.{eqb-true}
+use borrow.Author.Tests.{eqb-true, ne-eqb}
+use lib.Dec.{eqb}
 use lib.ListN.{length, drop, getD, drop-of-length-le}
 use lib.Seq.{drop-cons, drop-drop}
 use Rattle.text.specs.Bytes.{is, isEol}
-use Rattle.text.specs.Runs.{span, spanEnd}
+use Rattle.text.specs.Runs.{span, spanEnd, runs}
 use Rattle.text.specs.Lines.{inLine, lineEnd}
 use Rattle.text.proofs.Bools.{and-r}
 use Rattle.text.proofs.Lines.{line-stops}
 use Rattle.words.specs.declared.Closing.{Closing}
 use Rattle.words.specs.declared.Closing.the-variants.{Behind, Nothing}
+use Rattle.words.specs.Blocks.{clear}
 use Rattle.words.specs.Quotes.{more, quoted, fieldIn, field}
 use Rattle.words.specs.Answers.{closing, quoteEnd, fieldEnd}
+use Rattle.words.proofs.Blocks.{clear-least, clear-other, block-keeps}
 
 -- byte by byte
 
@@ -43,6 +46,14 @@ module _ (m : ℕ) (s : List ℕ) (o : ℕ) where
   pub quote-over : length s ≤ o → quoteEnd m s o ≡ Nothing
   unfolding quoteEnd quoted closing
   quote-over h = rw (drop-of-length-le s h)
+
+-- a byte of at least 14 ends no line, so that a block of such bytes without the mark may be skipped
+high-plain : (b : ℕ) → 14 ≤ b → isEol b ≡ false
+unfolding isEol
+high-plain b h = rw (ne-eqb b 10 (λ e. omega arith), ne-eqb b 13 (λ e. omega arith))
+
+pub quote-block : (m : ℕ) (s : List ℕ) (o n : ℕ) → runs (clear 14 m) n s o ≡ true → quoteEnd m s o ≡ quoteEnd m s (o + n)
+quote-block m s o n e = block-keeps (quoteEnd m s) (clear 14 m) s o (λ k l h t. quote-go m s k h (clear-other 14 m (getD s k 0) t) (high-plain (getD s k 0) (clear-least 14 m (getD s k 0) t))) n e
 
 -- the end of a text field from offset o on; the flag: a byte of a line end stands before
 unfoldable pub fieldFrom : Bool → List ℕ → ℕ → Closing

@@ -57,6 +57,23 @@ pub fn parse_identifier(s: &[u8], from: usize) -> usize
     at
 }
 
+// The same where the word may be long, as the name of a tag: by blocks first.
+pub fn long_word_end(s: &[u8], from: usize) -> usize
+    ensures { λ r. ⌜ r ≡ wordEnd (now (s .entry)) from ⌝ }
+{
+    let mut at = from;
+    while is_clear(s, at, 8, 33, 0) {
+        at += 8;
+    }
+    while at < s.len() {
+        if !in_word(s[at]) {
+            return at;
+        }
+        at += 1;
+    }
+    at
+}
+
 // Whether a bare value may start with this byte.
 pub fn is_ordinary(b: u8) -> bool
     ensures { λ r. ⌜ r ≡ isOrdinary b ⌝ }
@@ -176,6 +193,9 @@ pub fn parse_enclosed(s: &[u8], from: usize, mark: u8) -> Closing
     ensures { λ r. ⌜ r ≡ quoteEnd mark (now (s .entry)) from ⌝ }
 {
     let mut at = from;
+    while is_clear(s, at, 8, 14, mark) {
+        at += 8;
+    }
     while at < s.len() {
         let b = s[at];
         if b == mark {
