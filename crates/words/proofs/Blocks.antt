@@ -1,21 +1,22 @@
 -- Laws of bytes that are passed over many at once. Assumes nothing.
 use Prim.Native.Nat.{ℕ, zero, suc, _+_, _≤_, _<_}
 use mathlib.Core.Path.{_≡_, refl, sym, ap, _∙_}
-use mathlib.Core.Bool.{Bool, true, false, cond, not, _&&_, _||_}
-use mathlib.Core.List.{List, [], _∷_}
+use mathlib.Core.Bool.{Bool, true, false, not, _&&_, _||_}
+use mathlib.Core.List.{List}
 use native.Mathlib.Nat.{add-zero}
 use native.Mathlib.Numerals.{add-one}
 use native.Mathlib.Omega.{arith}
 use borrow.Author.Tests.{ltb-true, ltb-false, leb-true, lt-leb, le-leb, not-true}
-use lib.Dec.{leb, ltb, eqb}
+use lib.Dec.{leb, ltb, eqb, leb·zero}
 use lib.ListN.{length, drop, getD}
 use Rattle.text.specs.Bytes.{is}
-use Rattle.text.specs.Runs.{span, runs}
+use Rattle.text.specs.Runs.{span, spanEnd, runs}
 use Rattle.text.proofs.Bools.{and-l, and-r, not-not}
 use Rattle.text.proofs.Runs.{runs-more, runs-met, runs-fits}
 use Rattle.words.specs.Blocks.{clear}
 
--- as a scan tests it
+-- as a scan keeps it: has a byte been met that is the mark or below the least
+
 clear-byte : (least mark b : ℕ) → (ltb b least || eqb b mark) ≡ not (clear least mark b)
 unfolding clear is
 clear-byte least mark b = by (ltb b least) refl
@@ -28,11 +29,10 @@ or-assoc : (a b c : Bool) → ((a || b) || c) ≡ (a || (b || c))
 or-assoc true b c = refl
 or-assoc false b c = refl
 
-module _ (least mark : ℕ) (s : List ℕ) (o n : ℕ) where
-  pub clear-met : o + n < length s → ((not (runs (clear least mark) n s o) || ltb (getD s (o + n) 0) least) || eqb (getD s (o + n) 0) mark) ≡ not (runs (clear least mark) (n + 1) s o)
-  clear-met h =
-      let b = getD s (o + n) 0 in
-      or-assoc (not (runs (clear least mark) n s o)) (ltb b least) (eqb b mark) ∙ runs-met (clear least mark) s o n _ h (clear-byte least mark b)
+pub clear-met : (least mark : ℕ) (s : List ℕ) (o n : ℕ) → o + n < length s → ((not (runs (clear least mark) n s o) || ltb (getD s (o + n) 0) least) || eqb (getD s (o + n) 0) mark) ≡ not (runs (clear least mark) (n + 1) s o)
+clear-met least mark s o n h =
+    let b = getD s (o + n) 0 in
+    or-assoc (not (runs (clear least mark) n s o)) (ltb b least) (eqb b mark) ∙ runs-met (clear least mark) s o n _ h (clear-byte least mark b)
 
 -- what is clear is not below the least, and not the mark
 pub clear-least : (least mark b : ℕ) → clear least mark b ≡ true → least ≤ b
@@ -43,22 +43,12 @@ pub clear-other : (least mark b : ℕ) → clear least mark b ≡ true → is ma
 unfolding clear
 clear-other least mark b e = not-true (is mark b) (and-r (leb least b) (not (is mark b)) e)
 
--- a wider class runs at least as far
+-- where the least is 0, only the mark is not clear
+pub clear-mark : (mark b : ℕ) → clear 0 mark b ≡ not (is mark b)
+unfolding clear
+clear-mark mark b = rw (leb·zero b)
 
-span-wider : (p q : ℕ → Bool) → ((b : ℕ) → p b ≡ true → q b ≡ true) → (s : List ℕ) → span p s ≤ span q s
-unfolding span
-span-wider p q f [] = omega arith
-span-wider p q f (b ∷ s) = by (p b) refl (span-wider p q f s)
-  where
-    by : (t : Bool) → p b ≡ t → span p s ≤ span q s → cond t (suc (span p s)) 0 ≤ cond (q b) (suc (span q s)) 0
-    by true e h = rw (f b e) (omega arith)
-    by false e h = omega arith
-
-pub runs-wider : (p q : ℕ → Bool) → ((b : ℕ) → p b ≡ true → q b ≡ true) → (s : List ℕ) (o n : ℕ) → runs p n s o ≡ true → runs q n s o ≡ true
-unfolding runs
-runs-wider p q f s o n e = le-leb n (span q (drop o s)) (omega (arith, leb-true n (span p (drop o s)) e, span-wider p q f (drop o s)))
-
--- what no byte of the class changes from o on, a block of them does not change
+-- what no byte of the class changes from o on, a block of them does not change, nor does their run
 pub block-keeps : {A : Type 0} (f : ℕ → A) (p : ℕ → Bool) (s : List ℕ) (o : ℕ) → ((k : ℕ) → o ≤ k → k < length s → p (getD s k 0) ≡ true → f k ≡ f (k + 1)) → (n : ℕ) → runs p n s o ≡ true → f o ≡ f (o + n)
 block-keeps f p s o g zero e = rw (add-zero)
 block-keeps f p s o g (suc n) e =
@@ -66,3 +56,7 @@ block-keeps f p s o g (suc n) e =
     let both : (runs p n s o && p (getD s (o + n) 0)) ≡ true = sym (runs-more p s o n (omega arith)) ∙ rw (add-one n) e in
     let next : o + n + 1 ≡ o + suc n = omega arith in
     block-keeps f p s o g n (and-l (runs p n s o) (p (getD s (o + n) 0)) both) ∙ g (o + n) (omega arith) (omega arith) (and-r (runs p n s o) (p (getD s (o + n) 0)) both) ∙ ap f next
+
+pub span-keeps : {A : Type 0} (f : ℕ → A) (p : ℕ → Bool) (s : List ℕ) (o : ℕ) → ((k : ℕ) → o ≤ k → k < length s → p (getD s k 0) ≡ true → f k ≡ f (k + 1)) → f o ≡ f (spanEnd p s o)
+unfolding runs spanEnd
+span-keeps f p s o g = block-keeps f p s o g (span p (drop o s)) (le-leb (span p (drop o s)) (span p (drop o s)) (omega arith))

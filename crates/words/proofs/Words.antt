@@ -11,10 +11,10 @@ use Rattle.text.specs.Bytes.{isEol, endsWord}
 use Rattle.text.specs.Runs.{span, spanEnd, runs}
 use Rattle.text.proofs.Bools.{and-l, and-r, or-cases}
 use Rattle.text.proofs.Ranges.{allBelow, passes}
-use Rattle.text.proofs.Runs.{span-from, span-within, span-all, span-over, span-block}
+use Rattle.text.proofs.Runs.{span-from, span-within, span-all, span-over, span-go}
 use Rattle.words.specs.Blocks.{clear}
 use Rattle.words.specs.Words.{inWord, word, wordEnd, isOrdinary}
-use Rattle.words.proofs.Blocks.{clear-least, runs-wider}
+use Rattle.words.proofs.Blocks.{clear-least, block-keeps}
 
 -- a word is the run of its bytes
 pub word-run : (s : List ℕ) (o : ℕ) → wordEnd s o ≡ spanEnd inWord s o
@@ -29,7 +29,7 @@ high-in-word b h =
     rw (no 32 (omega arith), no 9 (omega arith), no 10 (omega arith), no 13 (omega arith), no 12 (omega arith))
 
 pub word-block : (mark : ℕ) (s : List ℕ) (o n : ℕ) → runs (clear 33 mark) n s o ≡ true → spanEnd inWord s o ≡ spanEnd inWord s (o + n)
-word-block mark s o n e = span-block inWord s o n (runs-wider (clear 33 mark) inWord (λ b t. high-in-word b (clear-least 33 mark b t)) s o n e)
+word-block mark s o n e = block-keeps (spanEnd inWord s) (clear 33 mark) s o (λ k l h t. span-go inWord s k h (high-in-word (getD s k 0) (clear-least 33 mark (getD s k 0) t))) n e
 
 -- and its end is its start and its length
 pub word-end : (s : List ℕ) (o : ℕ) → wordEnd s o ≡ o + word (drop o s)

@@ -209,23 +209,39 @@ pub fn parse_enclosed(s: &[u8], from: usize, mark: u8) -> Closing
     Closing::Nothing
 }
 
-// Behind the `;` that closes a text field; `from` is behind the `;` that opens it.
+// Where the next `;` stands at an offset or behind it, or the text's end.
+fn next_semicolon(s: &[u8], from: usize) -> usize
+    ensures { λ r. ⌜ r ≡ spanEnd (clear 0 59) (now (s .entry)) from ⌝ }
+{
+    let mut at = from;
+    while is_clear(s, at, 16, 0, 59) {
+        at += 16;
+    }
+    while at < s.len() {
+        if s[at] == 59 {
+            return at;
+        }
+        at += 1;
+    }
+    at
+}
+
+// Behind the `;` that closes a text field; `from` is behind the `;` that opens it. Only a `;` is looked at, and the byte before it.
 pub fn parse_multiline_string(s: &[u8], from: usize) -> Closing
     ensures { λ r. ⌜ r ≡ fieldEnd (now (s .entry)) from ⌝ }
 {
     let mut at = from;
     let end = loop {
-        let eol = text::line_end(s, at);
-        if s.len() <= eol {
-            return Closing::Nothing;
-        }
-        at = eol + 1;
+        at = next_semicolon(s, at);
         if s.len() <= at {
             return Closing::Nothing;
         }
-        if s[at] == 59 {
-            break at;
+        if from < at {
+            if text::is_eol(s[at - 1]) {
+                break at;
+            }
         }
+        at += 1;
     };
     Closing::Behind(end + 1)
 }
