@@ -1,24 +1,25 @@
 -- Laws of quotes and text fields. Assumes nothing.
 use Prim.Native.Nat.{ℕ, zero, suc, _+_, _-_, _≤_, _<_}
 use mathlib.Core.Path.{_≡_, refl, sym, ap, _∙_}
-use mathlib.Core.Bool.{Bool, true, false, cond, not, _&&_}
+use mathlib.Core.Bool.{Bool, true, false, cond, _&&_, and-false}
 use mathlib.Core.List.{List, [], _∷_}
 use mathlib.Core.Option.{Option, none, some}
 use native.Mathlib.Numerals.{add-one}
-use native.Mathlib.Nat.{add-zero}
 use native.Mathlib.Omega.{arith}
-use borrow.Author.Tests.{eqb-true}
+use borrow.Author.Tests.{eqb-true, ne-eqb, lt-ltb, le-ltb, not-false}
+use lib.Dec.{ltb}
 use lib.ListN.{length, drop, getD, drop-of-length-le}
-use lib.Seq.{drop-cons, drop-drop}
+use lib.Seq.{drop-cons}
 use Rattle.text.specs.Bytes.{is, isEol}
-use Rattle.text.specs.Runs.{span, spanEnd}
-use Rattle.text.specs.Lines.{inLine, lineEnd}
+use Rattle.text.specs.Runs.{spanEnd, runs}
 use Rattle.text.proofs.Bools.{and-r}
-use Rattle.text.proofs.Lines.{line-stops}
+use Rattle.text.proofs.Runs.{span-from, span-ends}
 use Rattle.words.specs.declared.Closing.{Closing}
 use Rattle.words.specs.declared.Closing.the-variants.{Behind, Nothing}
+use Rattle.words.specs.Blocks.{clear}
 use Rattle.words.specs.Quotes.{more, quoted, fieldIn, field}
 use Rattle.words.specs.Answers.{closing, quoteEnd, fieldEnd}
+use Rattle.words.proofs.Blocks.{clear-least, clear-other, clear-mark, block-keeps, span-keeps}
 
 -- byte by byte
 
@@ -44,6 +45,14 @@ module _ (m : ℕ) (s : List ℕ) (o : ℕ) where
   unfolding quoteEnd quoted closing
   quote-over h = rw (drop-of-length-le s h)
 
+-- a byte of at least 14 ends no line, so that a block of such bytes without the mark may be skipped
+high-plain : (b : ℕ) → 14 ≤ b → isEol b ≡ false
+unfolding isEol
+high-plain b h = rw (ne-eqb b 10 (λ e. omega arith), ne-eqb b 13 (λ e. omega arith))
+
+pub quote-block : (m : ℕ) (s : List ℕ) (o n : ℕ) → runs (clear 14 m) n s o ≡ true → quoteEnd m s o ≡ quoteEnd m s (o + n)
+quote-block m s o n e = block-keeps (quoteEnd m s) (clear 14 m) s o (λ k l h t. quote-go m s k h (clear-other 14 m (getD s k 0) t) (high-plain (getD s k 0) (clear-least 14 m (getD s k 0) t))) n e
+
 -- the end of a text field from offset o on; the flag: a byte of a line end stands before
 unfoldable pub fieldFrom : Bool → List ℕ → ℕ → Closing
 fieldFrom eol s o = closing o (fieldIn eol (drop o s))
@@ -65,31 +74,48 @@ module _ (eol : Bool) (s : List ℕ) (o : ℕ) where
   unfolding fieldFrom fieldIn closing
   field-over h = rw (drop-of-length-le s h)
 
--- by lines: a line of a field may be skipped, and behind its end stands the `;`, or the field goes on as before
+-- by its `;`: the first that has a byte of a line end before it, at the field's start or later, closes the field
 
-line-skipped : (s : List ℕ) (o : ℕ) → closing o (fieldIn false s) ≡ closing (o + span inLine s) (fieldIn false (drop (span inLine s) s))
-unfolding fieldIn span inLine
-line-skipped [] o = rw (add-zero)
-line-skipped (b ∷ s) o = by (isEol b) refl (line-skipped s (o + 1))
-  where
-    by : (t : Bool) → isEol b ≡ t → closing (o + 1) (fieldIn false s) ≡ closing (o + 1 + span inLine s) (fieldIn false (drop (span inLine s) s)) → closing o (fieldIn false (b ∷ s)) ≡ closing (o + cond (not t) (suc (span inLine s)) 0) (fieldIn false (drop (cond (not t) (suc (span inLine s)) 0) (b ∷ s)))
-    by true e h = rw (add-zero)
-    by false e h = rw e (closing-more o (fieldIn false s) ∙ h ∙ ap (λ (k : ℕ). closing k (fieldIn false (drop (span inLine s) s))) (omega arith))
+-- such a byte stands before offset k
+abbrev lineBefore : List ℕ → ℕ → ℕ → Bool
+lineBefore s o k = ltb o k && isEol (getD s (k - 1) 0)
 
-pub field-line : (s : List ℕ) (o : ℕ) → fieldFrom false s o ≡ fieldFrom false s (lineEnd s o)
-unfolding fieldFrom lineEnd spanEnd
-field-line s o = line-skipped (drop o s) o ∙ rw (drop-drop (span inLine (drop o s)) o s)
+-- the end of a field that starts at o, from offset k on
+unfoldable pub fieldPast : List ℕ → ℕ → ℕ → Closing
+fieldPast s o k = fieldFrom (lineBefore s o k) s k
 
-pub field-last : (s : List ℕ) (o e : ℕ) → e ≡ lineEnd s o → length s ≤ e → fieldFrom false s o ≡ Nothing
-field-last s o e q h = field-line s o ∙ field-over false s (lineEnd s o) (rw q at h)
+pub past-start : (s : List ℕ) (o : ℕ) → fieldEnd s o ≡ fieldPast s o o
+unfolding fieldPast
+past-start s o = field-all s o ∙ rw (le-ltb o o (omega arith))
 
-pub field-next : (s : List ℕ) (o e : ℕ) → e ≡ lineEnd s o → e < length s → fieldFrom false s o ≡ fieldFrom true s (e + 1)
-field-next s o e q h =
-    let l : lineEnd s o < length s = rw q at h in
-    field-line s o ∙ field-go false s (lineEnd s o) l refl ∙ rw (line-stops s o l, q)
+past-go : (s : List ℕ) (o k : ℕ) → o ≤ k → k < length s → (lineBefore s o k && is 59 (getD s k 0)) ≡ false → fieldPast s o k ≡ fieldPast s o (k + 1)
+unfolding fieldPast
+past-go s o k l h e =
+    let before : k + 1 - 1 ≡ k = omega arith in
+    field-go (lineBefore s o k) s k h e ∙ rw (lt-ltb o (k + 1) (omega arith), before)
 
-pub field-on : (s : List ℕ) (o : ℕ) → o < length s → is 59 (getD s o 0) ≡ false → fieldFrom true s o ≡ fieldFrom false s o
-field-on s o h e = field-go true s o h e ∙ sym (field-go false s o h refl)
+module _ (s : List ℕ) (o k e : ℕ) (l : o ≤ k) (q : e ≡ spanEnd (clear 0 59) s k) where
+  past-mark : fieldPast s o k ≡ fieldPast s o e
+  past-mark = rw q (span-keeps (fieldPast s o) (clear 0 59) s k (λ i m h t. past-go s o i (omega arith) h (rw (clear-other 0 59 (getD s i 0) t, and-false))))
+
+  mark-here : e < length s → is 59 (getD s e 0) ≡ true
+  mark-here h =
+      let t : clear 0 59 (getD s e 0) ≡ false = rw q (span-ends (clear 0 59) s k (rw q at h)) in
+      not-false (is 59 (getD s e 0)) (sym (clear-mark 59 (getD s e 0)) ∙ t)
+
+  pub past-last : length s ≤ e → fieldPast s o k ≡ Nothing
+  unfolding fieldPast
+  past-last h = past-mark ∙ field-over (lineBefore s o e) s e h
+
+  pub past-here : e < length s → o < e → isEol (getD s (e - 1) 0) ≡ true → fieldPast s o k ≡ Behind (e + 1)
+  unfolding fieldPast
+  past-here h i f = past-mark ∙ field-here (lineBefore s o e) s e h (rw (lt-ltb o e i, f, mark-here h))
+
+  pub past-first : e < length s → e ≤ o → fieldPast s o k ≡ fieldPast s o (e + 1)
+  past-first h i = past-mark ∙ past-go s o e (omega (arith, q, span-from (clear 0 59) s k)) h (rw (le-ltb o e i))
+
+  pub past-plain : e < length s → isEol (getD s (e - 1) 0) ≡ false → fieldPast s o k ≡ fieldPast s o (e + 1)
+  past-plain h f = past-mark ∙ past-go s o e (omega (arith, q, span-from (clear 0 59) s k)) h (rw (f, and-false))
 
 -- a closing found lies behind the start, at its length
 closing-behind : (o e : ℕ) (r : Option ℕ) → closing o r ≡ Behind e → (o ≤ e) × (r ≡ some (e - o))

@@ -4,20 +4,32 @@ use mathlib.Core.Path.{_≡_, refl, sym, ap, _∙_}
 use mathlib.Core.Bool.{Bool, true, false, _&&_, true≢false}
 use mathlib.Core.List.{List, _∷_}
 use native.Mathlib.Omega.{arith}
-use borrow.Author.Tests.{eqb-true, leb-true}
+use borrow.Author.Tests.{eqb-true, leb-true, ne-eqb}
 use lib.Dec.{leb, eqb}
 use lib.ListN.{length, drop, getD}
 use Rattle.text.specs.Bytes.{isEol, endsWord}
-use Rattle.text.specs.Runs.{span, spanEnd}
+use Rattle.text.specs.Runs.{span, spanEnd, runs}
 use Rattle.text.proofs.Bools.{and-l, and-r, or-cases}
 use Rattle.text.proofs.Ranges.{allBelow, passes}
-use Rattle.text.proofs.Runs.{span-from, span-within, span-all, span-over}
+use Rattle.text.proofs.Runs.{span-from, span-within, span-all, span-over, span-go}
+use Rattle.words.specs.Blocks.{clear}
 use Rattle.words.specs.Words.{inWord, word, wordEnd, isOrdinary}
+use Rattle.words.proofs.Blocks.{clear-least, block-keeps}
 
 -- a word is the run of its bytes
 pub word-run : (s : List ℕ) (o : ℕ) → wordEnd s o ≡ spanEnd inWord s o
 unfolding wordEnd word spanEnd
 word-run s o = refl
+
+-- a byte of at least 33 ends no word, so that a block of such bytes may be skipped
+high-in-word : (b : ℕ) → 33 ≤ b → inWord b ≡ true
+unfolding inWord endsWord
+high-in-word b h =
+    let no : (k : ℕ) → k < 33 → eqb b k ≡ false = λ k l. ne-eqb b k (λ e. omega arith) in
+    rw (no 32 (omega arith), no 9 (omega arith), no 10 (omega arith), no 13 (omega arith), no 12 (omega arith))
+
+pub word-block : (mark : ℕ) (s : List ℕ) (o n : ℕ) → runs (clear 33 mark) n s o ≡ true → spanEnd inWord s o ≡ spanEnd inWord s (o + n)
+word-block mark s o n e = block-keeps (spanEnd inWord s) (clear 33 mark) s o (λ k l h t. span-go inWord s k h (high-in-word (getD s k 0) (clear-least 33 mark (getD s k 0) t))) n e
 
 -- and its end is its start and its length
 pub word-end : (s : List ℕ) (o : ℕ) → wordEnd s o ≡ o + word (drop o s)

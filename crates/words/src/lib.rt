@@ -1,8 +1,11 @@
 // Words, keywords, quotes and text fields.
 ghost use mathlib.Core.Path.{_≡_};
 ghost use mathlib.Core.Bool.{_&&_};
+ghost use Prim.Native.Nat.{_<_};
 ghost use lib.ListN.{drop};
 ghost use Rattle.text.specs.Bytes.{is};
+ghost use Rattle.text.specs.Runs.{runs, spanEnd};
+ghost use Rattle.words.specs.Blocks.{clear};
 ghost use Rattle.words.specs.Words.{inWord, wordEnd, isOrdinary};
 ghost use Rattle.words.specs.Keywords.{lower, startsAt, keyData, keyLoop, keySave, reserved};
 ghost use Rattle.words.specs.Answers.{quoteEnd, fieldEnd};
@@ -11,6 +14,27 @@ ghost use Rattle.words.specs.Answers.{quoteEnd, fieldEnd};
 pub enum Closing {
     Behind(usize),
     Nothing,
+}
+
+// Whether so many bytes stand at an offset, none of them the mark and none below `least`. Every byte is looked at, so that they are compared many at once.
+fn is_clear(s: &[u8], at: usize, width: usize, least: u8, mark: u8) -> bool
+    requires { ⌜ 0 < width ⌝ }
+    ensures { λ r. ⌜ r ≡ runs (clear least mark) width (now (s .entry)) at ⌝ }
+{
+    if s.len() < width {
+        return false;
+    }
+    if s.len() - width < at {
+        return false;
+    }
+    let mut met = false;
+    let mut i = 0;
+    while i < width {
+        let b = s[at + i];
+        met = met | (b < least) | (b == mark);
+        i += 1;
+    }
+    !met
 }
 
 fn in_word(b: u8) -> bool
@@ -24,6 +48,23 @@ pub fn parse_identifier(s: &[u8], from: usize) -> usize
     ensures { λ r. ⌜ r ≡ wordEnd (now (s .entry)) from ⌝ }
 {
     let mut at = from;
+    while at < s.len() {
+        if !in_word(s[at]) {
+            return at;
+        }
+        at += 1;
+    }
+    at
+}
+
+// The same where the word may be long, as the name of a tag: by blocks first.
+pub fn long_word_end(s: &[u8], from: usize) -> usize
+    ensures { λ r. ⌜ r ≡ wordEnd (now (s .entry)) from ⌝ }
+{
+    let mut at = from;
+    while is_clear(s, at, 8, 33, 0) {
+        at += 8;
+    }
     while at < s.len() {
         if !in_word(s[at]) {
             return at;
@@ -152,6 +193,9 @@ pub fn parse_enclosed(s: &[u8], from: usize, mark: u8) -> Closing
     ensures { λ r. ⌜ r ≡ quoteEnd mark (now (s .entry)) from ⌝ }
 {
     let mut at = from;
+    while is_clear(s, at, 8, 14, mark) {
+        at += 8;
+    }
     while at < s.len() {
         let b = s[at];
         if b == mark {
@@ -165,23 +209,39 @@ pub fn parse_enclosed(s: &[u8], from: usize, mark: u8) -> Closing
     Closing::Nothing
 }
 
-// Behind the `;` that closes a text field; `from` is behind the `;` that opens it.
+// Where the next `;` stands at an offset or behind it, or the text's end.
+fn next_semicolon(s: &[u8], from: usize) -> usize
+    ensures { λ r. ⌜ r ≡ spanEnd (clear 0 59) (now (s .entry)) from ⌝ }
+{
+    let mut at = from;
+    while is_clear(s, at, 16, 0, 59) {
+        at += 16;
+    }
+    while at < s.len() {
+        if s[at] == 59 {
+            return at;
+        }
+        at += 1;
+    }
+    at
+}
+
+// Behind the `;` that closes a text field; `from` is behind the `;` that opens it. Only a `;` is looked at, and the byte before it.
 pub fn parse_multiline_string(s: &[u8], from: usize) -> Closing
     ensures { λ r. ⌜ r ≡ fieldEnd (now (s .entry)) from ⌝ }
 {
     let mut at = from;
     let end = loop {
-        let eol = text::line_end(s, at);
-        if s.len() <= eol {
-            return Closing::Nothing;
-        }
-        at = eol + 1;
+        at = next_semicolon(s, at);
         if s.len() <= at {
             return Closing::Nothing;
         }
-        if s[at] == 59 {
-            break at;
+        if from < at {
+            if text::is_eol(s[at - 1]) {
+                break at;
+            }
         }
+        at += 1;
     };
     Closing::Behind(end + 1)
 }
