@@ -104,6 +104,11 @@ pub run-here : (w : List ℕ) (i : ℕ) → i ≤ length w → Run w i (digitsEn
 unfolding digitsEnd
 run-here w i h = record { from = span-from isDigit w i; to = span-within isDigit w i h; all = λ k a b. span-all isDigit w i k a b }
 
+-- digits stand up to j, where those from i on end where those from j on end
+pub run-so-far : (w : List ℕ) (i j : ℕ) → i ≤ j → j ≤ length w → digitsEnd w i ≡ digitsEnd w j → Run w i j
+unfolding digitsEnd
+run-so-far w i j h l e = record { from = h; to = l; all = λ k a b. span-all isDigit w i k a (omega (arith, e, span-from isDigit w j)) }
+
 pub digits-from : (w : List ℕ) (i : ℕ) → i ≤ digitsEnd w i
 unfolding digitsEnd
 digits-from w i = span-from isDigit w i
@@ -163,3 +168,7 @@ run-below {w} {i} {j} r =
 
 pub run-fits : {w : List ℕ} {i j : ℕ} (m : ℕ) → Run w i j → j - i ≤ m → value (piece w i j) < 10 ^ m
 run-fits m r h = lt-of-lt-of-le (run-below r) (pow-le-pow-right (lit< tt) h)
+
+-- the digits so far, of at most 18
+pub so-far-fits : (w : List ℕ) (i j : ℕ) → i ≤ j → j ≤ length w → digitsEnd w i ≡ digitsEnd w j → digitsEnd w i - i ≤ 18 → value (piece w i j) < 10 ^ 18
+so-far-fits w i j h l e m = run-fits 18 (run-so-far w i j h l e) (omega (arith, e, digits-from w j))

@@ -9,3 +9,4 @@ pub mod Bridge
 pub mod Facts
 pub mod Shape
 pub mod Plain
+pub mod Unscaled

@@ -10,7 +10,8 @@ use Rattle.text.specs.Bytes.{isDigit, is}
 use Rattle.text.specs.Runs.{spanEnd}
 use Rattle.numbers.specs.declared.Cuts.{Cuts}
 use Rattle.numbers.specs.declared.Extent.{Extent}
-use Rattle.numbers.specs.Parts.{Part, Parts}
+use Rattle.numbers.specs.declared.Digits.{Digits}
+use Rattle.numbers.specs.Parts.{Part, Parts, value}
 
 -- the bytes from i up to j
 unfoldable pub piece : List ℕ → ℕ → ℕ → List ℕ
@@ -27,6 +28,10 @@ after x y w i = cond (is x (getD w i 0) || is y (getD w i 0)) (i + 1) i
 -- behind the digits at i
 unfoldable pub digitsEnd : List ℕ → ℕ → ℕ
 digitsEnd w i = spanEnd isDigit w i
+
+-- the digits at i: where they end, and the number that they write
+unfoldable pub digitsAt : List ℕ → ℕ → Digits
+digitsAt w i = record { end = digitsEnd w i; value = value (piece w i (digitsEnd w i)) }
 
 -- a part that is absent at i
 unfoldable pub nowhere : ℕ → Extent

@@ -6,7 +6,7 @@ ghost use lib.Dec.{eqb};
 ghost use lib.ListN.{getD};
 ghost use Rattle.numbers.specs.Parts.{parts, isNumber, within, value, minus};
 ghost use Rattle.numbers.specs.Meaning.{meaning, numberOf};
-ghost use Rattle.numbers.specs.Cuts.{piece, startsNumber, after, digitsEnd, nowhere as nowhereOf, startsExponent, exponentAt, bracketAt, cutsOf, partsOf, Run, Sound};
+ghost use Rattle.numbers.specs.Cuts.{piece, startsNumber, after, digitsEnd, digitsAt, nowhere as nowhereOf, startsExponent, exponentAt, bracketAt, cutsOf, partsOf, Run, Sound};
 ghost use Rattle.numbers.specs.Plain.{wordStops, bracketEnd, decimalEnd};
 
 // What a number means: its sign, integer, fraction and how many digits that has, sign and size of the exponent, and uncertainty.
@@ -35,6 +35,12 @@ struct Extent {
     digits: usize,
     end: usize,
     next: usize,
+}
+
+// Digits of a word: where they end, and the number that they write.
+struct Digits {
+    end: usize,
+    value: u64,
 }
 
 // Where a word's parts lie: the ends of sign, integer, point and fraction, then the exponent and the bracket.
@@ -252,6 +258,23 @@ fn small_value(w: &[u8], from: usize, to: usize) -> u32
     digits_value(w, from, to) as u32
 }
 
+// The digits at an offset, in one pass.
+fn digits_at(w: &[u8], from: usize) -> Digits
+    requires { ⌜ digitsEnd (now w) from - from ≤ 18 ⌝ }
+    ensures { λ r. ⌜ r ≡ digitsAt (now (w .entry)) from ⌝ }
+{
+    let mut v: u64 = 0;
+    let mut at = from;
+    while at < w.len() {
+        if !text::is_digit(w[at]) {
+            return Digits { end: at, value: v };
+        }
+        v = v * 10 + wide(w[at] - 48);
+        at += 1;
+    }
+    Digits { end: at, value: v }
+}
+
 // Whether a sign from one offset to another is a minus.
 fn is_minus(w: &[u8], from: usize, to: usize) -> bool
     ensures { λ r. ⌜ r ≡ minus (piece (now (w .entry)) from to) ⌝ }
@@ -295,13 +318,61 @@ fn read(w: &[u8], k: Cuts) -> Decimal
     }
 }
 
-// What a word means whose parts keep the limits.
-pub fn decimal_of(w: &[u8]) -> Decimal
+// What a word means whose parts keep the limits, by its cuts.
+fn decimal_by_cuts(w: &[u8]) -> Decimal
     requires { ⌜ within (parts (now w)) ≡ true ⌝ }
     ensures { λ r. ⌜ r ≡ meaning (parts (now (w .entry))) ⌝ }
 {
     let k = cut(w);
     read(w, k)
+}
+
+// What a word means whose parts keep the limits. Most end behind their fraction or a bracket there, and one pass reads those.
+pub fn decimal_of(w: &[u8]) -> Decimal
+    requires { ⌜ within (parts (now w)) ≡ true ⌝ }
+    ensures { λ r. ⌜ r ≡ meaning (parts (now (w .entry))) ⌝ }
+{
+    let sign = after_one(w, 0, 43, 45);
+    let minus = is_minus(w, 0, sign);
+    let whole = digits_at(w, sign);
+    let integer = whole.value as u32;
+    let point = after_one(w, whole.end, 46, 46);
+    let part = digits_at(w, point);
+    let behind = part.end;
+    let places = behind - point;
+    if w.len() <= behind {
+        return Decimal {
+            minus,
+            integer,
+            fraction: part.value,
+            places,
+            lowers: false,
+            exponent: 0,
+            uncertain: false,
+            uncertainty: 0,
+        };
+    }
+    if w[behind] != 40 {
+        return decimal_by_cuts(w);
+    }
+    // A bracket that isn't closed may have digits without limit.
+    if 11 < w.len() - behind {
+        return decimal_by_cuts(w);
+    }
+    let inner = digits_at(w, behind + 1);
+    if byte_at(w, inner.end) != 41 {
+        return decimal_by_cuts(w);
+    }
+    Decimal {
+        minus,
+        integer,
+        fraction: part.value,
+        places,
+        lowers: false,
+        exponent: 0,
+        uncertain: true,
+        uncertainty: inner.value as u32,
+    }
 }
 
 // What a word says as a number. Most words are no numbers and show it by their first byte.
