@@ -3,6 +3,8 @@ ghost use mathlib.Core.Path.{_≡_};
 ghost use mathlib.Core.Bool.{true};
 ghost use Prim.Native.Nat.{ℕ, _+_, _*_, _≤_, _<_};
 ghost use lib.ListN.{length, getD};
+ghost use Rattle.values.specs.Answers.{valueAt};
+ghost use Rattle.values.specs.Pieces.{quoteAt, fieldAt};
 ghost use Rattle.words.specs.Keywords.{startsAt, keyData, keyLoop, keySave};
 ghost use Rattle.items.specs.Sizes.{contentSize, noSizes, grown, added, joined, Upto};
 ghost use Rattle.items.specs.First.{isLetter, startsReserved, startsBare, startsDecimal, plainKind};
@@ -15,6 +17,7 @@ use records::Kind;
 use records::Shape;
 use values::Value;
 use values::Why;
+use words::Closing;
 
 // The room that records take.
 pub struct Sizes {
@@ -332,6 +335,45 @@ fn pack_decimal(s: &[u8], at: usize) -> usize
     packed(plain_kind(s, end), end - at)
 }
 
+// The same where a quoted value stands, if it is closed.
+fn pack_quote(s: &[u8], at: usize, mark: u8, kind: u8) -> usize
+    requires { ⌜ (length (now s) ≤ limit) × (at < length (now s)) × (valueAt (now s) at ≡ quoteAt mark kind (now s) at) ⌝ }
+    ensures { λ r. ⌜ r ≡ packedAt (now (s .entry)) at ⌝ }
+{
+    let Closing::Behind(end) = words::parse_enclosed(s, at + 1, mark) else {
+        return 0;
+    };
+    packed(kind, end - at)
+}
+
+// The same where a text field stands, if it is closed.
+fn pack_field(s: &[u8], at: usize) -> usize
+    requires { ⌜ (length (now s) ≤ limit) × (at < length (now s)) × (valueAt (now s) at ≡ fieldAt (now s) at) ⌝ }
+    ensures { λ r. ⌜ r ≡ packedAt (now (s .entry)) at ⌝ }
+{
+    let Closing::Behind(end) = words::parse_multiline_string(s, at + 1) else {
+        return 0;
+    };
+    packed(13, end - at)
+}
+
+// The same where a mark stands that is no number's and no word's first byte.
+fn pack_marked(s: &[u8], at: usize, b: u8) -> usize
+    requires { ⌜ (length (now s) ≤ limit) × (at < length (now s)) × (b ≡ getD (now s) at 0) ⌝ }
+    ensures { λ r. ⌜ r ≡ packedAt (now (s .entry)) at ⌝ }
+{
+    if b == 39 {
+        return pack_quote(s, at, 39, 11);
+    }
+    if b == 34 {
+        return pack_quote(s, at, 34, 12);
+    }
+    if b == 59 {
+        return pack_field(s, at);
+    }
+    pack_other(s, at)
+}
+
 // The same for every first byte: it tells most values, without making what they mean.
 pub fn pack_value(s: &[u8], at: usize) -> usize
     requires { ⌜ length (now s) ≤ limit ⌝ }
@@ -351,7 +393,7 @@ pub fn pack_value(s: &[u8], at: usize) -> usize
     if b == 63 {
         return packed(9, 1);
     }
-    pack_other(s, at)
+    pack_marked(s, at, b)
 }
 
 // The value at an offset, by its kind and length. Longer texts are refused before; here their lengths might not fit.
@@ -406,7 +448,7 @@ fn count_names(s: &[u8], from: usize) -> Names
                 sizes,
             };
         }
-        let end = words::parse_identifier(s, at);
+        let end = words::long_word_end(s, at);
         sizes = sizes.add(6, end - at);
         count += 1;
         at = text::gap_end(s, end);
@@ -484,7 +526,7 @@ fn parse_tag(s: &[u8], at: usize) -> Item
     requires { ⌜ Here (now s) at × (tagAt (now s) at ≡ true) ⌝ }
     ensures { λ r. ⌜ r ≡ itemAt (now (s .entry)) at ⌝ }
 {
-    let end = words::parse_identifier(s, at);
+    let end = words::long_word_end(s, at);
     let stop = text::gap_end(s, end);
     let found = find_value(s, stop);
     if let Found::Value { kind, size } = found {

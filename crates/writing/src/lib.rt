@@ -340,7 +340,7 @@ fn count_tags(s: &[u8], from: usize) -> usize
     let mut at = text::gap_end(s, from);
     let mut count: usize = 0;
     while items::at_tag(s, at) {
-        at = text::gap_end(s, words::parse_identifier(s, at));
+        at = text::gap_end(s, words::long_word_end(s, at));
         count += 1;
     }
     count
@@ -359,7 +359,7 @@ fn write_names(s: &[u8], full: bool, store: &mut [u8], area: &mut [u8], c: Curso
         if !items::at_tag(s, offset) {
             return here;
         }
-        let end = words::parse_identifier(s, offset);
+        let end = words::long_word_end(s, offset);
         last = write_text(s, full, store, area, here, 6, end - offset);
     }
 }
@@ -385,7 +385,7 @@ fn write_tag_item(s: &[u8], full: bool, store: &mut [u8], area: &mut [u8], c: Cu
 {
     let place = c.place;
     let offset = place.offset;
-    let end = words::parse_identifier(s, offset);
+    let end = words::long_word_end(s, offset);
     let tagged = write_text(s, full, store, area, c, 4, end - offset);
     write_values(s, full, store, area, tagged)
 }
@@ -440,7 +440,7 @@ fn next_in_frame(s: &[u8], at: usize) -> Next
     if !items::at_tag(s, at) {
         return decide_next(s, at);
     }
-    let end = words::parse_identifier(s, at);
+    let end = words::long_word_end(s, at);
     let stop = text::gap_end(s, end);
     if items::pack_value(s, stop) == 0 {
         return Next::Stop { at: stop };

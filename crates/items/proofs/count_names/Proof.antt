@@ -33,14 +33,14 @@ returns c =
     let l = c .before .before .loop in
     names-all _ _ (l .at) (l .count) (l .sizes) (l .inv) (sym (c .before .at-tag .ensures) ∙ not-true _ (c .if1 .taken))
 
-parse-identifier-requires : tie.Need-parse-identifier-requires Inv-loop μ-loop
-parse-identifier-requires c κs = tt
+long-word-end-requires : tie.Need-long-word-end-requires Inv-loop μ-loop
+long-word-end-requires c κs = tt
 
 sub-add : tie.Need-sub-add Inv-loop μ-loop
 sub-add c =
     let l = c .before .before .before .loop in
     let n = name-step _ (l .at) (l .inv .bare) (sym (c .before .before .at-tag .ensures) ∙ not-false _ (c .before .if1 .left)) in
-    omega (arith, n .onward, c .parse-identifier .ensures)
+    omega (arith, n .onward, c .long-word-end .ensures)
 
 add-requires : tie.Need-add-requires Inv-loop μ-loop
 unfolding limit
@@ -48,7 +48,7 @@ add-requires c κs =
     let l = c .before .before .before .loop in
     let ready = c .before .before .before .before .before .before .before .pre in
     let n = name-step _ (l .at) (l .inv .bare) (sym (c .before .before .at-tag .ensures) ∙ not-false _ (c .before .if1 .left)) in
-    (upto-more (l .at) (limit * limit) (l .sizes) (l .inv .fits) (omega (arith, l .inv .within, ready .small)), omega (arith, n .within, ready .small, c .parse-identifier .ensures))
+    (upto-more (l .at) (limit * limit) (l .sizes) (l .inv .fits) (omega (arith, l .inv .within, ready .small)), omega (arith, n .within, ready .small, c .long-word-end .ensures))
 
 add-count : tie.Need-add-count Inv-loop μ-loop
 unfolding limit
@@ -64,14 +64,14 @@ loop-less : tie.Need-loop-less Inv-loop μ-loop
 loop-less c =
     let l = c .before .before .before .before .before .loop in
     let tagged = sym (c .before .before .before .before .at-tag .ensures) ∙ not-false _ (c .before .before .before .if1 .left) in
-    let n = names-next _ _ (l .at) (l .count) _ _ (l .sizes) _ (l .inv) tagged (c .before .before .parse-identifier .ensures) (c .gap-end2 .ensures) (c .before .add .ensures) in
+    let n = names-next _ _ (l .at) (l .count) _ _ (l .sizes) _ (l .inv) tagged (c .before .before .long-word-end .ensures) (c .gap-end2 .ensures) (c .before .add .ensures) in
     omega (arith, n .0, n .1 .within)
 
 loop-again : tie.Need-loop-again Inv-loop μ-loop
 loop-again c =
     let l = c .before .before .before .before .before .loop in
     let tagged = sym (c .before .before .before .before .at-tag .ensures) ∙ not-false _ (c .before .before .before .if1 .left) in
-    names-next _ _ (l .at) (l .count) _ _ (l .sizes) _ (l .inv) tagged (c .before .before .parse-identifier .ensures) (c .gap-end2 .ensures) (c .before .add .ensures) .1
+    names-next _ _ (l .at) (l .count) _ _ (l .sizes) _ (l .inv) tagged (c .before .before .long-word-end .ensures) (c .gap-end2 .ensures) (c .before .add .ensures) .1
 
 pub count-names-spec : {M : Type 1} → statement M
 count-names-spec =
@@ -84,7 +84,7 @@ count-names-spec =
     loop-holds
     at-tag-requires
     returns
-    parse-identifier-requires
+    long-word-end-requires
     sub-add
     add-requires
     add-count

@@ -1,5 +1,5 @@
--- `items::pack_value`: what the first byte tells, and otherwise what `pack_other` finds. Assumes nothing.
-use mathlib.Core.Path.{sym, _∙_}
+-- `items::pack_value`: what the first byte tells, and otherwise what `pack_marked` finds. Assumes nothing.
+use mathlib.Core.Path.{refl, sym, _∙_}
 use native.Mathlib.Omega.{arith}
 use Rattle.words.proofs.Words.{word-from, word-within}
 use Rattle.items.specs.Reading.{limit}
@@ -49,8 +49,8 @@ packed-requires-2 c κs = omega arith
 returns-4 : tie.Need-returns-4
 returns-4 c = rw (c .packed2 .ensures, ← unknown-found _ _ (c .before .before .before .before .before .before .before .if1 .left) (c .before .if4 .taken))
 
-pack-other-requires : tie.Need-pack-other-requires
-pack-other-requires c κs = search needs
+pack-marked-requires : tie.Need-pack-marked-requires
+pack-marked-requires c κs = (c .before .before .before .before .before .before .before .before .pre, c .before .before .before .before .before .before .if1 .left, refl)
 
 returns-5 : tie.Need-returns-5
 returns-5 c = search needs
@@ -71,5 +71,5 @@ pack-value-spec =
     returns-3
     packed-requires-2
     returns-4
-    pack-other-requires
+    pack-marked-requires
     returns-5)

@@ -18,7 +18,7 @@ tag-read :
     → TagRead
     (b .before .before .before .before .args .s .now)
     (b .before .before .before .before .args .at)
-    (b .before .before .parse-identifier .result)
+    (b .before .before .long-word-end .result)
     (b .before .gap-end .result)
     (b .find-value .result)
 tag-read b =
@@ -26,13 +26,13 @@ tag-read b =
     record {
       bare = p .0 .none;
       tagged = p .1;
-      ends = b .before .before .parse-identifier .ensures;
+      ends = b .before .before .long-word-end .ensures;
       stops = b .before .gap-end .ensures;
       finds = b .find-value .ensures;
     }
 
-parse-identifier-requires : tie.Need-parse-identifier-requires
-parse-identifier-requires c κs = search needs
+long-word-end-requires : tie.Need-long-word-end-requires
+long-word-end-requires c κs = search needs
 
 gap-end-requires : tie.Need-gap-end-requires
 gap-end-requires c κs = search needs
@@ -101,7 +101,7 @@ pub parse-tag-spec : {M : Type 1} → statement M
 parse-tag-spec =
     tie.close
     (tie.spec
-    parse-identifier-requires
+    long-word-end-requires
     gap-end-requires
     find-value-requires
     enum-known-found

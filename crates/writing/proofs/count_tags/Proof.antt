@@ -14,7 +14,7 @@ use Rattle.writing.proofs.count_tags.Statement.{statement}
 use Rattle.writing.proofs.count_tags.Tie as tie
 use Rattle.items.proofs.at_tag.Reads as at-tag-reads
 use Rattle.text.proofs.gap_end.Reads as gap-end-reads
-use Rattle.words.proofs.parse_identifier.Reads as parse-identifier-reads
+use Rattle.words.proofs.long_word_end.Reads as long-word-end-reads
 
 abbrev Inv-loop : tie.InvT-loop
 Inv-loop s from at₀ count₀ at count = (at ≤ length s) × (gapEnd s at ≡ at) × (count ≤ at) × (count + length (namesFrom s at) ≡ length (namesFrom s from))
@@ -34,8 +34,8 @@ loop-holds c =
 at-tag-requires : tie.Need-at-tag-requires Inv-loop μ-loop
 at-tag-requires c κs = tt
 
-parse-identifier-requires : tie.Need-parse-identifier-requires Inv-loop μ-loop
-parse-identifier-requires c κs = tt
+long-word-end-requires : tie.Need-long-word-end-requires Inv-loop μ-loop
+long-word-end-requires c κs = tt
 
 gap-end-requires-2 : tie.Need-gap-end-requires-2 Inv-loop μ-loop
 gap-end-requires-2 c κs = tt
@@ -50,7 +50,7 @@ loop-less c =
     let l = c .before .before .before .before .loop in
     let s = c .before .before .before .before .before .before .before .args .s .now in
     let t = count-turn s (l .at) (l .inv .0) (l .inv .1) (sym (c .before .before .before .at-tag .ensures) ∙ c .before .before .if1 .taken) in
-    let e = c .gap-end2 .ensures ∙ ap (gapEnd s) (c .before .parse-identifier .ensures) in
+    let e = c .gap-end2 .ensures ∙ ap (gapEnd s) (c .before .long-word-end .ensures) in
     omega (arith, t .onward, t .within, gap-from s (wordEnd s (l .at)))
 
 loop-again : tie.Need-loop-again Inv-loop μ-loop
@@ -58,7 +58,7 @@ loop-again c =
     let l = c .before .before .before .before .loop in
     let s = c .before .before .before .before .before .before .before .args .s .now in
     let t = count-turn s (l .at) (l .inv .0) (l .inv .1) (sym (c .before .before .before .at-tag .ensures) ∙ c .before .before .if1 .taken) in
-    let e = c .gap-end2 .ensures ∙ ap (gapEnd s) (c .before .parse-identifier .ensures) in (
+    let e = c .gap-end2 .ensures ∙ ap (gapEnd s) (c .before .long-word-end .ensures) in (
       omega (arith, gap-within s (wordEnd s (l .at)) (t .within)),
       rw e (gap-twice s (wordEnd s (l .at))),
       omega (arith, l .inv .2, t .onward, gap-from s (wordEnd s (l .at))),
@@ -80,7 +80,7 @@ count-tags-spec =
     gap-end-requires
     loop-holds
     at-tag-requires
-    parse-identifier-requires
+    long-word-end-requires
     gap-end-requires-2
     add-count
     loop-less

@@ -9,7 +9,7 @@ use Rattle.writing.proofs.next_in_frame.Tie as tie
 use Rattle.items.proofs.at_tag.Reads as at-tag-reads
 use Rattle.items.proofs.pack_value.Reads as pack-value-reads
 use Rattle.text.proofs.gap_end.Reads as gap-end-reads
-use Rattle.words.proofs.parse_identifier.Reads as parse-identifier-reads
+use Rattle.words.proofs.long_word_end.Reads as long-word-end-reads
 use Rattle.writing.proofs.decide_next.Reads as decide-next-reads
 
 at-tag-requires : tie.Need-at-tag-requires
@@ -21,8 +21,8 @@ decide-next-requires c κs = search needs
 returns : tie.Need-returns
 returns c = search needs
 
-parse-identifier-requires : tie.Need-parse-identifier-requires
-parse-identifier-requires c κs = search needs
+long-word-end-requires : tie.Need-long-word-end-requires
+long-word-end-requires c κs = search needs
 
 gap-end-requires : tie.Need-gap-end-requires
 gap-end-requires c κs = search needs
@@ -35,14 +35,14 @@ returns-2 c =
     let a = c .before .before .before .before .before .before .before .args in
     let p = c .before .before .before .before .before .before .before .pre in
     let t = sym (c .before .before .before .before .before .at-tag .ensures) ∙ not-false (c .before .before .before .before .before .at-tag .result) (c .before .before .before .before .if1 .left) in
-    next-alone (a .s .now) (a .at) _ _ (p .none) t (c .before .before .before .parse-identifier .ensures) (c .before .before .gap-end .ensures) (no-value-packed _ _ (sym (c .before .pack-value .ensures) ∙ c .if2 .taken))
+    next-alone (a .s .now) (a .at) _ _ (p .none) t (c .before .before .before .long-word-end .ensures) (c .before .before .gap-end .ensures) (no-value-packed _ _ (sym (c .before .pack-value .ensures) ∙ c .if2 .taken))
 
 returns-3 : tie.Need-returns-3
 returns-3 c =
     let a = c .before .before .before .before .before .before .before .args in
     let p = c .before .before .before .before .before .before .before .pre in
     let t = sym (c .before .before .before .before .before .at-tag .ensures) ∙ not-false (c .before .before .before .before .before .at-tag .result) (c .before .before .before .before .if1 .left) in
-    next-value (a .s .now) (a .at) _ _ _ _ (p .none) t (c .before .before .before .parse-identifier .ensures) (c .before .before .gap-end .ensures) (unpack _ _ _ (c .before .pack-value .ensures) (c .if2 .left))
+    next-value (a .s .now) (a .at) _ _ _ _ (p .none) t (c .before .before .before .long-word-end .ensures) (c .before .before .gap-end .ensures) (unpack _ _ _ (c .before .pack-value .ensures) (c .if2 .left))
 
 pub next-in-frame-spec : {M : Type 1} → statement M
 next-in-frame-spec =
@@ -51,7 +51,7 @@ next-in-frame-spec =
     at-tag-requires
     decide-next-requires
     returns
-    parse-identifier-requires
+    long-word-end-requires
     gap-end-requires
     pack-value-requires
     returns-2

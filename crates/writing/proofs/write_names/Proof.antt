@@ -13,7 +13,7 @@ use Rattle.writing.proofs.Lists.{namesFrom, behindNames, name-room, nam
 use Rattle.writing.proofs.Values.{trim-offset}
 use Rattle.writing.proofs.write_names.Statement.{statement}
 use Rattle.writing.proofs.write_names.Tie as tie
-use Rattle.words.proofs.parse_identifier.Reads as parse-identifier-reads
+use Rattle.words.proofs.long_word_end.Reads as long-word-end-reads
 use Rattle.items.proofs.at_tag.Reads as at-tag-reads
 use Rattle.writing.proofs.trimmed.Reads as trimmed-reads
 use Rattle.writing.proofs.write_text.Reads as write-text-reads
@@ -53,11 +53,11 @@ returns c =
     let f = sym (c .before .at-tag .ensures) ∙ not-true (c .before .at-tag .result) (c .if1 .taken) in
     name-last (a .full) (a .s .now) d₀ d i g f
 
-parse-identifier-requires : tie.Need-parse-identifier-requires Inv-loop μ-loop
-parse-identifier-requires c κs = search needs
+long-word-end-requires : tie.Need-long-word-end-requires Inv-loop μ-loop
+long-word-end-requires c κs = search needs
 
 sub-write-text : tie.Need-sub-write-text Inv-loop μ-loop
-sub-write-text c = omega (arith, c .before .before .parse-identifier .ensures, word-from (c .before .before .before .before .before .before .before .before .before .before .before .args .s .now) (c .before .before .before .before .before .before .trimmed .result .place .offset))
+sub-write-text c = omega (arith, c .before .before .long-word-end .ensures, word-from (c .before .before .before .before .before .before .before .before .before .before .before .args .s .now) (c .before .before .before .before .before .before .trimmed .result .place .offset))
 
 write-text-requires : tie.Need-write-text-requires Inv-loop μ-loop
 write-text-requires c κs =
@@ -69,7 +69,7 @@ write-text-requires c κs =
     let i = name-gap (a .full) (a .s .now) d₀ (l .last) (h .result) (l .store) (l .area) (l .inv) (h .ensures) in
     let g = gap-again (a .s .now) (l .last) (h .result) (h .ensures) in
     let t = sym (c .before .before .before .before .at-tag .ensures) ∙ not-false (c .before .before .before .before .at-tag .result) (c .before .before .before .if1 .left) in
-    let r = name-room (a .full) (a .s .now) d₀ d _ i g t (ap (λ x. x - h .result .place .offset) (c .before .before .parse-identifier .ensures)) in
+    let r = name-room (a .full) (a .s .now) d₀ d _ i g t (ap (λ x. x - h .result .place .offset) (c .before .before .long-word-end .ensures)) in
     (i .going, r .0, unfold kindOf shapeOf in refl, r .1)
 
 loop-less : tie.Need-loop-less Inv-loop μ-loop
@@ -82,7 +82,7 @@ loop-less c =
     let i = name-gap (a .full) (a .s .now) d₀ (l .last) (h .result) (l .store) (l .area) (l .inv) (h .ensures) in
     let g = gap-again (a .s .now) (l .last) (h .result) (h .ensures) in
     let t = sym (c .before .before .before .before .before .before .before .before .before .at-tag .ensures) ∙ not-false (c .before .before .before .before .before .before .before .before .before .at-tag .result) (c .before .before .before .before .before .before .before .before .if1 .left) in
-    let n = name-next (a .full) (a .s .now) d₀ d _ _ i g t (ap (λ x. x - h .result .place .offset) (c .before .before .before .before .before .before .before .parse-identifier .ensures)) (c .before .before .before .before .write-text .ensures) in
+    let n = name-next (a .full) (a .s .now) d₀ d _ _ i g t (ap (λ x. x - h .result .place .offset) (c .before .before .before .before .before .before .before .long-word-end .ensures)) (c .before .before .before .before .write-text .ensures) in
     omega (arith, n .1, n .2, trim-offset (a .s .now) (l .last) (h .result) (h .ensures), gap-from (a .s .now) (l .last .place .offset))
 
 loop-again : tie.Need-loop-again Inv-loop μ-loop
@@ -95,7 +95,7 @@ loop-again c =
     let i = name-gap (a .full) (a .s .now) d₀ (l .last) (h .result) (l .store) (l .area) (l .inv) (h .ensures) in
     let g = gap-again (a .s .now) (l .last) (h .result) (h .ensures) in
     let t = sym (c .before .before .before .before .before .before .before .before .before .at-tag .ensures) ∙ not-false (c .before .before .before .before .before .before .before .before .before .at-tag .result) (c .before .before .before .before .before .before .before .before .if1 .left) in
-    name-next (a .full) (a .s .now) d₀ d _ _ i g t (ap (λ x. x - h .result .place .offset) (c .before .before .before .before .before .before .before .parse-identifier .ensures)) (c .before .before .before .before .write-text .ensures) .0
+    name-next (a .full) (a .s .now) d₀ d _ _ i g t (ap (λ x. x - h .result .place .offset) (c .before .before .before .before .before .before .before .long-word-end .ensures)) (c .before .before .before .before .write-text .ensures) .0
 
 pub write-names-spec : {M : Type 1} → statement M
 write-names-spec =
@@ -109,7 +109,7 @@ write-names-spec =
     same-length
     same-length-2
     returns
-    parse-identifier-requires
+    long-word-end-requires
     sub-write-text
     write-text-requires
     loop-less

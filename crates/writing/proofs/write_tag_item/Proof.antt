@@ -8,16 +8,16 @@ use Rattle.writing.specs.Walk.{desk}
 use Rattle.writing.proofs.Items.{tag-token, tag-room, tag-value-room, tag-done}
 use Rattle.writing.proofs.write_tag_item.Statement.{statement}
 use Rattle.writing.proofs.write_tag_item.Tie as tie
-use Rattle.words.proofs.parse_identifier.Reads as parse-identifier-reads
+use Rattle.words.proofs.long_word_end.Reads as long-word-end-reads
 use Rattle.writing.proofs.write_text.Reads as write-text-reads
 use Rattle.writing.proofs.write_values.Reads as write-values-reads
 
-parse-identifier-requires : tie.Need-parse-identifier-requires
-parse-identifier-requires c κs = search needs
+long-word-end-requires : tie.Need-long-word-end-requires
+long-word-end-requires c κs = search needs
 
 sub-write-text : tie.Need-sub-write-text
 sub-write-text c =
-    omega (arith, c .before .before .parse-identifier .ensures, word-from (c .before .before .before .before .before .before .before .args .s .now) (c .before .before .before .before .before .before .before .args .c .place .offset))
+    omega (arith, c .before .before .long-word-end .ensures, word-from (c .before .before .before .before .before .before .before .args .s .now) (c .before .before .before .before .before .before .before .args .c .place .offset))
 
 write-text-requires : tie.Need-write-text-requires
 write-text-requires c κs =
@@ -25,7 +25,7 @@ write-text-requires c κs =
     let s = a .s .now in
     let d = desk (a .c) (a .store .now) (a .area .now) in
     let p = c .before .before .before .before .before .before .before .pre in
-    let q = ap (λ x. x - a .c .place .offset) (c .before .before .parse-identifier .ensures) in
+    let q = ap (λ x. x - a .c .place .offset) (c .before .before .long-word-end .ensures) in
     (p .0 .going, tag-token (a .full) s d (p .0) (p .1) _ q, unfold kindOf shapeOf in refl, tag-room (a .full) s d (p .0) (p .1) _ q)
 
 write-values-requires : tie.Need-write-values-requires
@@ -34,7 +34,7 @@ write-values-requires c κs =
     let s = a .s .now in
     let d = desk (a .c) (a .store .now) (a .area .now) in
     let p = c .before .before .before .before .before .before .before .before .before .before .before .before .before .before .pre in
-    let q = ap (λ x. x - a .c .place .offset) (c .before .before .before .before .before .before .before .before .before .parse-identifier .ensures) in
+    let q = ap (λ x. x - a .c .place .offset) (c .before .before .before .before .before .before .before .before .before .long-word-end .ensures) in
     (c .before .before .before .before .before .before .write-text .ensures .going, tag-value-room (a .full) s d (p .0) (p .1) _ q _ (c .before .before .before .before .before .before .write-text .ensures))
 
 same-length : tie.Need-same-length
@@ -43,7 +43,7 @@ same-length c =
     let s = a .s .now in
     let d = desk (a .c) (a .store .now) (a .area .now) in
     let p = c .before .before .before .before .before .before .before .before .before .before .before .before .before .before .before .before .before .before .before .pre in
-    let q = ap (λ x. x - a .c .place .offset) (c .before .before .before .before .before .before .before .before .before .before .before .before .before .before .parse-identifier .ensures) in
+    let q = ap (λ x. x - a .c .place .offset) (c .before .before .before .before .before .before .before .before .before .before .before .before .before .before .long-word-end .ensures) in
     tag-done (a .full) s d (p .0) (p .1) _ q _ (c .before .before .before .before .before .before .before .before .before .before .before .write-text .ensures) _ (c .before .before .before .before .write-values .ensures) .0 .store-length
 
 same-length-2 : tie.Need-same-length-2
@@ -52,7 +52,7 @@ same-length-2 c =
     let s = a .s .now in
     let d = desk (a .c) (a .store .now) (a .area .now) in
     let p = c .before .before .before .before .before .before .before .before .before .before .before .before .before .before .before .before .before .before .before .pre in
-    let q = ap (λ x. x - a .c .place .offset) (c .before .before .before .before .before .before .before .before .before .before .before .before .before .before .parse-identifier .ensures) in
+    let q = ap (λ x. x - a .c .place .offset) (c .before .before .before .before .before .before .before .before .before .before .before .before .before .before .long-word-end .ensures) in
     tag-done (a .full) s d (p .0) (p .1) _ q _ (c .before .before .before .before .before .before .before .before .before .before .before .write-text .ensures) _ (c .before .before .before .before .write-values .ensures) .0 .area-length
 
 returns : tie.Need-returns
@@ -61,14 +61,14 @@ returns c =
     let s = a .s .now in
     let d = desk (a .c) (a .store .now) (a .area .now) in
     let p = c .before .before .before .before .before .before .before .before .before .before .before .before .before .before .before .before .before .before .before .pre in
-    let q = ap (λ x. x - a .c .place .offset) (c .before .before .before .before .before .before .before .before .before .before .before .before .before .before .parse-identifier .ensures) in
+    let q = ap (λ x. x - a .c .place .offset) (c .before .before .before .before .before .before .before .before .before .before .before .before .before .before .long-word-end .ensures) in
     tag-done (a .full) s d (p .0) (p .1) _ q _ (c .before .before .before .before .before .before .before .before .before .before .before .write-text .ensures) _ (c .before .before .before .before .write-values .ensures) .1
 
 pub write-tag-item-spec : {M : Type 1} → statement M
 write-tag-item-spec =
     tie.close
     (tie.spec
-    parse-identifier-requires
+    long-word-end-requires
     sub-write-text
     write-text-requires
     write-values-requires
