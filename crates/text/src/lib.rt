@@ -2,10 +2,10 @@
 ghost use mathlib.Core.Path.{_≡_};
 ghost use Prim.Native.Nat.{_+_, _≤_, _<_, _^_};
 ghost use lib.ListN.{length};
-ghost use Rattle.text.specs.Bytes.{isAscii, isDigit, isEol, isSpace, endsWord};
-ghost use Rattle.text.specs.Runs.{span, runs};
+ghost use Rattle.text.specs.Bytes.{is, isAscii, isDigit, isEol, isSpace, endsWord};
+ghost use Rattle.text.specs.Runs.{span, spanEnd, runs};
 ghost use Rattle.text.specs.Lines.{inLine, lineEnd};
-ghost use Rattle.text.specs.Gaps.{gapEnd};
+ghost use Rattle.text.specs.Gaps.{gapEnd, showsNoGap};
 ghost use Rattle.text.specs.Places.{step as stepOf, along as alongOf, placeAt, IsPlace};
 
 // Where a byte stands in a text.
@@ -277,22 +277,39 @@ fn comments_end(s: &[u8], from: usize) -> usize
     at
 }
 
-// The end of the space and comments that start at an offset. Most often there is only space: the loop calls nothing.
-pub fn gap_end(s: &[u8], from: usize) -> usize
-    ensures { λ r. ⌜ r ≡ gapEnd (now (s .entry)) from ⌝ }
+// Where the run of space bytes at an offset ends.
+pub fn spaces_end(s: &[u8], from: usize) -> usize
+    ensures { λ r. ⌜ r ≡ spanEnd (is 32) (now (s .entry)) from ⌝ }
 {
     let mut at = from;
     while at < s.len() {
-        let b = s[at];
-        if b == 35 {
-            return comments_end(s, at);
-        }
-        if !is_space(b) {
+        if s[at] != 32 {
             return at;
         }
         at += 1;
     }
     at
+}
+
+// Whether one look shows that no space or comment starts at an offset; most bytes that start something else are above `#`.
+pub fn shows_no_gap(s: &[u8], at: usize) -> bool
+    ensures { λ r. ⌜ r ≡ showsNoGap (now (s .entry)) at ⌝ }
+{
+    if s.len() <= at {
+        return true;
+    }
+    35 < s[at]
+}
+
+// The end of the space and comments that start at an offset. Most often there are only space bytes: the loop calls nothing.
+pub fn gap_end(s: &[u8], from: usize) -> usize
+    ensures { λ r. ⌜ r ≡ gapEnd (now (s .entry)) from ⌝ }
+{
+    let at = spaces_end(s, from);
+    if shows_no_gap(s, at) {
+        return at;
+    }
+    comments_end(s, at)
 }
 
 // The place behind the space and comments at a place: where there is only space, end and place are found in one loop.
