@@ -126,7 +126,7 @@ whole-start s = refl
 
 -- over bytes that end no line
 
-step-plain : (c : Scan) (b : ℕ) → isEol b ≡ false → step c b ≡ record { line = c .line; column = c .column + 1; half = 0 }
+pub step-plain : (c : Scan) (b : ℕ) → isEol b ≡ false → step c b ≡ record { line = c .line; column = c .column + 1; half = 0 }
 unfolding step
 step-plain c b e = rw e
 

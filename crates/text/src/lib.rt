@@ -1,10 +1,10 @@
 // Bytes and places: classes of bytes, the place of an offset, and the step over space and comments.
 ghost use mathlib.Core.Path.{_≡_};
-ghost use Prim.Native.Nat.{_+_, _≤_, _<_, _^_};
+ghost use Prim.Native.Nat.{_+_, _-_, _≤_, _<_, _^_};
 ghost use lib.ListN.{length};
 ghost use Rattle.text.specs.Bytes.{is, isAscii, isDigit, isEol, isSpace, endsWord};
 ghost use Rattle.text.specs.Runs.{span, spanEnd, runs};
-ghost use Rattle.text.specs.Lines.{inLine, lineEnd};
+ghost use Rattle.text.specs.Lines.{inLine, lineEnd, feed as feedOf, feedsOr, lastStart};
 ghost use Rattle.text.specs.Gaps.{gapEnd, showsNoGap};
 ghost use Rattle.text.specs.Places.{step as stepOf, along as alongOf, placeAt, IsPlace};
 
@@ -210,7 +210,7 @@ fn along(c: Scan, count: usize) -> Scan
 }
 
 // The place of a later offset, from the place of an earlier one: line by line.
-pub fn advance(s: &[u8], p: Place, to: usize) -> Place
+fn advance_by_line(s: &[u8], p: Place, to: usize) -> Place
     requires { ⌜ IsPlace (now s) p × (p .offset ≤ to) × (to ≤ length (now s)) ⌝ }
     ensures { λ r. ⌜ r ≡ placeAt (now (s .entry)) to ⌝ }
 {
@@ -235,6 +235,102 @@ pub fn advance(s: &[u8], p: Place, to: usize) -> Place
         offset: to,
         line: c.line,
         column: c.column,
+    }
+}
+
+// 1 for LF, 0 for any other byte.
+fn feed(b: u8) -> u8
+    ensures { λ r. ⌜ r ≡ feedOf b ⌝ }
+{
+    if b == 10 {
+        return 1;
+    }
+    0
+}
+
+// How many of the 32 bytes at an offset are LF, or 255 where one is CR; every byte is looked at here too.
+fn feeds_in_block(s: &[u8], at: usize) -> u8
+    requires { ⌜ at + 32 ≤ length (now s) ⌝ }
+    ensures { λ r. ⌜ r ≡ feedsOr 255 32 (now (s .entry)) at ⌝ }
+{
+    let mut carriage = false;
+    let mut count: u8 = 0;
+    let mut i = 0;
+    while i < 32 {
+        let b = s[at + i];
+        carriage = carriage | (b == 13);
+        count += feed(b);
+        i += 1;
+    }
+    if carriage {
+        return 255;
+    }
+    count
+}
+
+// How many bytes of a part are LF, or one more than it has bytes where one is CR.
+fn line_feeds(s: &[u8], from: usize, to: usize) -> usize
+    requires { ⌜ (from ≤ to) × (to ≤ length (now s)) ⌝ }
+    ensures { λ r. ⌜ r ≡ feedsOr (to - from + 1) (to - from) (now (s .entry)) from ⌝ }
+{
+    let mut count: usize = 0;
+    let mut at = from;
+    while 32 <= to - at {
+        let feeds = feeds_in_block(s, at);
+        if feeds == 255 {
+            return to - from + 1;
+        }
+        count += feeds as usize;
+        at += 32;
+    }
+    while at < to {
+        let b = s[at];
+        if b == 13 {
+            return to - from + 1;
+        }
+        count += feed(b) as usize;
+        at += 1;
+    }
+    count
+}
+
+// Where a part's last line begins: behind its last LF, or where it starts itself.
+fn last_start(s: &[u8], from: usize, to: usize) -> usize
+    requires { ⌜ (from ≤ to) × (to ≤ length (now s)) ⌝ }
+    ensures { λ r. ⌜ r ≡ lastStart (to - from) (now (s .entry)) from ⌝ }
+{
+    let mut at = to;
+    while from < at {
+        if s[at - 1] == 10 {
+            return at;
+        }
+        at -= 1;
+    }
+    at
+}
+
+// The place of a later offset, from the place of an earlier one. Where no CR stands between, each LF is a line end by itself.
+pub fn advance(s: &[u8], p: Place, to: usize) -> Place
+    requires { ⌜ IsPlace (now s) p × (p .offset ≤ to) × (to ≤ length (now s)) ⌝ }
+    ensures { λ r. ⌜ r ≡ placeAt (now (s .entry)) to ⌝ }
+{
+    let from = p.offset;
+    let feeds = line_feeds(s, from, to);
+    if to - from < feeds {
+        return advance_by_line(s, p, to);
+    }
+    if feeds == 0 {
+        return Place {
+            offset: to,
+            line: p.line,
+            column: p.column + (to - from),
+        };
+    }
+    let start = last_start(s, from, to);
+    Place {
+        offset: to,
+        line: p.line + feeds,
+        column: to - start + 1,
     }
 }
 
