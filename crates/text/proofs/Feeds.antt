@@ -1,12 +1,12 @@
 -- Laws of line feeds: where no CR stands, lines are counted by their LF, and the last one begins behind the last of them. Assumes nothing.
 use Prim.Native.Nat.{ℕ, zero, suc, _+_, _-_, _≤_, _<_}
 use mathlib.Core.Path.{_≡_, refl, sym, ap, _∙_}
-use mathlib.Core.Bool.{Bool, true, false, cond, not, _&&_, _||_, and-false}
+use mathlib.Core.Bool.{Bool, true, false, cond, not, _&&_, and-false}
 use mathlib.Core.List.{List}
 use native.Mathlib.Numerals.{add-one}
 use native.Mathlib.Nat.{add-suc, add-zero}
 use native.Mathlib.Omega.{arith}
-use borrow.Author.Tests.{eqb-true, eq-eqb, ne-eqb, not-true}
+use borrow.Author.Tests.{ne-eqb}
 use lib.Dec.{eqb}
 use lib.ListN.{length, getD}
 use Rattle.text.specs.declared.Place.{Place}
@@ -14,7 +14,7 @@ use Rattle.text.specs.declared.Scan.{Scan}
 use Rattle.text.specs.Bytes.{isEol}
 use Rattle.text.specs.Runs.{runs}
 use Rattle.text.specs.Lines.{feed, feeds, noCarriage, feedsOr, lastStart}
-use Rattle.text.specs.Places.{over, step, scanAt, placeAt, closes, Whole, IsPlace}
+use Rattle.text.specs.Places.{step, scanAt, placeAt, closes, Whole, IsPlace}
 use Rattle.text.proofs.Bools.{and-l, and-r}
 use Rattle.text.proofs.Runs.{runs-none, runs-more, runs-join, runs-less, runs-stop}
 use Rattle.text.proofs.Places.{scanAt-suc, step-plain}

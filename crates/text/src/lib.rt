@@ -255,12 +255,12 @@ fn feeds_in_block(s: &[u8], at: usize) -> u8
 {
     let mut carriage = false;
     let mut count: u8 = 0;
-    let mut i = 0;
-    while i < 32 {
-        let b = s[at + i];
+    let mut seen = 0;
+    while seen < 32 {
+        let b = s[at + seen];
         carriage = carriage | (b == 13);
         count += feed(b);
-        i += 1;
+        seen += 1;
     }
     if carriage {
         return 255;

@@ -1,11 +1,6 @@
 -- `text::advance`: by the count of LF where no CR stands. Assumes nothing.
-use Prim.Native.Nat.{_+_, _-_, _≤_, _<_}
-use mathlib.Core.Path.{_≡_, ap, _∙_}
+use Prim.Native.Nat.{_+_, _-_}
 use native.Mathlib.Omega.{arith}
-use lib.ListN.{length}
-use Rattle.text.specs.declared.Place.{Place}
-use Rattle.text.specs.Lines.{lastStart}
-use Rattle.text.specs.Places.{placeAt}
 use Rattle.text.proofs.Places.{place-line, place-column}
 use Rattle.text.proofs.Feeds.{Free, feeds-told, last-within, place-same, place-later}
 use Rattle.text.proofs.advance.Statement.{statement}

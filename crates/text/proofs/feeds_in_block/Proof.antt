@@ -1,12 +1,11 @@
--- `text::feeds_in_block`: whether a CR was met among the first i, and how many of them are LF. Assumes nothing.
+-- `text::feeds_in_block`: whether a CR was met among the bytes seen, and how many of them are LF. Assumes nothing.
 use Prim.Native.Nat.{_+_, _-_, _≤_}
 use mathlib.Core.Path.{_≡_, sym, _∙_}
-use mathlib.Core.Bool.{true, false, not, _||_}
+use mathlib.Core.Bool.{true, false, not}
 use native.Mathlib.Omega.{arith}
 use borrow.Author.Tests.{not-true, not-false}
-use lib.Dec.{eqb}
 use lib.ListN.{length, getD}
-use Rattle.text.specs.Lines.{feeds, noCarriage, feedsOr}
+use Rattle.text.specs.Lines.{feeds, noCarriage}
 use Rattle.text.specs.Runs.{runs}
 use Rattle.text.proofs.Runs.{runs-none, runs-met}
 use Rattle.text.proofs.Feeds.{feed-le, feeds-le, feeds-none, feeds-count, feeds-or, feeds-other, carriage-byte}
@@ -14,10 +13,10 @@ use Rattle.text.proofs.feeds_in_block.Statement.{statement}
 use Rattle.text.proofs.feeds_in_block.Tie as tie
 
 abbrev Inv-loop : tie.InvT-loop
-Inv-loop s at carriage₀ count₀ i₀ carriage count i = (at + 32 ≤ length s) × (i ≤ 32) × (carriage ≡ not (runs noCarriage i s at)) × (count ≡ feeds i s at)
+Inv-loop s at carriage₀ count₀ seen₀ carriage count seen = (at + 32 ≤ length s) × (seen ≤ 32) × (carriage ≡ not (runs noCarriage seen s at)) × (count ≡ feeds seen s at)
 
 abbrev μ-loop : tie.MeasureT-loop
-μ-loop s at carriage₀ count₀ i₀ carriage count i = 32 - i
+μ-loop s at carriage₀ count₀ seen₀ carriage count seen = 32 - seen
 
 loop-holds : tie.Need-loop-holds Inv-loop μ-loop
 loop-holds c = (c .before .pre, omega arith, rw (runs-none noCarriage _ _), sym (feeds-none _ _))
@@ -35,10 +34,10 @@ add-count : tie.Need-add-count Inv-loop μ-loop
 add-count c =
     let l = c .before .before .before .loop in
     let a = c .before .before .before .before .before .args in
-    omega (arith, l .inv .3, feeds-le (l .i) (a .s .now) (a .at), c .feed .ensures, feed-le (getD (a .s .now) (a .at + l .i) 0))
+    omega (arith, l .inv .3, feeds-le (l .seen) (a .s .now) (a .at), c .feed .ensures, feed-le (getD (a .s .now) (a .at + l .seen) 0))
 
-add-i : tie.Need-add-i Inv-loop μ-loop
-add-i c = omega arith
+add-seen : tie.Need-add-seen Inv-loop μ-loop
+add-seen c = omega arith
 
 loop-less : tie.Need-loop-less Inv-loop μ-loop
 loop-less c = omega arith
@@ -49,15 +48,15 @@ loop-again c =
     let a = c .before .before .before .before .before .args in (
       l .inv .0,
       omega arith,
-      rw (l .inv .2) (runs-met noCarriage (a .s .now) (a .at) (l .i) _ (omega arith) (carriage-byte _)),
-      feeds-count (l .i) (a .s .now) (a .at) _ _ (l .inv .3) (c .feed .ensures),
+      rw (l .inv .2) (runs-met noCarriage (a .s .now) (a .at) (l .seen) _ (omega arith) (carriage-byte _)),
+      feeds-count (l .seen) (a .s .now) (a .at) _ _ (l .inv .3) (c .feed .ensures),
     )
 
 returns : tie.Need-returns Inv-loop μ-loop
 returns c =
     let l = c .before .before .loop in
     let a = c .before .before .before .before .args in
-    let all : l .i ≡ 32 = omega arith in
+    let all : l .seen ≡ 32 = omega arith in
     let met : runs noCarriage 32 (a .s .now) (a .at) ≡ false = not-true _ (sym (rw all at (l .inv .2)) ∙ c .if1 .taken) in
     feeds-other 255 32 _ _ met
 
@@ -65,7 +64,7 @@ returns-2 : tie.Need-returns-2 Inv-loop μ-loop
 returns-2 c =
     let l = c .before .before .loop in
     let a = c .before .before .before .before .args in
-    let all : l .i ≡ 32 = omega arith in
+    let all : l .seen ≡ 32 = omega arith in
     let none : runs noCarriage 32 (a .s .now) (a .at) ≡ true = not-false _ (sym (rw all at (l .inv .2)) ∙ c .if1 .left) in
     rw all at (l .inv .3) ∙ feeds-or 255 32 _ _ none
 
@@ -80,7 +79,7 @@ feeds-in-block-spec =
     shared-slice-read-b
     feed-requires
     add-count
-    add-i
+    add-seen
     loop-less
     loop-again
     returns

@@ -1,5 +1,5 @@
 -- `text::gap_end`: over the space bytes, and no further where one look shows the end. Assumes nothing.
-use mathlib.Core.Path.{_≡_, sym, ap, _∙_}
+use mathlib.Core.Path.{sym, ap, _∙_}
 use Rattle.text.specs.Gaps.{gapEnd}
 use Rattle.text.proofs.Gaps.{gap-spaces, gap-shown}
 use Rattle.text.proofs.gap_end.Statement.{statement}
