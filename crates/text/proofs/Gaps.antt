@@ -6,12 +6,12 @@ use mathlib.Core.List.{List, [], _∷_}
 use native.Mathlib.Numerals.{add-one}
 use native.Mathlib.Nat.{add-suc, add-zero, suc-add, zero-add}
 use native.Mathlib.Omega.{arith}
-use borrow.Author.Tests.{eqb-true, ne-eqb}
-use lib.Dec.{eqb}
+use borrow.Author.Tests.{eqb-true, ne-eqb, leb-true, leb-false, ltb-true}
+use lib.Dec.{leb, ltb, eqb}
 use lib.ListN.{length, drop, getD, length-drop, drop-of-length-le}
 use lib.Seq.{drop-cons, drop-drop, getD-drop}
 use Rattle.text.specs.Bytes.{is, isEol, isSpace}
-use Rattle.text.specs.Gaps.{gapByte, gapThen, gapIn, gap, gapEnd}
+use Rattle.text.specs.Gaps.{gapByte, gapThen, gapIn, gap, gapEnd, showsNoGap}
 use Rattle.text.specs.Runs.{span, spanEnd}
 use Rattle.text.specs.Lines.{inLine, lineEnd}
 use Rattle.text.proofs.Bools.{or-l, or-r, or-cases}
@@ -172,3 +172,38 @@ module _ (s : List ℕ) (o : ℕ) (h : o < length s) (q : getD s o 0 ≡ 35) whe
   -- a comment has a byte
   pub comment-goes : o < lineEnd s o
   comment-goes = omega (arith, line-go s o h (hash-plain (getD s o 0) q), line-from s (o + 1))
+
+-- over the run of space bytes that it starts with
+space-byte : (b : ℕ) → is 32 b ≡ true → isSpace b ≡ true
+unfolding is isSpace
+space-byte b e = rw e
+
+space-run : (s : List ℕ) → gapIn false s ≡ span (is 32) s + gapIn false (drop (span (is 32) s) s)
+unfolding gapIn gapThen span
+space-run [] = refl
+space-run (b ∷ s) = by (is 32 b) refl (space-run s)
+  where
+    by : (t : Bool) → is 32 b ≡ t → gapIn false s ≡ span (is 32) s + gapIn false (drop (span (is 32) s) s) →
+        cond (gapByte false b) (suc (gapIn (gapThen false b) s)) 0 ≡ cond t (suc (span (is 32) s)) 0 + gapIn false (drop (cond t (suc (span (is 32) s)) 0) (b ∷ s))
+    by true e h = rw (space-gap b (space-byte b e), space-plain b (space-byte b e)) (omega (arith, h))
+    by false e h = sym (zero-add _)
+
+pub gap-spaces : (s : List ℕ) (o : ℕ) → gapEnd s (spanEnd (is 32) s o) ≡ gapEnd s o
+unfolding gapEnd gap spanEnd
+gap-spaces s o = rw (← drop-drop (span (is 32) (drop o s)) o s) (omega (arith, space-run (drop o s)))
+
+-- one look may show that there is none
+above-hash : (b : ℕ) → 35 < b → isSpace b ≡ false
+unfolding isSpace
+above-hash b h = rw (ne-eqb b 32 (omega arith), ne-eqb b 9 (omega arith), ne-eqb b 10 (omega arith), ne-eqb b 13 (omega arith))
+
+pub gap-shown : (s : List ℕ) (o : ℕ) → showsNoGap s o ≡ true → gapEnd s o ≡ o
+unfolding showsNoGap
+gap-shown s o e = by (leb (length s) o) refl e
+  where
+    by : (t : Bool) → leb (length s) o ≡ t → (t || ltb 35 (getD s o 0)) ≡ true → gapEnd s o ≡ o
+    by true q e = gap-past s o (leb-true (length s) o q)
+    by false q e =
+        let h : o < length s = leb-false (length s) o q in
+        let above : 35 < getD s o 0 = ltb-true 35 (getD s o 0) e in
+        gap-other s o h (above-hash (getD s o 0) above) (omega arith)

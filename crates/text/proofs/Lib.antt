@@ -4,4 +4,5 @@ pub mod Runs
 pub mod Lines
 pub mod Gaps
 pub mod Places
+pub mod Feeds
 pub mod Shape

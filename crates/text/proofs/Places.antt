@@ -6,16 +6,19 @@ use mathlib.Core.List.{List, [], _∷_, _++_}
 use native.Mathlib.Numerals.{add-one}
 use native.Mathlib.Nat.{add-suc, add-zero, suc-add}
 use native.Mathlib.Omega.{arith}
+use borrow.Author.Tests.{eqb-true}
 use lib.Dec.{eqb}
 use lib.ListN.{length, take, drop, getD, length-take}
 use lib.Seq.{take-suc, take-all, getD-drop, getD-take, length-take-le}
 use Rattle.text.specs.declared.Place.{Place}
 use Rattle.text.specs.declared.Scan.{Scan}
-use Rattle.text.specs.Bytes.{isEol}
+use Rattle.text.specs.Bytes.{is, isEol}
 use Rattle.text.specs.Gaps.{gapEnd}
 use Rattle.text.specs.Lines.{lineEnd}
+use Rattle.text.specs.Runs.{spanEnd}
 use Rattle.text.specs.Places.{start, over, step, scan, scanAt, placeAt, closes, along as alongOf, Whole, IsPlace}
 use Rattle.text.proofs.Bools.{or-l, or-r}
+use Rattle.text.proofs.Runs.{span-from, span-within, span-all}
 use Rattle.text.proofs.Lines.{line-go, line-from, line-within, line-plain}
 use Rattle.text.proofs.Gaps.{gap-stops, gap-within}
 
@@ -126,7 +129,7 @@ whole-start s = refl
 
 -- over bytes that end no line
 
-step-plain : (c : Scan) (b : ℕ) → isEol b ≡ false → step c b ≡ record { line = c .line; column = c .column + 1; half = 0 }
+pub step-plain : (c : Scan) (b : ℕ) → isEol b ≡ false → step c b ≡ record { line = c .line; column = c .column + 1; half = 0 }
 unfolding step
 step-plain c b e = rw e
 
@@ -251,6 +254,18 @@ is-along s p q e i h l w f =
       whole = rw o (whole-along s (p .offset) e (i .whole) l w f);
       within = rw o w;
     }
+
+-- over space bytes
+space-plain : (b : ℕ) → is 32 b ≡ true → isEol b ≡ false
+unfolding is isEol
+space-plain b e = rw (eqb-true b 32 e)
+
+pub is-spaces-end : (s : List ℕ) (p : Place) (e : ℕ) → IsPlace s p → e ≡ spanEnd (is 32) s (p .offset) → IsPlace s (record { offset = e; line = p .line; column = p .column + (e - p .offset) })
+is-spaces-end s p e i h =
+    let l : p .offset ≤ e = rw h (span-from (is 32) s (p .offset)) in
+    let w : e ≤ length s = rw h (span-within (is 32) s (p .offset) (i .within)) in
+    let f : (k : ℕ) → p .offset ≤ k → k < e → isEol (getD s k 0) ≡ false = λ k u v. space-plain (getD s k 0) (span-all (is 32) s (p .offset) k u (rw h at v)) in
+    is-along s p _ e i (place-along s p e (i .at) l w f) l w f
 
 -- behind a byte that ends no line
 pub whole-after : (s : List ℕ) (o : ℕ) → o < length s → isEol (getD s o 0) ≡ false → Whole s (o + 1)

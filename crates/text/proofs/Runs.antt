@@ -6,7 +6,7 @@ use mathlib.Core.List.{List, [], _∷_}
 use native.Mathlib.Numerals.{add-one}
 use native.Mathlib.Nat.{add-suc, add-zero, suc-add, zero-add}
 use native.Mathlib.Omega.{arith}
-use borrow.Author.Tests.{lt-leb, leb-true}
+use borrow.Author.Tests.{lt-leb, le-leb, leb-true, leb-false}
 use lib.Dec.{leb, leb·zero, leb·suc-zero, leb·suc-suc}
 use lib.ListN.{length, drop, getD, length-drop, drop-of-length-le, List·getD-eq-default}
 use lib.Seq.{drop-cons, drop-drop, getD-drop}
@@ -127,3 +127,25 @@ span-drop p (suc n) (b ∷ s) h = by (p b) h (span-drop p n s)
 pub span-block : (p : ℕ → Bool) (s : List ℕ) (o n : ℕ) → runs p n s o ≡ true → spanEnd p s o ≡ spanEnd p s (o + n)
 unfolding runs spanEnd
 span-block p s o n e = rw (← drop-drop n o s) (omega (arith, span-drop p n (drop o s) (leb-true n (span p (drop o s)) e)))
+
+-- of two blocks side by side
+leb-add : (n m x : ℕ) → leb (n + m) (n + x) ≡ leb m x
+leb-add n m x = by (leb m x) refl
+  where
+    by : (t : Bool) → leb m x ≡ t → leb (n + m) (n + x) ≡ t
+    by true e = let h : m ≤ x = leb-true m x e in le-leb (n + m) (n + x) (omega arith)
+    by false e = let h : x < m = leb-false m x e in lt-leb (n + m) (n + x) (omega arith)
+
+module _ (p : ℕ → Bool) (s : List ℕ) (o : ℕ) where
+  pub runs-join : (n m : ℕ) → runs p n s o ≡ true → runs p (n + m) s o ≡ runs p m s (o + n)
+  unfolding runs
+  runs-join n m e = rw (span-drop p n (drop o s) (leb-true n (span p (drop o s)) e), drop-drop n o s) (leb-add n m (span p (drop (o + n) s)))
+
+  -- a block that is broken off is no part of a longer one
+  pub runs-less : (n m : ℕ) → n ≤ m → runs p n s o ≡ false → runs p m s o ≡ false
+  unfolding runs
+  runs-less n m h e = lt-leb m (span p (drop o s)) (omega (arith, leb-false n (span p (drop o s)) e))
+
+  pub runs-stop : o < length s → p (getD s o 0) ≡ false → runs p 1 s o ≡ false
+  unfolding runs span
+  runs-stop h g = rw (drop-cons s o 0, g)

@@ -2,7 +2,8 @@
 use Prim.Native.Nat.{ℕ, suc, _+_}
 use mathlib.Core.Bool.{Bool, true, false, not, cond, _||_}
 use mathlib.Core.List.{List, [], _∷_}
-use lib.ListN.{drop}
+use lib.Dec.{leb, ltb}
+use lib.ListN.{length, drop, getD}
 use Rattle.text.specs.Bytes.{is, isEol, isSpace}
 
 -- is the byte skipped; the flag says that it stands in a comment
@@ -27,3 +28,7 @@ gap s = gapIn false s
 -- where the space and comments that start at offset o end
 unfoldable pub gapEnd : List ℕ → ℕ → ℕ
 gapEnd s o = o + gap (drop o s)
+
+-- one look shows that none starts at offset o: the text's end, or a byte above `#`
+unfoldable pub showsNoGap : List ℕ → ℕ → Bool
+showsNoGap s o = leb (length s) o || ltb 35 (getD s o 0)

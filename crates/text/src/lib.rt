@@ -1,11 +1,11 @@
 // Bytes and places: classes of bytes, the place of an offset, and the step over space and comments.
 ghost use mathlib.Core.Path.{_≡_};
-ghost use Prim.Native.Nat.{_+_, _≤_, _<_, _^_};
+ghost use Prim.Native.Nat.{_+_, _-_, _≤_, _<_, _^_};
 ghost use lib.ListN.{length};
-ghost use Rattle.text.specs.Bytes.{isAscii, isDigit, isEol, isSpace, endsWord};
-ghost use Rattle.text.specs.Runs.{span, runs};
-ghost use Rattle.text.specs.Lines.{inLine, lineEnd};
-ghost use Rattle.text.specs.Gaps.{gapEnd};
+ghost use Rattle.text.specs.Bytes.{is, isAscii, isDigit, isEol, isSpace, endsWord};
+ghost use Rattle.text.specs.Runs.{span, spanEnd, runs};
+ghost use Rattle.text.specs.Lines.{inLine, lineEnd, feed as feedOf, feedsOr, lastStart};
+ghost use Rattle.text.specs.Gaps.{gapEnd, showsNoGap};
 ghost use Rattle.text.specs.Places.{step as stepOf, along as alongOf, placeAt, IsPlace};
 
 // Where a byte stands in a text.
@@ -210,7 +210,7 @@ fn along(c: Scan, count: usize) -> Scan
 }
 
 // The place of a later offset, from the place of an earlier one: line by line.
-pub fn advance(s: &[u8], p: Place, to: usize) -> Place
+fn advance_by_line(s: &[u8], p: Place, to: usize) -> Place
     requires { ⌜ IsPlace (now s) p × (p .offset ≤ to) × (to ≤ length (now s)) ⌝ }
     ensures { λ r. ⌜ r ≡ placeAt (now (s .entry)) to ⌝ }
 {
@@ -235,6 +235,102 @@ pub fn advance(s: &[u8], p: Place, to: usize) -> Place
         offset: to,
         line: c.line,
         column: c.column,
+    }
+}
+
+// 1 for LF, 0 for any other byte.
+fn feed(b: u8) -> u8
+    ensures { λ r. ⌜ r ≡ feedOf b ⌝ }
+{
+    if b == 10 {
+        return 1;
+    }
+    0
+}
+
+// How many of the 32 bytes at an offset are LF, or 255 where one is CR; every byte is looked at here too.
+fn feeds_in_block(s: &[u8], at: usize) -> u8
+    requires { ⌜ at + 32 ≤ length (now s) ⌝ }
+    ensures { λ r. ⌜ r ≡ feedsOr 255 32 (now (s .entry)) at ⌝ }
+{
+    let mut carriage = false;
+    let mut count: u8 = 0;
+    let mut seen = 0;
+    while seen < 32 {
+        let b = s[at + seen];
+        carriage = carriage | (b == 13);
+        count += feed(b);
+        seen += 1;
+    }
+    if carriage {
+        return 255;
+    }
+    count
+}
+
+// How many bytes of a part are LF, or one more than it has bytes where one is CR.
+fn line_feeds(s: &[u8], from: usize, to: usize) -> usize
+    requires { ⌜ (from ≤ to) × (to ≤ length (now s)) ⌝ }
+    ensures { λ r. ⌜ r ≡ feedsOr (to - from + 1) (to - from) (now (s .entry)) from ⌝ }
+{
+    let mut count: usize = 0;
+    let mut at = from;
+    while 32 <= to - at {
+        let feeds = feeds_in_block(s, at);
+        if feeds == 255 {
+            return to - from + 1;
+        }
+        count += feeds as usize;
+        at += 32;
+    }
+    while at < to {
+        let b = s[at];
+        if b == 13 {
+            return to - from + 1;
+        }
+        count += feed(b) as usize;
+        at += 1;
+    }
+    count
+}
+
+// Where a part's last line begins: behind its last LF, or where it starts itself.
+fn last_start(s: &[u8], from: usize, to: usize) -> usize
+    requires { ⌜ (from ≤ to) × (to ≤ length (now s)) ⌝ }
+    ensures { λ r. ⌜ r ≡ lastStart (to - from) (now (s .entry)) from ⌝ }
+{
+    let mut at = to;
+    while from < at {
+        if s[at - 1] == 10 {
+            return at;
+        }
+        at -= 1;
+    }
+    at
+}
+
+// The place of a later offset, from the place of an earlier one. Where no CR stands between, each LF is a line end by itself.
+pub fn advance(s: &[u8], p: Place, to: usize) -> Place
+    requires { ⌜ IsPlace (now s) p × (p .offset ≤ to) × (to ≤ length (now s)) ⌝ }
+    ensures { λ r. ⌜ r ≡ placeAt (now (s .entry)) to ⌝ }
+{
+    let from = p.offset;
+    let feeds = line_feeds(s, from, to);
+    if to - from < feeds {
+        return advance_by_line(s, p, to);
+    }
+    if feeds == 0 {
+        return Place {
+            offset: to,
+            line: p.line,
+            column: p.column + (to - from),
+        };
+    }
+    let start = last_start(s, from, to);
+    Place {
+        offset: to,
+        line: p.line + feeds,
+        column: to - start + 1,
     }
 }
 
@@ -277,22 +373,39 @@ fn comments_end(s: &[u8], from: usize) -> usize
     at
 }
 
-// The end of the space and comments that start at an offset. Most often there is only space: the loop calls nothing.
-pub fn gap_end(s: &[u8], from: usize) -> usize
-    ensures { λ r. ⌜ r ≡ gapEnd (now (s .entry)) from ⌝ }
+// Where the run of space bytes at an offset ends.
+pub fn spaces_end(s: &[u8], from: usize) -> usize
+    ensures { λ r. ⌜ r ≡ spanEnd (is 32) (now (s .entry)) from ⌝ }
 {
     let mut at = from;
     while at < s.len() {
-        let b = s[at];
-        if b == 35 {
-            return comments_end(s, at);
-        }
-        if !is_space(b) {
+        if s[at] != 32 {
             return at;
         }
         at += 1;
     }
     at
+}
+
+// Whether one look shows that no space or comment starts at an offset; most bytes that start something else are above `#`.
+pub fn shows_no_gap(s: &[u8], at: usize) -> bool
+    ensures { λ r. ⌜ r ≡ showsNoGap (now (s .entry)) at ⌝ }
+{
+    if s.len() <= at {
+        return true;
+    }
+    35 < s[at]
+}
+
+// The end of the space and comments that start at an offset. Most often there are only space bytes: the loop calls nothing.
+pub fn gap_end(s: &[u8], from: usize) -> usize
+    ensures { λ r. ⌜ r ≡ gapEnd (now (s .entry)) from ⌝ }
+{
+    let at = spaces_end(s, from);
+    if shows_no_gap(s, at) {
+        return at;
+    }
+    comments_end(s, at)
 }
 
 // The place behind the space and comments at a place: where there is only space, end and place are found in one loop.

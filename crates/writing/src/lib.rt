@@ -260,6 +260,23 @@ fn trim_from(s: &[u8], offset: usize, line: usize, column: usize) -> Place
     place
 }
 
+// The same; most often only space bytes stand there, and nothing is lent.
+fn trim_spaces_first(s: &[u8], offset: usize, line: usize, column: usize) -> Place
+    requires { ⌜ IsPlace (now s) (placed offset line column) ⌝ }
+    ensures { λ r. ⌜ r ≡ placeAt (now (s .entry)) (gapEnd (now (s .entry)) offset) ⌝ }
+{
+    let at = text::spaces_end(s, offset);
+    let here = column + (at - offset);
+    if text::shows_no_gap(s, at) {
+        return Place {
+            offset: at,
+            line,
+            column: here,
+        };
+    }
+    trim_from(s, at, line, here)
+}
+
 // The cursor behind space and comments.
 fn trimmed(s: &[u8], c: Cursor) -> Cursor
     requires { ⌜ IsPlace (now s) (c .place) ⌝ }
@@ -269,7 +286,7 @@ fn trimmed(s: &[u8], c: Cursor) -> Cursor
     let at = c.at;
     let area = c.area;
     Cursor {
-        place: trim_from(s, place.offset, place.line, place.column),
+        place: trim_spaces_first(s, place.offset, place.line, place.column),
         at,
         area,
     }

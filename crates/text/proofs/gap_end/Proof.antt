@@ -1,64 +1,24 @@
--- `text::gap_end`: over spaces byte by byte, to the first comment. Assumes nothing.
-use Prim.Native.Nat.{_-_}
-use mathlib.Core.Path.{_≡_, refl, sym, _∙_}
-use native.Mathlib.Omega.{arith}
-use borrow.Author.Tests.{not-true, not-false}
-use lib.ListN.{length}
+-- `text::gap_end`: over the space bytes, and no further where one look shows the end. Assumes nothing.
+use mathlib.Core.Path.{sym, ap, _∙_}
 use Rattle.text.specs.Gaps.{gapEnd}
-use Rattle.text.proofs.Gaps.{gap-space, gap-other, gap-past}
+use Rattle.text.proofs.Gaps.{gap-spaces, gap-shown}
 use Rattle.text.proofs.gap_end.Statement.{statement}
 use Rattle.text.proofs.gap_end.Tie as tie
 
--- the end from the start on is the end from here on
-abbrev Inv-loop : tie.InvT-loop
-Inv-loop s from at₀ at = gapEnd s from ≡ gapEnd s at
+spaces-end-requires : tie.Need-spaces-end-requires
+spaces-end-requires c κs = tt
 
-abbrev μ-loop : tie.MeasureT-loop
-μ-loop s from at₀ at = length s - at
+shows-no-gap-requires : tie.Need-shows-no-gap-requires
+shows-no-gap-requires c κs = tt
 
-loop-holds : tie.Need-loop-holds Inv-loop μ-loop
-loop-holds c = refl
+returns : tie.Need-returns
+returns c = sym (gap-shown _ _ (sym (c .before .shows-no-gap .ensures) ∙ c .if1 .taken)) ∙ ap (gapEnd _) (c .before .before .spaces-end .ensures) ∙ gap-spaces _ _
 
-shared-slice-read-b : tie.Need-shared-slice-read-b Inv-loop μ-loop
-shared-slice-read-b c = omega arith
-
-comments-end-requires : tie.Need-comments-end-requires Inv-loop μ-loop
+comments-end-requires : tie.Need-comments-end-requires
 comments-end-requires c κs = tt
 
-returns : tie.Need-returns Inv-loop μ-loop
-returns c = c .comments-end .ensures ∙ sym (c .before .before .before .before .loop .inv)
-
-is-space-requires : tie.Need-is-space-requires Inv-loop μ-loop
-is-space-requires c κs = tt
-
-returns-2 : tie.Need-returns-2 Inv-loop μ-loop
-returns-2 c = sym (c .before .before .before .before .before .loop .inv ∙ gap-other _ _ (c .before .before .before .before .loop-test .taken) (sym (c .before .is-space .ensures) ∙ not-true _ (c .if2 .taken)) (c .before .before .if1 .left))
-
-add-at : tie.Need-add-at Inv-loop μ-loop
-add-at c = omega arith
-
-loop-less : tie.Need-loop-less Inv-loop μ-loop
-loop-less c = omega arith
-
-loop-again : tie.Need-loop-again Inv-loop μ-loop
-loop-again c = c .before .before .before .before .before .loop .inv ∙ gap-space _ _ (c .before .before .before .before .loop-test .taken) (sym (c .before .is-space .ensures) ∙ not-false _ (c .if2 .left))
-
-returns-3 : tie.Need-returns-3 Inv-loop μ-loop
-returns-3 c = sym (c .before .loop .inv ∙ gap-past _ _ (c .loop-test .left))
+returns-2 : tie.Need-returns-2
+returns-2 c = c .comments-end .ensures ∙ ap (gapEnd _) (c .before .before .before .spaces-end .ensures) ∙ gap-spaces _ _
 
 pub gap-end-spec : {M : Type 1} → statement M
-gap-end-spec =
-    tie.close
-    (tie.spec
-    Inv-loop
-    μ-loop
-    loop-holds
-    shared-slice-read-b
-    comments-end-requires
-    returns
-    is-space-requires
-    returns-2
-    add-at
-    loop-less
-    loop-again
-    returns-3)
+gap-end-spec = tie.close (tie.spec spaces-end-requires shows-no-gap-requires returns comments-end-requires returns-2)

@@ -5,17 +5,17 @@ use Rattle.writing.specs.Walk.{behindGap}
 use Rattle.writing.specs.Writing.{placed}
 use Rattle.writing.proofs.trimmed.Statement.{statement}
 use Rattle.writing.proofs.trimmed.Tie as tie
-use Rattle.writing.proofs.trim_from.Reads as trim-from-reads
+use Rattle.writing.proofs.trim_spaces_first.Reads as trim-spaces-first-reads
 
-trim-from-requires : tie.Need-trim-from-requires
+trim-spaces-first-requires : tie.Need-trim-spaces-first-requires
 unfolding placed
-trim-from-requires c κs = search needs
+trim-spaces-first-requires c κs = search needs
 
 returns : tie.Need-returns
 unfolding behindGap
 returns c =
     let a = c .before .before .before .args in
-    ap (λ (p : Place). record { place = p; at = a .c .at; area = a .c .area }) (c .trim-from .ensures)
+    ap (λ (p : Place). record { place = p; at = a .c .at; area = a .c .area }) (c .trim-spaces-first .ensures)
 
 pub trimmed-spec : {M : Type 1} → statement M
-trimmed-spec = tie.close (tie.spec trim-from-requires returns)
+trimmed-spec = tie.close (tie.spec trim-spaces-first-requires returns)
