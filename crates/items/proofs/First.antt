@@ -28,10 +28,10 @@ use Rattle.numbers.proofs.Made.{all, others}
 use Rattle.numbers.proofs.Plain.{Plain, plain, plain-bytes}
 use Rattle.values.specs.declared.Value.{Value}
 use Rattle.values.specs.declared.Value.the-variants.{Token, Number, Over, Missing}
-use Rattle.values.specs.declared.Why.the-variants.{AtEnd}
+use Rattle.values.specs.declared.Why.the-variants.{AtEnd, Reserved, NoStart}
 use Rattle.values.specs.Answers.{valueAt}
-use Rattle.values.specs.Pieces.{judgedOr, numberAt, wordAt}
-use Rattle.values.proofs.Pieces.{value-end, value-unknown, value-word}
+use Rattle.values.specs.Pieces.{judgedOr, numberAt, wordAt, pointAt}
+use Rattle.values.proofs.Pieces.{value-end, value-reserved, value-unknown, value-point, value-word, value-none}
 use Rattle.values.proofs.Laws.{Lies, token-lies, number-lies}
 use Rattle.items.specs.declared.Found.the-variants.{Value as FoundValue, Missing as FoundMissing}
 use Rattle.items.specs.Answers.{kindOfNumber, foundOf, foundAt}
@@ -84,6 +84,16 @@ first-byte zero l e = refl
 first-byte (suc n) [] e = refl
 first-byte (suc n) (b ∷ l) e = e
 
+-- a word that starts as no number does is a bare value
+word-found : (s : List ℕ) (o : ℕ) → o < length s → reserved (drop o s) ≡ false → wordFirst (getD s o 0) ≡ true → startsNumber (getD s o 0) ≡ false → FoundValue 10 (wordEnd s o - o) ≡ foundAt s o
+unfolding wordAt numberAt judgedOr
+word-found s o h r w f = rw (word-first s o h r w, bare-text (wordEnd s o - o))
+  where
+    bare-text : (n : ℕ) → numberOf (take n (drop o s)) ≡ Not
+    bare-text n =
+        let k : o + 0 ≡ o = omega arith in
+        not-number _ (no-number-by-first-byte (take n (drop o s)) (first-byte n (drop o s) (rw (getD-drop o s 0 0, k) f)))
+
 module _ (s : List ℕ) (o : ℕ) (h : o < length s) (e : startsBare (getD s o 0) ≡ true) where
   bare-free : reserved (drop o s) ≡ false
   unfolding allBelow lower startsBare isLetter startsReserved is
@@ -96,20 +106,49 @@ module _ (s : List ℕ) (o : ℕ) (h : o < length s) (e : startsBare (getD s o 0
       (no 108 (bare-is (λ x. not (eqb (lower x) 108)) refl b e))
       (no 115 (bare-is (λ x. not (eqb (lower x) 115)) refl b e))
 
-  bare-word : valueAt s o ≡ wordAt s o
-  unfolding allBelow wordFirst isOrdinary startsBare isLetter startsReserved is
-  bare-word = word-first s o h bare-free (bare-is wordFirst refl (getD s o 0) e)
-
-  bare-text : (n : ℕ) → numberOf (take n (drop o s)) ≡ Not
-  unfolding allBelow startsNumber isDigit startsBare isLetter startsReserved is
-  bare-text n =
-      let k : o + 0 ≡ o = omega arith in
-      let f : startsNumber (getD s o 0) ≡ false = not-true (startsNumber (getD s o 0)) (bare-is (λ x. not (startsNumber x)) refl (getD s o 0) e) in
-      not-number _ (no-number-by-first-byte (take n (drop o s)) (first-byte n (drop o s) (rw (getD-drop o s 0 0, k) f)))
-
   pub bare-found : FoundValue 10 (wordEnd s o - o) ≡ foundAt s o
-  unfolding wordAt numberAt judgedOr
-  bare-found = rw (bare-word, bare-text (wordEnd s o - o))
+  unfolding allBelow wordFirst isOrdinary startsNumber isDigit startsBare isLetter startsReserved is
+  bare-found =
+      let b = getD s o 0 in
+      word-found s o h bare-free (bare-is wordFirst refl b e) (not-true (startsNumber b) (bare-is (λ x. not (startsNumber x)) refl b e))
+
+-- a test that passes for each letter that a reserved word may start with
+one-or : (f : ℕ → Bool) (b c : ℕ) (r : Bool) → f c ≡ true → (r ≡ true → f b ≡ true) → (is c b || r) ≡ true → f b ≡ true
+unfolding is
+one-or f b c r p k e = or-cases (eqb b c) r (λ q. rw (eqb-true b c q) p) k e
+
+reserved-is : (f : ℕ → Bool) → f 100 ≡ true → f 68 ≡ true → f 103 ≡ true → f 71 ≡ true → f 108 ≡ true → f 76 ≡ true → f 115 ≡ true → f 83 ≡ true → (b : ℕ) → startsReserved b ≡ true → f b ≡ true
+unfolding startsReserved
+reserved-is f d dd g gg l ll t tt b e =
+    one-or f b 100 _ d (one-or f b 68 _ dd (one-or f b 103 _ g (one-or f b 71 _ gg (one-or f b 108 _ l (one-or f b 76 _ ll (one-or f b 115 _ t last)))))) e
+  where
+    last : is 83 b ≡ true → f b ≡ true
+    last q = rw (eqb-true b 83 (unfold is in q)) tt
+
+pub letter-found : (s : List ℕ) (o : ℕ) → o < length s → startsReserved (getD s o 0) ≡ true → reserved (drop o s) ≡ false → FoundValue 10 (wordEnd s o - o) ≡ foundAt s o
+unfolding wordFirst isOrdinary startsNumber isDigit is
+letter-found s o h e r =
+    let b = getD s o 0 in
+    word-found s o h r (reserved-is wordFirst refl refl refl refl refl refl refl refl b e)
+    (not-true (startsNumber b) (reserved-is (λ x. not (startsNumber x)) refl refl refl refl refl refl refl refl b e))
+
+pub reserved-found : (s : List ℕ) (o : ℕ) → o < length s → reserved (drop o s) ≡ true → FoundMissing Reserved ≡ foundAt s o
+reserved-found s o h r = rw (value-reserved s o h r)
+
+-- `.` without a digit behind it
+pub point-found : (s : List ℕ) (o : ℕ) → o < length s → getD s o 0 ≡ 46 → isDigit (getD s (o + 1) 0) ≡ false → FoundValue 8 1 ≡ foundAt s o
+unfolding pointAt
+point-found s o h b d =
+    let l : getD s o 0 < 68 = omega arith in
+    rw (value-point s o h (reserved-low s o h l) b, d)
+
+-- a tag is no value
+pub tag-found : (s : List ℕ) (o : ℕ) → o < length s → getD s o 0 ≡ 95 → FoundMissing NoStart ≡ foundAt s o
+unfolding isOrdinary is lower
+tag-found s o h b =
+    let x : lower (getD s o 0) ≡ 95 = rw b in
+    let r = reserved-none s o h 95 x (λ e. omega arith) (λ e. omega arith) (λ e. omega arith) (λ e. omega arith) in
+    rw (value-none s o h r (λ e. omega arith) (λ e. omega arith) (λ e. omega arith) (λ e. omega arith) (λ e. omega arith) (rw b))
 
 -- Plain numbers
 

@@ -357,7 +357,34 @@ fn pack_field(s: &[u8], at: usize) -> usize
     packed(13, end - at)
 }
 
-// The same where a mark stands that is no number's and no word's first byte.
+// The same where a letter stands that a reserved word may start with.
+fn pack_letter(s: &[u8], at: usize) -> usize
+    requires { ⌜ (length (now s) ≤ limit) × (at < length (now s)) × (startsReserved (getD (now s) at 0) ≡ true) ⌝ }
+    ensures { λ r. ⌜ r ≡ packedAt (now (s .entry)) at ⌝ }
+{
+    if words::is_reserved(s, at) {
+        return 0;
+    }
+    let end = words::parse_identifier(s, at);
+    packed(10, end - at)
+}
+
+// The same where `.` stands: without a digit behind it, it is no number.
+fn pack_point(s: &[u8], at: usize) -> usize
+    requires { ⌜ (length (now s) ≤ limit) × (at < length (now s)) × (getD (now s) at 0 ≡ 46) ⌝ }
+    ensures { λ r. ⌜ r ≡ packedAt (now (s .entry)) at ⌝ }
+{
+    let next = at + 1;
+    if s.len() <= next {
+        return packed(8, 1);
+    }
+    if !text::is_digit(s[next]) {
+        return packed(8, 1);
+    }
+    pack_other(s, at)
+}
+
+// The same for a first byte that is no digit, no sign, and no letter but those of reserved words. A tag is no value.
 fn pack_marked(s: &[u8], at: usize, b: u8) -> usize
     requires { ⌜ (length (now s) ≤ limit) × (at < length (now s)) × (b ≡ getD (now s) at 0) ⌝ }
     ensures { λ r. ⌜ r ≡ packedAt (now (s .entry)) at ⌝ }
@@ -370,6 +397,15 @@ fn pack_marked(s: &[u8], at: usize, b: u8) -> usize
     }
     if b == 59 {
         return pack_field(s, at);
+    }
+    if b == 46 {
+        return pack_point(s, at);
+    }
+    if b == 95 {
+        return 0;
+    }
+    if starts_reserved(b) {
+        return pack_letter(s, at);
     }
     pack_other(s, at)
 }
