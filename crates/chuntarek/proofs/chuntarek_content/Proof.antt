@@ -1,14 +1,10 @@
+-- `chuntarek_content`: the service's answer in numbers. Assumes nothing.
 use mathlib.Core.Path.{_∙_, ap}
 use Rattle.stores.specs.Content.{contentReport}
 use Rattle.chuntarek.specs.Exports.{exported}
 use borrow.Author.Needs.{needs}
 use Rattle.chuntarek.proofs.chuntarek_content.Statement.{statement}
 use Rattle.chuntarek.proofs.chuntarek_content.Tie as tie
-use Rattle.chuntarek.proofs.chuntarek_content.Reads as reads
-use Rattle.chuntarek.proofs.chuntarek_content.Lts as lts
-use Rattle.chuntarek.proofs.numbers_of.Reads as numbers-of-reads
-use Rattle.stores.proofs.Content.report.Reads as report-reads
-use Rattle.stores.proofs.find_content.Reads as find-content-reads
 
 find-content-requires : tie.Need-find-content-requires
 find-content-requires c κs = search needs

@@ -1,12 +1,9 @@
+-- `chuntarek_content_part`: the service's answer as a part of the area. Assumes nothing.
 use mathlib.Core.Path.{_∙_, ap}
 use Rattle.chuntarek.specs.Exports.{exportedPart}
 use borrow.Author.Needs.{needs}
 use Rattle.chuntarek.proofs.chuntarek_content_part.Statement.{statement}
 use Rattle.chuntarek.proofs.chuntarek_content_part.Tie as tie
-use Rattle.chuntarek.proofs.chuntarek_content_part.Reads as reads
-use Rattle.chuntarek.proofs.chuntarek_content_part.Lts as lts
-use Rattle.chuntarek.proofs.part_of.Reads as part-of-reads
-use Rattle.stores.proofs.find_content.Reads as find-content-reads
 
 find-content-requires : tie.Need-find-content-requires
 find-content-requires c κs = search needs

@@ -1,13 +1,9 @@
+-- `chuntarek_outline`: the service's answer in numbers, and the store as it leaves it. Assumes nothing.
 use mathlib.Core.Path.{_∙_, ap}
 use Rattle.chuntarek.specs.Exports.{exported}
 use borrow.Author.Needs.{needs}
 use Rattle.chuntarek.proofs.chuntarek_outline.Statement.{statement}
 use Rattle.chuntarek.proofs.chuntarek_outline.Tie as tie
-use Rattle.chuntarek.proofs.chuntarek_outline.Reads as reads
-use Rattle.chuntarek.proofs.chuntarek_outline.Lts as lts
-use Rattle.chuntarek.proofs.numbers_of.Reads as numbers-of-reads
-use Rattle.reading.proofs.Outlined.report.Reads as report-reads
-use Rattle.reading.proofs.outline.Reads as outline-reads
 
 outline-requires : tie.Need-outline-requires
 outline-requires c κs = search needs

@@ -1,13 +1,9 @@
+-- `chuntarek_read`: the service's answer in numbers, and the buffers as it leaves them. Assumes nothing.
 use mathlib.Core.Path.{_∙_, ap}
 use Rattle.chuntarek.specs.Exports.{exported}
 use borrow.Author.Needs.{needs}
 use Rattle.chuntarek.proofs.chuntarek_read.Statement.{statement}
 use Rattle.chuntarek.proofs.chuntarek_read.Tie as tie
-use Rattle.chuntarek.proofs.chuntarek_read.Reads as reads
-use Rattle.chuntarek.proofs.chuntarek_read.Lts as lts
-use Rattle.chuntarek.proofs.numbers_of.Reads as numbers-of-reads
-use Rattle.reading.proofs.Reading.report.Reads as report-reads
-use Rattle.reading.proofs.read.Reads as read-reads
 
 read-requires : tie.Need-read-requires
 read-requires c κs = search needs

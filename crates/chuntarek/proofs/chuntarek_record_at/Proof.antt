@@ -1,12 +1,9 @@
+-- `chuntarek_record_at`: the walk's answer in numbers. Assumes nothing.
 use mathlib.Core.Path.{_∙_, ap}
 use Rattle.chuntarek.specs.Exports.{exportedRecord}
 use borrow.Author.Needs.{needs}
 use Rattle.chuntarek.proofs.chuntarek_record_at.Statement.{statement}
 use Rattle.chuntarek.proofs.chuntarek_record_at.Tie as tie
-use Rattle.chuntarek.proofs.chuntarek_record_at.Reads as reads
-use Rattle.chuntarek.proofs.chuntarek_record_at.Lts as lts
-use Rattle.chuntarek.proofs.record_of.Reads as record-of-reads
-use Rattle.stores.proofs.record_at.Reads as record-at-reads
 
 record-at-requires : tie.Need-record-at-requires
 record-at-requires c κs = search needs

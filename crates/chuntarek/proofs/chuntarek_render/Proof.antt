@@ -1,13 +1,9 @@
+-- `chuntarek_render`: the service's answer in numbers, and the buffer as it leaves it. Assumes nothing.
 use mathlib.Core.Path.{_∙_, ap}
 use Rattle.chuntarek.specs.Exports.{exported}
 use borrow.Author.Needs.{needs}
 use Rattle.chuntarek.proofs.chuntarek_render.Statement.{statement}
 use Rattle.chuntarek.proofs.chuntarek_render.Tie as tie
-use Rattle.chuntarek.proofs.chuntarek_render.Reads as reads
-use Rattle.chuntarek.proofs.chuntarek_render.Lts as lts
-use Rattle.chuntarek.proofs.numbers_of.Reads as numbers-of-reads
-use Rattle.rendering.proofs.Rendered.report.Reads as report-reads
-use Rattle.rendering.proofs.render.Reads as render-reads
 
 render-requires : tie.Need-render-requires
 render-requires c κs = search needs

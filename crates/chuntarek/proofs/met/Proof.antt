@@ -1,12 +1,8 @@
+-- `met`: field by field. Assumes nothing.
 use Rattle.chuntarek.specs.Exports.{exportedFields}
 use borrow.Author.Needs.{needs}
 use Rattle.chuntarek.proofs.met.Statement.{statement}
 use Rattle.chuntarek.proofs.met.Tie as tie
-use Rattle.chuntarek.proofs.met.Reads as reads
-use Rattle.chuntarek.proofs.met.Lts as lts
-use Rattle.chuntarek.proofs.negative.Reads as negative-reads
-use Rattle.chuntarek.proofs.size_of.Reads as size-of-reads
-use Rattle.chuntarek.proofs.tags_of.Reads as tags-of-reads
 
 cast-t10 : tie.Need-cast-t10
 cast-t10 c = search needs

@@ -1,9 +1,8 @@
+-- `none`: all zero. Assumes nothing.
 use Rattle.chuntarek.specs.Exports.{noRecord}
 use mathlib.Core.Path.{refl}
 use Rattle.chuntarek.proofs.none.Statement.{statement}
 use Rattle.chuntarek.proofs.none.Tie as tie
-use Rattle.chuntarek.proofs.none.Reads as reads
-use Rattle.chuntarek.proofs.none.Lts as lts
 
 returns : tie.Need-returns
 unfolding noRecord

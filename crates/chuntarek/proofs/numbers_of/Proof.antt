@@ -1,9 +1,8 @@
+-- `numbers_of`: number by number. Assumes nothing.
 use Rattle.chuntarek.specs.Exports.{exported}
 use mathlib.Core.Path.{refl}
 use Rattle.chuntarek.proofs.numbers_of.Statement.{statement}
 use Rattle.chuntarek.proofs.numbers_of.Tie as tie
-use Rattle.chuntarek.proofs.numbers_of.Reads as reads
-use Rattle.chuntarek.proofs.numbers_of.Lts as lts
 
 returns : tie.Need-returns
 unfolding exported

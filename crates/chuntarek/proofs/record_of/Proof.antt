@@ -1,12 +1,9 @@
+-- `record_of`: case by case. Assumes nothing.
 use mathlib.Core.Path.{_∙_}
 use Rattle.chuntarek.specs.Exports.{exportedRecord}
 use borrow.Author.Needs.{needs}
 use Rattle.chuntarek.proofs.record_of.Statement.{statement}
 use Rattle.chuntarek.proofs.record_of.Tie as tie
-use Rattle.chuntarek.proofs.record_of.Reads as reads
-use Rattle.chuntarek.proofs.record_of.Lts as lts
-use Rattle.chuntarek.proofs.met.Reads as met-reads
-use Rattle.chuntarek.proofs.none.Reads as none-reads
 
 enum-known-w : tie.Need-enum-known-w
 enum-known-w c = search needs

@@ -1,10 +1,9 @@
+-- `size_of`: by the sign bit. Assumes nothing.
 use Rattle.chuntarek.specs.Exports.{isNegative, magnitude}
 use borrow.Author.Tests.{le-leb, lt-leb}
 use borrow.Author.Needs.{needs}
 use Rattle.chuntarek.proofs.size_of.Statement.{statement}
 use Rattle.chuntarek.proofs.size_of.Tie as tie
-use Rattle.chuntarek.proofs.size_of.Reads as reads
-use Rattle.chuntarek.proofs.size_of.Lts as lts
 
 sub-result : tie.Need-sub-result
 sub-result c = search needs

@@ -1,3 +1,4 @@
+-- `items::at_tag`: the byte at the offset, if there is one. Assumes nothing.
 use Rattle.items.proofs.Lists.{tag-past, tag-here}
 use borrow.Author.Needs.{needs}
 use Rattle.items.proofs.at_tag.Statement.{statement}

@@ -1,3 +1,4 @@
+-- `items::content_length`: by the kind's shape, and whether the marks fit. Assumes nothing.
 use mathlib.Core.Path.{_∙_}
 use native.Mathlib.Omega.{arith}
 use Prim.Native.Nat.{_-_}

@@ -1,3 +1,4 @@
+-- `items::find_other`: each answer of `parse_value` has its own. Assumes nothing.
 use borrow.Author.Needs.{needs}
 use Rattle.items.proofs.find_other.Statement.{statement}
 use Rattle.items.proofs.find_other.Tie as tie

@@ -1,3 +1,4 @@
+-- `items::in_block`: case by case. Assumes nothing.
 use borrow.Author.Needs.{needs}
 use Rattle.items.proofs.in_block.Statement.{statement}
 use Rattle.items.proofs.in_block.Tie as tie

@@ -1,3 +1,4 @@
+-- `items::in_frame`: case by case. Assumes nothing.
 use borrow.Author.Needs.{needs}
 use Rattle.items.proofs.in_frame.Statement.{statement}
 use Rattle.items.proofs.in_frame.Tie as tie

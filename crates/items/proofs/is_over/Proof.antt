@@ -1,3 +1,4 @@
+-- `items::is_over`: case by case. Assumes nothing.
 use mathlib.Core.Path.{sym}
 use Rattle.items.proofs.Choices.{not-over}
 use borrow.Author.Needs.{needs}

@@ -4,7 +4,6 @@ use Rattle.items.specs.Reading.{limit}
 use Rattle.items.specs.Answers.{pack}
 use Rattle.items.proofs.packed.Statement.{statement}
 use Rattle.items.proofs.packed.Tie as tie
-use Rattle.items.proofs.packed.Lts as lts
 
 mul-result : tie.Need-mul-result
 unfolding limit

@@ -1,3 +1,4 @@
+-- `items::rows`: a remainder, or whole rows whose lengths are added up. Assumes nothing.
 use Prim.Native.Nat.{_*_}
 use native.Mathlib.Omega.{arith}
 use Rattle.items.specs.Reading.{limit}

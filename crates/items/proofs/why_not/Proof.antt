@@ -1,3 +1,4 @@
+-- `items::why_not`: case by case. Assumes nothing.
 use mathlib.Core.Path.{sym}
 use Rattle.items.proofs.Choices.{not-missing}
 use borrow.Author.Needs.{needs}

@@ -1,3 +1,4 @@
+-- `reading::judge`: the two limits first, then what the tokens say. Assumes nothing.
 use mathlib.Core.Path.{_∙_}
 use borrow.Author.Tests.{lt-ltb, le-ltb}
 use Rattle.items.specs.Reading.{outline, limit}
@@ -7,12 +8,6 @@ use Rattle.reading.proofs.Judgements.{declined-judgement}
 use borrow.Author.Needs.{needs}
 use Rattle.reading.proofs.judge.Statement.{statement}
 use Rattle.reading.proofs.judge.Tie as tie
-use Rattle.reading.proofs.judge.Reads as reads
-use Rattle.reading.proofs.judge.Lts as lts
-use Rattle.items.proofs.lex_cif.Reads as lex-cif-reads
-use Rattle.reading.proofs.placed.Reads as placed-reads
-use Rattle.text.proofs.ascii_end.Reads as ascii-end-reads
-use Rattle.text.proofs.place_at.Reads as place-at-reads
 
 returns : tie.Need-returns
 unfolding outline limit judgement judgedAs refusalReport refusal noSizes

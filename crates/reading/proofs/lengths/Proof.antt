@@ -1,9 +1,8 @@
+-- `reading::lengths`: as it is defined. Assumes nothing.
 use mathlib.Core.Path.{refl}
 use Rattle.text.specs.Reports.{noRoom}
 use Rattle.reading.proofs.lengths.Statement.{statement}
 use Rattle.reading.proofs.lengths.Tie as tie
-use Rattle.reading.proofs.lengths.Reads as reads
-use Rattle.reading.proofs.lengths.Lts as lts
 
 returns : tie.Need-returns
 unfolding noRoom

@@ -1,11 +1,8 @@
+-- `reading::outline`: by the judgement. Assumes nothing.
 use Rattle.reading.proofs.Served.{fits-read, declines-refuses, outline-refused}
 use borrow.Author.Needs.{needs}
 use Rattle.reading.proofs.outline.Statement.{statement}
 use Rattle.reading.proofs.outline.Tie as tie
-use Rattle.reading.proofs.outline.Reads as reads
-use Rattle.reading.proofs.outline.Lts as lts
-use Rattle.reading.proofs.judge.Reads as judge-reads
-use Rattle.reading.proofs.outline_fitting.Reads as outline-fitting-reads
 
 judge-requires : tie.Need-judge-requires
 judge-requires c κs = search needs

@@ -1,3 +1,4 @@
+-- `reading::outline_fitting`: by the room. Assumes nothing.
 use native.Mathlib.Omega.{arith}
 use mathlib.Core.Bool.{false, false≢true}
 use Rattle.writing.specs.Walk.{storeLength}
@@ -5,9 +6,6 @@ use Rattle.reading.proofs.Served.{write-asks, writes, no-outline, all-o
 use borrow.Author.Needs.{needs}
 use Rattle.reading.proofs.outline_fitting.Statement.{statement}
 use Rattle.reading.proofs.outline_fitting.Tie as tie
-use Rattle.reading.proofs.outline_fitting.Reads as reads
-use Rattle.reading.proofs.outline_fitting.Lts as lts
-use Rattle.writing.proofs.write_block.Reads as write-block-reads
 
 returns : tie.Need-returns
 returns c =

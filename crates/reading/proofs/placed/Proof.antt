@@ -1,3 +1,4 @@
+-- `reading::placed`: case by case, each offset as its place. Assumes nothing.
 use Rattle.text.specs.Reports.{success}
 use Rattle.items.specs.Decisions.{told, refusal as toldRefusal, room}
 use Rattle.reading.specs.Services.{refusal, refusalReport}
@@ -5,9 +6,6 @@ use Rattle.reading.specs.Judging.{judgedAs, declined, noSizes}
 use borrow.Author.Needs.{needs}
 use Rattle.reading.proofs.placed.Statement.{statement}
 use Rattle.reading.proofs.placed.Tie as tie
-use Rattle.reading.proofs.placed.Reads as reads
-use Rattle.reading.proofs.placed.Lts as lts
-use Rattle.text.proofs.place_at.Reads as place-at-reads
 
 enum-known-decision : tie.Need-enum-known-decision
 enum-known-decision c = search needs

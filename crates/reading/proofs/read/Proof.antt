@@ -1,11 +1,8 @@
+-- `reading::read`: by the judgement. Assumes nothing.
 use Rattle.reading.proofs.Served.{fits-read, declines-refuses, read-refused}
 use borrow.Author.Needs.{needs}
 use Rattle.reading.proofs.read.Statement.{statement}
 use Rattle.reading.proofs.read.Tie as tie
-use Rattle.reading.proofs.read.Reads as reads
-use Rattle.reading.proofs.read.Lts as lts
-use Rattle.reading.proofs.judge.Reads as judge-reads
-use Rattle.reading.proofs.read_fitting.Reads as read-fitting-reads
 
 judge-requires : tie.Need-judge-requires
 judge-requires c κs = search needs

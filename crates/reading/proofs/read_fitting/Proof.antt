@@ -1,3 +1,4 @@
+-- `reading::read_fitting`: by the room of store and area. Assumes nothing.
 use mathlib.Core.Bool.{true}
 use native.Mathlib.Omega.{arith}
 use Rattle.writing.specs.Walk.{storeLength}
@@ -5,9 +6,6 @@ use Rattle.reading.proofs.Served.{write-asks, writes, no-store, no-area
 use borrow.Author.Needs.{needs}
 use Rattle.reading.proofs.read_fitting.Statement.{statement}
 use Rattle.reading.proofs.read_fitting.Tie as tie
-use Rattle.reading.proofs.read_fitting.Reads as reads
-use Rattle.reading.proofs.read_fitting.Lts as lts
-use Rattle.writing.proofs.write_block.Reads as write-block-reads
 
 returns : tie.Need-returns
 returns c =

@@ -1,9 +1,8 @@
+-- `reading::refused_at`: as it is defined. Assumes nothing.
 use mathlib.Core.Path.{refl}
 use Rattle.text.specs.Reports.{refusedAt}
 use Rattle.reading.proofs.refused_at.Statement.{statement}
 use Rattle.reading.proofs.refused_at.Tie as tie
-use Rattle.reading.proofs.refused_at.Reads as reads
-use Rattle.reading.proofs.refused_at.Lts as lts
 
 returns : tie.Need-returns
 unfolding refusedAt

@@ -1,9 +1,8 @@
+-- `text::is_digit`: by its two tests. Assumes nothing.
 use borrow.Author.Tests.{le-leb, lt-leb}
 use Rattle.text.specs.Bytes.{isDigit}
 use Rattle.text.proofs.is_digit.Statement.{statement}
 use Rattle.text.proofs.is_digit.Tie as tie
-use Rattle.text.proofs.is_digit.Reads as reads
-use Rattle.text.proofs.is_digit.Lts as lts
 
 returns : tie.Need-returns
 unfolding isDigit

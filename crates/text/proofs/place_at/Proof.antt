@@ -1,11 +1,9 @@
+-- `text::place_at`: from the start on, and behind the end the end's line and column. Assumes nothing.
 use native.Mathlib.Omega.{arith}
 use Rattle.text.proofs.Places.{is-start, place-past}
 use borrow.Author.Needs.{needs}
 use Rattle.text.proofs.place_at.Statement.{statement}
 use Rattle.text.proofs.place_at.Tie as tie
-use Rattle.text.proofs.place_at.Reads as reads
-use Rattle.text.proofs.place_at.Lts as lts
-use Rattle.text.proofs.advance.Reads as advance-reads
 
 advance-requires : tie.Need-advance-requires
 advance-requires c κs = (is-start _, omega arith, c .if1 .taken)

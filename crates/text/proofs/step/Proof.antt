@@ -1,3 +1,4 @@
+-- `text::step`: by the byte and the half of a line end before it. Assumes nothing.
 use borrow.Author.Needs.{needs}
 use borrow.Author.Tests.{eq-eqb, ne-eqb}
 use mathlib.Core.Bool.{and-false}
@@ -5,8 +6,6 @@ use Rattle.text.specs.Bytes.{isEol}
 use Rattle.text.specs.Places.{step}
 use Rattle.text.proofs.step.Statement.{statement}
 use Rattle.text.proofs.step.Tie as tie
-use Rattle.text.proofs.step.Reads as reads
-use Rattle.text.proofs.step.Lts as lts
 
 -- src/lib.rt:74:13
 returns : tie.Need-returns

@@ -1,3 +1,4 @@
+-- `writing::behind`: over a token without line ends the column grows by its length. Assumes nothing.
 use borrow.Author.Needs.{needs}
 use borrow.Author.Tests.{ne-eqb}
 use native.Mathlib.Omega.{arith}
@@ -5,7 +6,6 @@ use Rattle.text.proofs.Places.{place-column}
 use Rattle.writing.proofs.Places.{behind-line}
 use Rattle.writing.proofs.behind.Statement.{statement}
 use Rattle.writing.proofs.behind.Tie as tie
-use Rattle.text.proofs.advance.Reads as advance-reads
 
 add-end : tie.Need-add-end
 add-end c = search needs

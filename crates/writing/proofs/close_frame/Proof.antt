@@ -1,3 +1,4 @@
+-- `writing::close_frame`: the cursor is moved to where the items stopped, and one record is written there. Assumes nothing.
 use borrow.Author.Needs.{needs}
 use mathlib.Core.Path.{refl}
 use mathlib.Core.List.{[]}
@@ -5,9 +6,6 @@ use Rattle.records.specs.Kinds.{kindOf, shapeOf}
 use Rattle.writing.proofs.Frames.{closing-place, closing-token, closed}
 use Rattle.writing.proofs.close_frame.Statement.{statement}
 use Rattle.writing.proofs.close_frame.Tie as tie
-use Rattle.text.proofs.advance.Reads as advance-reads
-use Rattle.writing.proofs.trimmed.Reads as trimmed-reads
-use Rattle.writing.proofs.write_mark.Reads as write-mark-reads
 
 advance-requires : tie.Need-advance-requires
 advance-requires c κs = search needs

@@ -1,3 +1,4 @@
+-- `writing::count_tags`: those counted, and those from here on, are those from the start on. Assumes nothing.
 use Prim.Native.Nat.{_+_, _-_, _≤_}
 use mathlib.Core.Path.{_≡_, sym, ap, _∙_}
 use native.Mathlib.Omega.{arith}
@@ -12,9 +13,6 @@ use Rattle.writing.proofs.Lists.{namesFrom, gap-twice}
 use Rattle.writing.proofs.Items.{count-turn, count-none}
 use Rattle.writing.proofs.count_tags.Statement.{statement}
 use Rattle.writing.proofs.count_tags.Tie as tie
-use Rattle.items.proofs.at_tag.Reads as at-tag-reads
-use Rattle.text.proofs.gap_end.Reads as gap-end-reads
-use Rattle.words.proofs.long_word_end.Reads as long-word-end-reads
 
 abbrev Inv-loop : tie.InvT-loop
 Inv-loop s from at₀ count₀ at count = (at ≤ length s) × (gapEnd s at ≡ at) × (count ≤ at) × (count + length (namesFrom s at) ≡ length (namesFrom s from))

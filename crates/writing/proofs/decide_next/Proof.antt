@@ -1,9 +1,9 @@
+-- `writing::decide_next`: case by case, as `parse_data_item` decides. Assumes nothing.
 use borrow.Author.Needs.{needs}
 use mathlib.Core.Path.{sym, ap, _∙_}
 use Rattle.writing.specs.Walk.{nextOf}
 use Rattle.writing.proofs.decide_next.Statement.{statement}
 use Rattle.writing.proofs.decide_next.Tie as tie
-use Rattle.items.proofs.parse_data_item.Reads as parse-data-item-reads
 
 parse-data-item-requires : tie.Need-parse-data-item-requires
 parse-data-item-requires c κs = search needs

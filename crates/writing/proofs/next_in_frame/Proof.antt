@@ -1,3 +1,4 @@
+-- `writing::next_in_frame`: where a tag stands, its value tells. Assumes nothing.
 use borrow.Author.Needs.{needs}
 use mathlib.Core.Path.{refl, sym, ap, _∙_}
 use borrow.Author.Tests.{not-false}
@@ -6,11 +7,6 @@ use Rattle.writing.specs.Walk.{nextOf}
 use Rattle.writing.proofs.Nexts.{next-value, next-alone}
 use Rattle.writing.proofs.next_in_frame.Statement.{statement}
 use Rattle.writing.proofs.next_in_frame.Tie as tie
-use Rattle.items.proofs.at_tag.Reads as at-tag-reads
-use Rattle.items.proofs.pack_value.Reads as pack-value-reads
-use Rattle.text.proofs.gap_end.Reads as gap-end-reads
-use Rattle.words.proofs.long_word_end.Reads as long-word-end-reads
-use Rattle.writing.proofs.decide_next.Reads as decide-next-reads
 
 at-tag-requires : tie.Need-at-tag-requires
 at-tag-requires c κs = search needs

@@ -1,3 +1,4 @@
+-- `writing::put_content`: the record at the front of the rest of the store. Assumes nothing.
 use borrow.Author.Needs.{needs}
 use native.Mathlib.Omega.{arith}
 use Rattle.records.proofs.Putting.{part-put}
@@ -5,8 +6,6 @@ use Rattle.writing.proofs.Copy.{rest-room}
 use Rattle.writing.proofs.Forms.{content-full, content-outline}
 use Rattle.writing.proofs.put_content.Statement.{statement}
 use Rattle.writing.proofs.put_content.Tie as tie
-use Rattle.records.proofs.write_content.Reads as write-content-reads
-use Rattle.records.proofs.write_place.Reads as write-place-reads
 
 sub-write-content : tie.Need-sub-write-content
 sub-write-content c = search needs

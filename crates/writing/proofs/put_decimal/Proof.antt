@@ -1,3 +1,4 @@
+-- `writing::put_decimal`: the record at the front of the rest of the store, with or without uncertainty. Assumes nothing.
 use borrow.Author.Needs.{needs}
 use native.Mathlib.Omega.{arith}
 use Rattle.records.proofs.Putting.{part-put}
@@ -5,8 +6,6 @@ use Rattle.writing.proofs.Copy.{rest-room}
 use Rattle.writing.proofs.Forms.{uncertain-bytes, certain-bytes}
 use Rattle.writing.proofs.put_decimal.Statement.{statement}
 use Rattle.writing.proofs.put_decimal.Tie as tie
-use Rattle.records.proofs.write_number.Reads as write-number-reads
-use Rattle.records.proofs.write_uncertain.Reads as write-uncertain-reads
 
 sub-write-uncertain : tie.Need-sub-write-uncertain
 sub-write-uncertain c = search needs

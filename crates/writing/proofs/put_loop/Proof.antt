@@ -1,3 +1,4 @@
+-- `writing::put_loop`: the record at the front of the rest of the store. Assumes nothing.
 use borrow.Author.Needs.{needs}
 use native.Mathlib.Omega.{arith}
 use Rattle.records.proofs.Putting.{part-put}
@@ -5,8 +6,6 @@ use Rattle.writing.proofs.Copy.{rest-room}
 use Rattle.writing.proofs.Forms.{loop-full, loop-outline}
 use Rattle.writing.proofs.put_loop.Statement.{statement}
 use Rattle.writing.proofs.put_loop.Tie as tie
-use Rattle.records.proofs.write_loop.Reads as write-loop-reads
-use Rattle.records.proofs.write_place.Reads as write-place-reads
 
 sub-write-loop : tie.Need-sub-write-loop
 sub-write-loop c = search needs

@@ -1,3 +1,4 @@
+-- `writing::put_number`: a number that is found keeps the limits, so that it has a meaning. Assumes nothing.
 use borrow.Author.Needs.{needs}
 use Prim.Native.Nat.{_+_, _-_}
 use mathlib.Core.Bool.{true, false}
@@ -13,10 +14,6 @@ use Rattle.writing.proofs.Ones.{place-small, one-length, number-read, n
 use Rattle.writing.proofs.Turns.{number-turn, decimal-here}
 use Rattle.writing.proofs.put_number.Statement.{statement}
 use Rattle.writing.proofs.put_number.Tie as tie
-use Rattle.numbers.proofs.decimal_of.Reads as decimal-of-reads
-use Rattle.records.proofs.write_place.Reads as write-place-reads
-use Rattle.writing.proofs.put_decimal.Reads as put-decimal-reads
-use Rattle.writing.proofs.token_at.Reads as token-at-reads
 
 token-at-requires : tie.Need-token-at-requires
 token-at-requires c κs =

@@ -1,3 +1,4 @@
+-- `writing::record_length`: the kind's byte and its body. Assumes nothing.
 use borrow.Author.Needs.{needs}
 use Prim.Native.Nat.{_+_}
 use mathlib.Core.Path.{ap, _∙_}
@@ -5,10 +6,6 @@ use native.Mathlib.Omega.{arith}
 use Rattle.writing.proofs.Bytes.{body-short, outline-short, length-read, length-outlined}
 use Rattle.writing.proofs.record_length.Statement.{statement}
 use Rattle.writing.proofs.record_length.Tie as tie
-use Rattle.writing.proofs.record_length.Reads as reads
-use Rattle.writing.proofs.record_length.Lts as lts
-use Rattle.records.proofs.body_length.Reads as body-length-reads
-use Rattle.records.proofs.outline_length.Reads as outline-length-reads
 
 body-length-requires : tie.Need-body-length-requires
 body-length-requires c κs = search needs

@@ -1,3 +1,4 @@
+-- `writing::token_at`: the three numbers and the length fit their fields. Assumes nothing.
 use borrow.Author.Needs.{needs}
 use mathlib.Core.Path.{refl}
 use Rattle.writing.specs.Writing.{tokenAt}

@@ -1,3 +1,4 @@
+-- `writing::trimmed`: only the place moves on. Assumes nothing.
 use borrow.Author.Needs.{needs}
 use mathlib.Core.Path.{ap}
 use Rattle.text.specs.declared.Place.{Place}
@@ -5,7 +6,6 @@ use Rattle.writing.specs.Walk.{behindGap}
 use Rattle.writing.specs.Writing.{placed}
 use Rattle.writing.proofs.trimmed.Statement.{statement}
 use Rattle.writing.proofs.trimmed.Tie as tie
-use Rattle.writing.proofs.trim_spaces_first.Reads as trim-spaces-first-reads
 
 trim-spaces-first-requires : tie.Need-trim-spaces-first-requires
 unfolding placed

@@ -1,3 +1,4 @@
+-- `writing::write_block`: the heading, then all that is left. Assumes nothing.
 use borrow.Author.Needs.{needs}
 use Prim.Native.Nat.{_-_}
 use mathlib.Core.Path.{refl, ap}
@@ -12,11 +13,6 @@ use Rattle.writing.proofs.Block.{Fits, begun, begins, block-going, bloc
 use Rattle.writing.proofs.write_block.Statement.{statement}
 use Rattle.writing.proofs.write_block.Tie as tie
 use Rattle.writing.proofs.write_block.Reads as reads
-use Rattle.words.proofs.parse_identifier.Reads as parse-identifier-reads
-use Rattle.writing.proofs.trim_from.Reads as trim-from-reads
-use Rattle.writing.proofs.trimmed.Reads as trimmed-reads
-use Rattle.writing.proofs.write_items.Reads as write-items-reads
-use Rattle.writing.proofs.write_text.Reads as write-text-reads
 
 trim-from-requires : tie.Need-trim-from-requires
 unfolding placed

@@ -1,3 +1,4 @@
+-- `writing::write_end`: a record without a token, and the place stays. Assumes nothing.
 use borrow.Author.Needs.{needs}
 use Prim.Native.Nat.{_+_}
 use mathlib.Core.Path.{refl, ap}
@@ -7,8 +8,6 @@ use Rattle.writing.proofs.Copy.{rest-room}
 use Rattle.writing.proofs.Ones.{end-size, end-length, end-wrote}
 use Rattle.writing.proofs.write_end.Statement.{statement}
 use Rattle.writing.proofs.write_end.Tie as tie
-use Rattle.records.proofs.write_end.Reads as write-end-reads
-use Rattle.writing.proofs.record_length.Reads as record-length-reads
 
 sub-write-end : tie.Need-sub-write-end
 sub-write-end c = search needs

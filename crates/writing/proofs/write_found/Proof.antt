@@ -1,10 +1,9 @@
+-- `writing::write_found`: by the kind. Assumes nothing.
 use borrow.Author.Needs.{needs}
 use native.Mathlib.Omega.{arith}
 use Rattle.writing.proofs.Turns.{here-turn}
 use Rattle.writing.proofs.write_found.Statement.{statement}
 use Rattle.writing.proofs.write_found.Tie as tie
-use Rattle.writing.proofs.write_number.Reads as write-number-reads
-use Rattle.writing.proofs.write_token.Reads as write-token-reads
 
 write-token-requires : tie.Need-write-token-requires
 write-token-requires c κs =

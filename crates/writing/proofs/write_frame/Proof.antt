@@ -1,3 +1,4 @@
+-- `writing::write_frame`: at each turn what is left to read from the cursor on is what was left, less what is written. Assumes nothing.
 use borrow.Author.Needs.{needs}
 use Prim.Native.Nat.{_-_}
 use mathlib.Core.Path.{refl, sym, ap, _∙_}
@@ -10,12 +11,6 @@ use Rattle.writing.specs.Walk.{desk}
 use Rattle.writing.proofs.Frames.{Inside, inside-start, inside-next, frame-all, heading-token, heading-room, heading-moved, frame-item-here, frame-item-moved, frame-closing, frame-closed}
 use Rattle.writing.proofs.write_frame.Statement.{statement}
 use Rattle.writing.proofs.write_frame.Tie as tie
-use Rattle.words.proofs.parse_identifier.Reads as parse-identifier-reads
-use Rattle.writing.proofs.close_frame.Reads as close-frame-reads
-use Rattle.writing.proofs.next_in_frame.Reads as next-in-frame-reads
-use Rattle.writing.proofs.trimmed.Reads as trimmed-reads
-use Rattle.writing.proofs.write_item.Reads as write-item-reads
-use Rattle.writing.proofs.write_text.Reads as write-text-reads
 
 abbrev Inv-loop : tie.InvT-loop
 Inv-loop s full store₀ area₀ start end here₀ store area here = Inside full s start (desk here₀ store₀ area₀) (desk here store area)

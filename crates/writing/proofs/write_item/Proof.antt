@@ -1,11 +1,9 @@
+-- `writing::write_item`: where no loop starts, an item that is read is a tag and its value. Assumes nothing.
 use borrow.Author.Needs.{needs}
 use mathlib.Core.Path.{sym, _∙_}
 use Rattle.writing.proofs.Items.{tag-here}
 use Rattle.writing.proofs.write_item.Statement.{statement}
 use Rattle.writing.proofs.write_item.Tie as tie
-use Rattle.words.proofs.at_loop.Reads as at-loop-reads
-use Rattle.writing.proofs.write_loop_item.Reads as write-loop-item-reads
-use Rattle.writing.proofs.write_tag_item.Reads as write-tag-item-reads
 
 at-loop-requires : tie.Need-at-loop-requires
 at-loop-requires c κs = search needs

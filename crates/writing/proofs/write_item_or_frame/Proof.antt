@@ -1,12 +1,10 @@
+-- `writing::write_item_or_frame`: by whether `save_` stands there. Assumes nothing.
 use borrow.Author.Needs.{needs}
 use mathlib.Core.Path.{sym, _∙_}
 use Rattle.writing.specs.Walk.{desk}
 use Rattle.writing.proofs.Frames.{block-item-here, block-item-moved}
 use Rattle.writing.proofs.write_item_or_frame.Statement.{statement}
 use Rattle.writing.proofs.write_item_or_frame.Tie as tie
-use Rattle.words.proofs.at_save.Reads as at-save-reads
-use Rattle.writing.proofs.write_frame.Reads as write-frame-reads
-use Rattle.writing.proofs.write_item.Reads as write-item-reads
 
 at-save-requires : tie.Need-at-save-requires
 at-save-requires c κs = search needs

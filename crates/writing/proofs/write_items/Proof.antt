@@ -1,3 +1,4 @@
+-- `writing::write_items`: at each turn what is left to read from the cursor on is what was left, less what is written. Assumes nothing.
 use Prim.Native.Nat.{_-_}
 use native.Mathlib.Omega.{arith}
 use lib.ListN.{length}
@@ -5,7 +6,6 @@ use Rattle.writing.specs.Walk.{desk}
 use Rattle.writing.proofs.Frames.{InBlock, block-start, block-next, block-ended}
 use Rattle.writing.proofs.write_items.Statement.{statement}
 use Rattle.writing.proofs.write_items.Tie as tie
-use Rattle.writing.proofs.write_item_or_frame.Reads as write-item-or-frame-reads
 
 abbrev Inv-loop : tie.InvT-loop
 Inv-loop s full store₀ area₀ here₀ store area here = InBlock full s (desk here₀ store₀ area₀) (desk here store area)

@@ -1,3 +1,4 @@
+-- `writing::write_loop`: one record, and the place behind its five bytes. Assumes nothing.
 use borrow.Author.Needs.{needs}
 use Prim.Native.Nat.{_+_}
 use mathlib.Core.Path.{refl, ap, _∙_}
@@ -9,10 +10,6 @@ use Rattle.writing.specs.Writing.{loopBytes}
 use Rattle.writing.proofs.Ones.{place-small, kind-length, one-length, loop-here, loop-plain, plain-wrote}
 use Rattle.writing.proofs.write_loop.Statement.{statement}
 use Rattle.writing.proofs.write_loop.Tie as tie
-use Rattle.writing.proofs.behind.Reads as behind-reads
-use Rattle.writing.proofs.put_loop.Reads as put-loop-reads
-use Rattle.writing.proofs.record_length.Reads as record-length-reads
-use Rattle.writing.proofs.token_at.Reads as token-at-reads
 
 token-at-requires : tie.Need-token-at-requires
 token-at-requires c κs =

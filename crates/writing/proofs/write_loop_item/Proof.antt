@@ -1,3 +1,4 @@
+-- `writing::write_loop_item`: head, names, values and end, one after the other. Assumes nothing.
 use borrow.Author.Needs.{needs}
 use Prim.Native.Nat.{_+_}
 use Rattle.text.proofs.Places.{place-offset}
@@ -6,11 +7,6 @@ use Rattle.writing.proofs.SoFar.{room-first}
 use Rattle.writing.proofs.Items.{names-few, loop-names-room, loop-values-room, loop-token, loop-begun, loop-opened, loop-named, loop-valued, loop-ended}
 use Rattle.writing.proofs.write_loop_item.Statement.{statement}
 use Rattle.writing.proofs.write_loop_item.Tie as tie
-use Rattle.writing.proofs.count_tags.Reads as count-tags-reads
-use Rattle.writing.proofs.write_end.Reads as write-end-reads
-use Rattle.writing.proofs.write_loop.Reads as write-loop-reads
-use Rattle.writing.proofs.write_names.Reads as write-names-reads
-use Rattle.writing.proofs.write_values.Reads as write-values-reads
 
 add-count-tags : tie.Need-add-count-tags
 add-count-tags c = search needs

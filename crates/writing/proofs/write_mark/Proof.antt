@@ -1,3 +1,4 @@
+-- `writing::write_mark`: one record without content, and the place behind its token. Assumes nothing.
 use borrow.Author.Needs.{needs}
 use mathlib.Core.Path.{_≡_, refl, ap, _∙_}
 use native.Mathlib.Omega.{arith}
@@ -12,10 +13,6 @@ use Rattle.writing.proofs.Copy.{rest-room}
 use Rattle.writing.proofs.Ones.{place-small, kind-length, mark-size, mark-bytes, no-content, plain-wrote}
 use Rattle.writing.proofs.write_mark.Statement.{statement}
 use Rattle.writing.proofs.write_mark.Tie as tie
-use Rattle.records.proofs.write_place.Reads as write-place-reads
-use Rattle.writing.proofs.behind.Reads as behind-reads
-use Rattle.writing.proofs.record_length.Reads as record-length-reads
-use Rattle.writing.proofs.token_at.Reads as token-at-reads
 
 token-at-requires : tie.Need-token-at-requires
 token-at-requires c κs =

@@ -1,3 +1,4 @@
+-- `writing::write_names`: what is written so far and the names from the cursor on are the names from the start on. Assumes nothing.
 use borrow.Author.Needs.{needs}
 use Prim.Native.Nat.{_-_}
 use mathlib.Core.Path.{refl, sym, ap, _∙_}
@@ -13,10 +14,6 @@ use Rattle.writing.proofs.Lists.{namesFrom, behindNames, name-room, nam
 use Rattle.writing.proofs.Values.{trim-offset}
 use Rattle.writing.proofs.write_names.Statement.{statement}
 use Rattle.writing.proofs.write_names.Tie as tie
-use Rattle.words.proofs.long_word_end.Reads as long-word-end-reads
-use Rattle.items.proofs.at_tag.Reads as at-tag-reads
-use Rattle.writing.proofs.trimmed.Reads as trimmed-reads
-use Rattle.writing.proofs.write_text.Reads as write-text-reads
 
 abbrev Inv-loop : tie.InvT-loop
 Inv-loop s full store₀ area₀ last₀ store area last = SoFar full s (namesFrom s) (behindNames s) (desk last₀ store₀ area₀) (desk last store area)

@@ -1,3 +1,4 @@
+-- `writing::write_number`: one record, and the place behind its token. Assumes nothing.
 use borrow.Author.Needs.{needs}
 use Prim.Native.Nat.{_+_}
 use mathlib.Core.Path.{refl, ap}
@@ -7,9 +8,6 @@ use Rattle.writing.proofs.Ones.{kind-length, number-plain, plain-wrote}
 use Rattle.writing.proofs.Turns.{number-turn}
 use Rattle.writing.proofs.write_number.Statement.{statement}
 use Rattle.writing.proofs.write_number.Tie as tie
-use Rattle.writing.proofs.behind.Reads as behind-reads
-use Rattle.writing.proofs.put_number.Reads as put-number-reads
-use Rattle.writing.proofs.record_length.Reads as record-length-reads
 
 put-number-requires : tie.Need-put-number-requires
 put-number-requires c κs = search needs

@@ -1,3 +1,4 @@
+-- `writing::write_tag_item`: the tag, then the one value behind it. Assumes nothing.
 use borrow.Author.Needs.{needs}
 use Prim.Native.Nat.{_-_}
 use mathlib.Core.Path.{refl, sym, ap, _∙_}
@@ -8,9 +9,6 @@ use Rattle.writing.specs.Walk.{desk}
 use Rattle.writing.proofs.Items.{tag-token, tag-room, tag-value-room, tag-done}
 use Rattle.writing.proofs.write_tag_item.Statement.{statement}
 use Rattle.writing.proofs.write_tag_item.Tie as tie
-use Rattle.words.proofs.long_word_end.Reads as long-word-end-reads
-use Rattle.writing.proofs.write_text.Reads as write-text-reads
-use Rattle.writing.proofs.write_values.Reads as write-values-reads
 
 long-word-end-requires : tie.Need-long-word-end-requires
 long-word-end-requires c κs = search needs

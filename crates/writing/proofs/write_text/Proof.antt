@@ -1,3 +1,4 @@
+-- `writing::write_text`: one record, its content, and the place behind its token. Assumes nothing.
 use borrow.Author.Needs.{needs}
 use Prim.Native.Nat.{_+_, _-_, _≤_}
 use mathlib.Core.Path.{_≡_, sym, ap, _∙_}
@@ -13,14 +14,6 @@ use Rattle.writing.proofs.Bytes.{opening-marks}
 use Rattle.writing.proofs.Ones.{place-small, kind-length, one-length, has-content, text-size, text-here, text-room, text-content, one-wrote}
 use Rattle.writing.proofs.write_text.Statement.{statement}
 use Rattle.writing.proofs.write_text.Tie as tie
-use Rattle.records.proofs.Kind.marks.Reads as marks-reads
-use Rattle.records.proofs.Kind.of.Reads as of-reads
-use Rattle.records.proofs.Kind.opening.Reads as opening-reads
-use Rattle.writing.proofs.behind.Reads as behind-reads
-use Rattle.writing.proofs.copy_content.Reads as copy-content-reads
-use Rattle.writing.proofs.put_content.Reads as put-content-reads
-use Rattle.writing.proofs.record_length.Reads as record-length-reads
-use Rattle.writing.proofs.token_at.Reads as token-at-reads
 
 of-requires : tie.Need-of-requires
 of-requires c κs = search needs

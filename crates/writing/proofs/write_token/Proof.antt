@@ -1,9 +1,8 @@
+-- `writing::write_token`: by the kind. Assumes nothing.
 use borrow.Author.Needs.{needs}
 use Rattle.writing.proofs.Turns.{mark-kind, text-kind}
 use Rattle.writing.proofs.write_token.Statement.{statement}
 use Rattle.writing.proofs.write_token.Tie as tie
-use Rattle.writing.proofs.write_mark.Reads as write-mark-reads
-use Rattle.writing.proofs.write_text.Reads as write-text-reads
 
 write-mark-requires : tie.Need-write-mark-requires
 write-mark-requires c κs =

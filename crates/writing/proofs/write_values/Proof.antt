@@ -1,3 +1,4 @@
+-- `writing::write_values`: what is written so far and the values from the cursor on are the values from the start on. Assumes nothing.
 use Prim.Native.Nat.{_-_}
 use mathlib.Core.Path.{_≡_, sym, _∙_}
 use native.Mathlib.Omega.{arith}
@@ -12,9 +13,6 @@ use Rattle.writing.proofs.Turns.{value-here}
 use Rattle.writing.proofs.Values.{trim-offset}
 use Rattle.writing.proofs.write_values.Statement.{statement}
 use Rattle.writing.proofs.write_values.Tie as tie
-use Rattle.items.proofs.pack_value.Reads as pack-value-reads
-use Rattle.writing.proofs.trimmed.Reads as trimmed-reads
-use Rattle.writing.proofs.write_found.Reads as write-found-reads
 
 abbrev Inv-loop : tie.InvT-loop
 Inv-loop s full store₀ area₀ last₀ store area last = SoFar full s (valuesFrom s) (behindValues s) (desk last₀ store₀ area₀) (desk last store area)

@@ -1,3 +1,4 @@
+-- `items::Sizes::join`: length by length. Assumes nothing.
 use mathlib.Core.Path.{refl}
 use native.Mathlib.Omega.{arith}
 use Rattle.items.specs.Reading.{limit}

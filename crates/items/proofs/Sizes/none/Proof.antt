@@ -1,3 +1,4 @@
+-- `items::Sizes::none`: as it is defined. Assumes nothing.
 use mathlib.Core.Path.{refl}
 use Rattle.items.specs.Sizes.{noSizes}
 use Rattle.items.proofs.Sizes.none.Statement.{statement}

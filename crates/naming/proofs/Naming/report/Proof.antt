@@ -5,9 +5,6 @@ use Rattle.text.specs.Reports.{success, refusedBare}
 use Rattle.naming.specs.Names.{namingReport}
 use Rattle.naming.proofs.Naming.report.Statement.{statement}
 use Rattle.naming.proofs.Naming.report.Tie as tie
-use Rattle.naming.proofs.Naming.report.Reads as reads
-use Rattle.naming.proofs.Naming.report.Lts as lts
-use Rattle.naming.proofs.bare.Reads as bare-reads
 
 -- src/lib.rt:28:33
 enum-told : tie.Need-enum-told

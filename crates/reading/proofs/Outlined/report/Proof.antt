@@ -1,12 +1,9 @@
+-- `reading::Outlined::report`: case by case. Assumes nothing.
 use Rattle.text.specs.Reports.{noRoom, refusedBare, refusedAt, success}
 use Rattle.reading.specs.Services.{outlinedReport}
 use borrow.Author.Needs.{needs}
 use Rattle.reading.proofs.Outlined.report.Statement.{statement}
 use Rattle.reading.proofs.Outlined.report.Tie as tie
-use Rattle.reading.proofs.Outlined.report.Reads as reads
-use Rattle.reading.proofs.Outlined.report.Lts as lts
-use Rattle.reading.proofs.Refusal.report.Reads as report-reads
-use Rattle.reading.proofs.lengths.Reads as lengths-reads
 
 enum-known-self : tie.Need-enum-known-self
 enum-known-self c = search needs

@@ -1,12 +1,9 @@
+-- `reading::Refusal::report`: case by case. Assumes nothing.
 use Rattle.text.specs.Reports.{noRoom, refusedBare, refusedAt, success}
 use Rattle.reading.specs.Services.{refusalReport}
 use borrow.Author.Needs.{needs}
 use Rattle.reading.proofs.Refusal.report.Statement.{statement}
 use Rattle.reading.proofs.Refusal.report.Tie as tie
-use Rattle.reading.proofs.Refusal.report.Reads as reads
-use Rattle.reading.proofs.Refusal.report.Lts as lts
-use Rattle.reading.proofs.lengths.Reads as lengths-reads
-use Rattle.reading.proofs.refused_at.Reads as refused-at-reads
 
 enum-told : tie.Need-enum-told
 enum-told c = search needs
