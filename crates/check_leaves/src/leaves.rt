@@ -1,18 +1,18 @@
 // One leaf on one text, and its answer written out.
 ghost use Prim.Native.Nat.{_≤_};
 ghost use lib.ListN.{length};
+use entries::Entry;
+use entries::Parts;
 use harness::say;
+use kinds::Kind;
+use kinds::Shape;
 use numbers::Decimal;
 use numbers::Number;
-use records::Entry;
-use records::Kind;
-use records::Parts;
-use records::Shape;
+use places::Place;
+use quotes::Closing;
 use records::Token;
-use text::Place;
 use values::Value;
 use values::Why;
-use words::Closing;
 
 // Of the first byte: is it a digit, of a line end, space, the end of a word, ordinary.
 pub fn classes(s: &[u8]) {
@@ -40,7 +40,7 @@ pub fn moved(s: &[u8]) {
         line: 1,
         column: 1,
     };
-    place(text::trim_comments_and_whitespace(s, start));
+    place(gaps::trim_comments_and_whitespace(s, start));
 }
 
 pub fn closing(c: Closing) {
@@ -116,7 +116,7 @@ fn field(s: &[u8], from: usize) -> Written
     requires { ⌜ from ≤ length (now s) ⌝ }
     ensures { λ r. ⌜ r .next ≤ length (now (s .entry)) ⌝ }
 {
-    let at = text::gap_end(s, from);
+    let at = gaps::gap_end(s, from);
     let end = words::parse_identifier(s, at);
     Written {
         number: integer_of(&s[at..end]),
@@ -135,8 +135,8 @@ fn kind_of(number: u32) -> u8 {
 pub fn kind(s: &[u8]) {
     let number = kind_of(integer_of(s));
     let k = Kind::of(number);
-    say::size(records::body_length(number));
-    say::size(records::outline_length(number));
+    say::size(kinds::body_length(number));
+    say::size(kinds::outline_length(number));
     say::size(k.marks());
     say::size(k.opening());
 }
@@ -206,7 +206,7 @@ fn parts(p: Parts) {
 
 // The record that bytes start with: its kind, offset, length, line, column, area offset or number of tags, decimal parts, and where the next record starts.
 pub fn entry(s: &[u8]) {
-    let e = records::read_record(s, 0);
+    let e = entries::read_record(s, 0);
     match e {
         Entry::Record { kind, fields, next } => {
             say::number(kind.number() as u64);

@@ -11,8 +11,8 @@ fn leaves_of_text(leaf: u8, s: &[u8]) {
     match leaf {
         b'c' => leaves::classes(s),
         b'a' => say::size(text::ascii_end(s)),
-        b'p' => leaves::place(text::place_at(s, s.len())),
-        b'g' => say::size(text::gap_end(s, 0)),
+        b'p' => leaves::place(places::place_at(s, s.len())),
+        b'g' => say::size(gaps::gap_end(s, 0)),
         b'm' => leaves::moved(s),
         _ => (),
     }
@@ -21,10 +21,10 @@ fn leaves_of_text(leaf: u8, s: &[u8]) {
 fn leaves_of_words(leaf: u8, s: &[u8]) {
     match leaf {
         b'w' => say::size(words::parse_identifier(s, 0)),
-        b'r' => say::flag(words::is_reserved(s, 0)),
-        b'q' => leaves::closing(words::parse_enclosed(s, 1, b'\'')),
-        b'd' => leaves::closing(words::parse_enclosed(s, 1, b'"')),
-        b'f' => leaves::closing(words::parse_multiline_string(s, 1)),
+        b'r' => say::flag(keywords::is_reserved(s, 0)),
+        b'q' => leaves::closing(quotes::parse_enclosed(s, 1, b'\'')),
+        b'd' => leaves::closing(quotes::parse_enclosed(s, 1, b'"')),
+        b'f' => leaves::closing(quotes::parse_multiline_string(s, 1)),
         b'n' => leaves::number(s),
         b'v' => leaves::value(s),
         _ => (),

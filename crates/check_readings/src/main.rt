@@ -7,7 +7,7 @@ use harness::lines;
 use harness::parts;
 use harness::say;
 use libc::STDIN_FILENO;
-use text::Report;
+use places::Report;
 
 // The bytes of the store and of the area, and what stands in them before.
 const ROOM: usize = 512;

@@ -1,15 +1,15 @@
 // One service on one store, and its answer written out.
 use crate::services;
 use crate::services::Judged;
+use entries::Fields;
+use entries::Parts;
 use harness::parts::is_all;
 use harness::parts::least;
 use harness::parts::part;
 use harness::say;
-use records::Fields;
-use records::Parts;
+use places::Report;
 use stores::Content;
 use stores::Walked;
-use text::Report;
 
 pub fn judged(store: &[u8], area: &[u8]) {
     let judged = services::judge(store, area, true);

@@ -2,8 +2,8 @@
 use Prim.Native.Nat.{ℕ, _-_}
 use mathlib.Core.Bool.{Bool, cond}
 use lib.Dec.{eqb, leb}
-use Rattle.text.specs.declared.Report.{Report}
-use Rattle.records.specs.declared.Fields.{Fields}
+use Rattle.places.specs.declared.Report.{Report}
+use Rattle.entries.specs.declared.Fields.{Fields}
 use Rattle.stores.specs.declared.Content.{Content}
 use Rattle.stores.specs.declared.Content.the-variants.{Part as Found, NotSound, NoContent}
 use Rattle.stores.specs.declared.Walked.{Walked}

@@ -10,10 +10,10 @@ ghost use Rattle.stores.specs.Records.{walkedAt};
 ghost use Rattle.naming.specs.Names.{nameCheck, namingReport};
 ghost use Rattle.rendering.specs.Rendering.{renderAnswer, renderOut};
 ghost use Rattle.chuntarek.specs.Exports.{exported, exportedPart, exportedRecord, exportedFields, noRecord, isNegative, magnitude};
-use records::Fields;
+use entries::Fields;
+use places::Report;
 use stores::Content;
 use stores::Walked;
-use text::Report;
 
 // chuntarek_answer.
 #[repr(C)]

@@ -1,6 +1,6 @@
 // What is written to standard output.
 use libc::STDOUT_FILENO;
-use text::Report;
+use places::Report;
 
 pub fn bytes(s: &[u8]) {
     io::write_all(STDOUT_FILENO, s);

@@ -9,11 +9,11 @@ use borrow.Author.Tests.{eqb-true}
 use lib.Dec.{eqb}
 use lib.ListN.{length}
 use Rattle.text.specs.Bytes.{is, isSpace}
-use Rattle.text.specs.Gaps.{gap, gapIn, gapByte, gapThen}
+use Rattle.gaps.specs.Gaps.{gap, gapIn, gapByte, gapThen}
 use Rattle.text.proofs.Bools.{or-cases}
 use Rattle.words.specs.Words.{isOrdinary}
-use Rattle.words.specs.Keywords.{lower, starts, keyData, keyGlobal, keyLoop, keySave, keyStop}
-use Rattle.words.specs.Quotes.{field}
+use Rattle.keywords.specs.Keywords.{lower, starts, keyData, keyGlobal, keyLoop, keySave, keyStop}
+use Rattle.quotes.specs.Quotes.{field}
 use Rattle.values.specs.Values.{nothing, noStart, Lexed, lexed, closed, lexValue}
 use Rattle.items.specs.Tokens.{Mode, lexIn, lex, after, Tok, tok, emit, step, tokensFrom}
 use Rattle.items.proofs.Steps.{gap-skip}

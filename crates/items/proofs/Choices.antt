@@ -8,10 +8,10 @@ use borrow.Author.Tests.{eqb-false}
 use denote.Enum.Declared.{tagOf}
 use lib.Dec.{eqb}
 use types.Run.{OneOf}
-use Rattle.records.specs.declared.Shape.{Shape}
-use Rattle.records.specs.declared.Shape.the-variants.{Empty, Place, Content, Count, Parts, PartsUncertain}
-use Rattle.records.specs.Kinds.{isContent}
-use Rattle.records.proofs.Shape.{the-type as shape-type}
+use Rattle.kinds.specs.declared.Shape.{Shape}
+use Rattle.kinds.specs.declared.Shape.the-variants.{Empty, Place, Content, Count, Parts, PartsUncertain}
+use Rattle.kinds.specs.Kinds.{isContent}
+use Rattle.kinds.proofs.Shape.{the-type as shape-type}
 use Rattle.values.specs.declared.Why.the-variants.{AtEnd}
 use Rattle.items.specs.declared.Found.{Found}
 use Rattle.items.specs.declared.Found.the-variants.{Value, Over, Missing}

@@ -14,8 +14,8 @@ use Rattle.text.specs.Runs.{span}
 use Rattle.text.proofs.Bools.{and-l, and-r}
 use Rattle.text.proofs.Runs.{span-le}
 use Rattle.words.specs.Words.{word, inWord}
-use Rattle.words.specs.Keywords.{lower, starts, keyData, keyGlobal, keyLoop, keySave, keyStop}
-use Rattle.words.specs.Quotes.{more, quoted, fieldIn, field}
+use Rattle.keywords.specs.Keywords.{lower, starts, keyData, keyGlobal, keyLoop, keySave, keyStop}
+use Rattle.quotes.specs.Quotes.{more, quoted, fieldIn, field}
 use Rattle.values.specs.Values.{openField, Lexed, wordOr, closed, lexValue}
 use Rattle.items.specs.Tokens.{Mode, before, inBlock, inFrame, saveSize, lexIn}
 

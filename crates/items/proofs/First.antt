@@ -15,9 +15,9 @@ use Rattle.text.proofs.Bools.{and-l, and-r, or-cases}
 use Rattle.text.proofs.Ranges.{allBelow, passes, digit-is}
 use Rattle.text.proofs.Runs.{span-go, span-stop, span-over}
 use Rattle.words.specs.Words.{inWord, wordEnd, isOrdinary}
-use Rattle.words.specs.Keywords.{lower, reserved}
+use Rattle.keywords.specs.Keywords.{lower, reserved}
 use Rattle.words.proofs.Words.{word-run}
-use Rattle.words.proofs.Keywords.{reserved-none, reserved-low}
+use Rattle.keywords.proofs.Keywords.{reserved-none, reserved-low}
 use Rattle.numbers.specs.declared.Number.the-variants.{Not}
 use Rattle.numbers.specs.Parts.{parts}
 use Rattle.numbers.specs.Meaning.{meaning, numberOf}

@@ -14,9 +14,9 @@ use Rattle.text.specs.Runs.{span}
 use Rattle.text.proofs.Bools.{and-l, and-r}
 use Rattle.text.proofs.Ranges.{allBelow, passes}
 use Rattle.text.proofs.Runs.{span-le}
-use Rattle.words.specs.Keywords.{lower, starts, keyData, keyGlobal, keyLoop, keySave, keyStop}
+use Rattle.keywords.specs.Keywords.{lower, starts, keyData, keyGlobal, keyLoop, keySave, keyStop}
 use Rattle.words.specs.Words.{isOrdinary, inWord, word}
-use Rattle.words.specs.Quotes.{more, quoted, fieldIn, field}
+use Rattle.quotes.specs.Quotes.{more, quoted, fieldIn, field}
 use Rattle.numbers.specs.Parts.{parts, isNumber}
 use Rattle.values.specs.Values.{Class, block, loop, save, tag, overLimit, nothing, value, Reason, openQuote, openField, Lexed, lexed, numberOr, wordOr, closed, lexValue}
 use Rattle.items.specs.Tokens.{Mode, before, inBlock, inFrame, saveSize, lexIn, lex}

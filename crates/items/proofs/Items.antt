@@ -7,10 +7,10 @@ use native.Mathlib.Omega.{arith}
 use borrow.Author.Tests.{ne-eqb}
 use lib.Dec.{eqb, eqb·suc-zero}
 use lib.ListN.{length, drop}
-use Rattle.text.specs.Gaps.{gap, gapEnd}
-use Rattle.text.proofs.Gaps.{gap-none}
+use Rattle.gaps.specs.Gaps.{gap, gapEnd}
+use Rattle.gaps.proofs.Gaps.{gap-none}
 use Rattle.words.specs.Words.{word, wordEnd}
-use Rattle.words.specs.Keywords.{starts, startsAt, keyLoop}
+use Rattle.keywords.specs.Keywords.{starts, startsAt, keyLoop}
 use Rattle.values.specs.Values.{Class, block, loop, save, tag, value, overLimit, nothing, lexed}
 use Rattle.items.specs.declared.Sizes.{Sizes}
 use Rattle.items.specs.declared.Names.{Names}

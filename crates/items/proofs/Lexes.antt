@@ -13,8 +13,8 @@ use Rattle.text.specs.Bytes.{is, endsWord}
 use Rattle.text.specs.Runs.{span}
 use Rattle.text.proofs.Bools.{and-l, and-r, or-cases}
 use Rattle.words.specs.Words.{inWord, word, isOrdinary}
-use Rattle.words.specs.Keywords.{lower, starts, keyData, keyGlobal, keyLoop, keySave, keyStop}
-use Rattle.words.specs.Quotes.{quoted, field}
+use Rattle.keywords.specs.Keywords.{lower, starts, keyData, keyGlobal, keyLoop, keySave, keyStop}
+use Rattle.quotes.specs.Quotes.{quoted, field}
 use Rattle.numbers.specs.Parts.{parts, isNumber, within}
 use Rattle.values.specs.Values.{Class, Reason, block, loop, save, tag, value, overLimit, nothing, reservedWord, noStart, openQuote, openField, Lexed, lexed, numberOr, wordOr, closed, lexValue}
 use Rattle.items.specs.Tokens.{Mode, before, inBlock, inFrame, saveSize, lexIn, after}

@@ -10,8 +10,8 @@ use lib.Dec.{eqb}
 use lib.ListN.{length, drop, getD, drop-of-length-le}
 use lib.Seq.{drop-cons}
 use Rattle.text.specs.Bytes.{is}
-use Rattle.text.specs.Gaps.{gap, gapEnd}
-use Rattle.text.proofs.Gaps.{gap-from, gap-within, gap-none}
+use Rattle.gaps.specs.Gaps.{gap, gapEnd}
+use Rattle.gaps.proofs.Gaps.{gap-from, gap-within, gap-none}
 use Rattle.words.specs.Words.{word, wordEnd}
 use Rattle.values.specs.Values.{Class, block, loop, save, tag, value, overLimit, nothing, lexed}
 use Rattle.values.specs.declared.Why.{Why}

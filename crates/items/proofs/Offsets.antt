@@ -8,10 +8,10 @@ use mathlib.Core.Logic.{_⊎_, inl, inr}
 use native.Mathlib.Omega.{arith}
 use lib.ListN.{length, drop, length-drop}
 use lib.Seq.{drop-drop}
-use Rattle.text.specs.Gaps.{gap, gapEnd}
-use Rattle.text.proofs.Gaps.{gap-from, gap-within, gap-none}
+use Rattle.gaps.specs.Gaps.{gap, gapEnd}
+use Rattle.gaps.proofs.Gaps.{gap-from, gap-within, gap-none}
 use Rattle.words.specs.Words.{word}
-use Rattle.words.specs.Keywords.{starts, startsAt, keyLoop, keySave, keyData}
+use Rattle.keywords.specs.Keywords.{starts, startsAt, keyLoop, keySave, keyData}
 use Rattle.values.specs.Values.{Reason, block, loop, save, tag, nothing, atEnd, noStart, Lexed, lexed}
 use Rattle.items.specs.Tokens.{Mode, before, inBlock, inFrame, saveSize, lexIn, lex, after, Tok, tok, emit, step, tokensFrom}
 use Rattle.items.specs.Decisions.{tokensAt, headAt}

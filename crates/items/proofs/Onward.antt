@@ -6,10 +6,10 @@ use mathlib.Core.List.{List, [], _∷_, _++_, append-assoc}
 use mathlib.Core.Option.{Option, none, some}
 use native.Mathlib.Omega.{arith}
 use lib.ListN.{length, drop, length-drop, drop-of-length-le}
-use Rattle.text.specs.Gaps.{gap, gapEnd}
-use Rattle.text.proofs.Gaps.{gap-from, gap-within, gap-none}
+use Rattle.gaps.specs.Gaps.{gap, gapEnd}
+use Rattle.gaps.proofs.Gaps.{gap-from, gap-within, gap-none}
 use Rattle.words.specs.Words.{word, wordEnd}
-use Rattle.words.specs.Keywords.{starts, startsAt, keyData, keySave}
+use Rattle.keywords.specs.Keywords.{starts, startsAt, keyData, keySave}
 use Rattle.values.specs.Values.{Class, block, loop, save, tag, value, overLimit, nothing, lexed}
 use Rattle.items.specs.declared.Sizes.{Sizes}
 use Rattle.items.specs.declared.Decision.{Decision}

@@ -11,7 +11,7 @@ use lib.ListN.{length}
 use Rattle.values.specs.Values.{Class, Reason, block, loop, save, tag, value, overLimit, nothing}
 use Rattle.items.specs.Tokens.{Tok}
 use Rattle.items.specs.Machine.{Rec, rec, loopEnd}
-use Rattle.records.specs.Kinds.{kindOf, shapeOf, shapeLength, outlineShape, bodyLength, outlineLength, isContent, hasContent}
+use Rattle.kinds.specs.Kinds.{kindOf, shapeOf, shapeLength, outlineShape, bodyLength, outlineLength, isContent, hasContent}
 use Rattle.items.specs.Sizes.{contentSize, sizesOf, noSizes, added, joined, Upto}
 use Rattle.items.specs.Descent.{nameRecs, afterNames, valueRecs, afterValues, Item, taken, failed, broken, isOver, rows, loopBy, loopItem, single, tagItem, itemBy, item}
 use Rattle.items.specs.Decisions.{headAt}

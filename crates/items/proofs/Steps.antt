@@ -6,8 +6,8 @@ use mathlib.Core.Path.{_≡_, refl, sym, ap, _∙_}
 use mathlib.Core.List.{List, [], _∷_}
 use native.Mathlib.Omega.{arith}
 use lib.ListN.{length, drop}
-use Rattle.text.specs.Gaps.{gap}
-use Rattle.text.proofs.Gaps.{gap-fits}
+use Rattle.gaps.specs.Gaps.{gap}
+use Rattle.gaps.proofs.Gaps.{gap-fits}
 use Rattle.values.specs.Values.{Lexed}
 use Rattle.items.specs.Tokens.{Mode, lex, after, Tok, tok, emit, step, tokensFrom}
 

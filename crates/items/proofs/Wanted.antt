@@ -9,8 +9,8 @@ use lib.Dec.{eqb}
 use lib.ListN.{take, drop}
 use Rattle.text.specs.Bytes.{is}
 use Rattle.words.specs.Words.{word, isOrdinary}
-use Rattle.words.specs.Keywords.{starts, keyData, keyGlobal, keyLoop, keySave, keyStop, reserved}
-use Rattle.words.specs.Quotes.{quoted, field}
+use Rattle.keywords.specs.Keywords.{starts, keyData, keyGlobal, keyLoop, keySave, keyStop, reserved}
+use Rattle.quotes.specs.Quotes.{quoted, field}
 use Rattle.numbers.specs.Parts.{Parts, parts, isNumber, within}
 use Rattle.numbers.specs.Meaning.{meaning}
 use Rattle.values.specs.Values.{Class, Reason, block, loop, save, tag, value, overLimit, nothing, reservedWord, noStart, openQuote, openField, Lexed, lexed, numberOr, wordOr, closed, lexValue, lexAsValue}

@@ -6,7 +6,7 @@ use mathlib.Core.List.{List, [], _∷_}
 use lib.Dec.{eqb}
 use lib.ListN.{length, drop}
 use Rattle.text.specs.Bytes.{is}
-use Rattle.text.specs.Gaps.{gap}
+use Rattle.gaps.specs.Gaps.{gap}
 use Rattle.numbers.specs.declared.Decimal.{Decimal}
 use Rattle.values.specs.Answers.{valueAt}
 use Rattle.values.specs.declared.Why.{Why}

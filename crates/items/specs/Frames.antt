@@ -5,8 +5,8 @@ use mathlib.Core.Bool.{cond}
 use mathlib.Core.List.{List, [], _++_}
 use mathlib.Core.Option.{Option, none, some}
 use lib.ListN.{length, drop}
-use Rattle.text.specs.Gaps.{gap, gapEnd}
-use Rattle.words.specs.Keywords.{startsAt, keySave}
+use Rattle.gaps.specs.Gaps.{gap, gapEnd}
+use Rattle.keywords.specs.Keywords.{startsAt, keySave}
 use Rattle.items.specs.declared.Sizes.{Sizes}
 use Rattle.items.specs.declared.Item.{Item as Answered}
 use Rattle.items.specs.declared.Item.the-variants.{Loop, Single, Ragged, NoValue, NoItem, NoNames, Over}

@@ -2,9 +2,9 @@
 use Prim.Native.Nat.{ℕ, suc, _+_, _-_, _*_, _≤_}
 use mathlib.Core.Bool.{cond}
 use mathlib.Core.List.{List, [], _∷_}
-use Rattle.records.specs.declared.Shape.{Shape}
-use Rattle.records.specs.declared.Shape.the-variants.{Place}
-use Rattle.records.specs.Kinds.{kindOf, shapeLength, marksOf, bodyLength, outlineLength, hasContent}
+use Rattle.kinds.specs.declared.Shape.{Shape}
+use Rattle.kinds.specs.declared.Shape.the-variants.{Place}
+use Rattle.kinds.specs.Kinds.{kindOf, shapeLength, marksOf, bodyLength, outlineLength, hasContent}
 use Rattle.items.specs.Machine.{Rec}
 use Rattle.items.specs.declared.Sizes.{Sizes}
 

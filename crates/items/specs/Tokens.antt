@@ -3,9 +3,9 @@ use Prim.Native.Nat.{ℕ, zero, suc}
 use mathlib.Core.Bool.{Bool, cond, _||_}
 use mathlib.Core.List.{List, [], _∷_}
 use Rattle.text.specs.Bytes.{is}
-use Rattle.text.specs.Gaps.{gap}
+use Rattle.gaps.specs.Gaps.{gap}
 use Rattle.words.specs.Words.{word}
-use Rattle.words.specs.Keywords.{starts, keyData, keyGlobal, keyLoop, keySave, keyStop}
+use Rattle.keywords.specs.Keywords.{starts, keyData, keyGlobal, keyLoop, keySave, keyStop}
 use Rattle.values.specs.Values.{Reason, atEnd, reservedWord, noStart, Class, block, loop, save, tag, value, overLimit, nothing, Lexed, lexed, lexValue}
 
 -- before `data_`; in the block; in a frame

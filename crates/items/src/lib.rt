@@ -5,19 +5,19 @@ ghost use Prim.Native.Nat.{ℕ, _+_, _*_, _≤_, _<_};
 ghost use lib.ListN.{length, getD};
 ghost use Rattle.values.specs.Answers.{valueAt};
 ghost use Rattle.values.specs.Pieces.{quoteAt, fieldAt};
-ghost use Rattle.words.specs.Keywords.{startsAt, keyData, keyLoop, keySave};
+ghost use Rattle.keywords.specs.Keywords.{startsAt, keyData, keyLoop, keySave};
 ghost use Rattle.items.specs.Sizes.{contentSize, noSizes, grown, added, joined, Upto};
 ghost use Rattle.items.specs.First.{isLetter, startsReserved, startsBare, startsDecimal, plainKind};
 ghost use Rattle.items.specs.Decisions.{told, tells};
 ghost use Rattle.items.specs.Reading.{decided, limit};
 ghost use Rattle.items.specs.Answers.{Ready, Here, tagAt, kindOfNumber, foundAt, pack, packedAt, isOverFound, whyFound, namesAt, valuesAt, rowsOf, itemAt};
 ghost use Rattle.items.specs.Frames.{inBlockOf, inFrameOf, frameEnd, Stepped, blockAt};
+use kinds::Kind;
+use kinds::Shape;
 use numbers::Decimal;
-use records::Kind;
-use records::Shape;
+use quotes::Closing;
 use values::Value;
 use values::Why;
-use words::Closing;
 
 // The room that records take.
 pub struct Sizes {
@@ -140,8 +140,8 @@ impl Sizes {
         ensures { λ r. ⌜ r ≡ added self kind size ⌝ }
     {
         Sizes {
-            store: self.store + 1 + records::body_length(kind),
-            outline: self.outline + 1 + records::outline_length(kind),
+            store: self.store + 1 + kinds::body_length(kind),
+            outline: self.outline + 1 + kinds::outline_length(kind),
             area: self.area + content_length(kind, size),
         }
     }
@@ -340,7 +340,7 @@ fn pack_quote(s: &[u8], at: usize, mark: u8, kind: u8) -> usize
     requires { ⌜ (length (now s) ≤ limit) × (at < length (now s)) × (valueAt (now s) at ≡ quoteAt mark kind (now s) at) ⌝ }
     ensures { λ r. ⌜ r ≡ packedAt (now (s .entry)) at ⌝ }
 {
-    let Closing::Behind(end) = words::parse_enclosed(s, at + 1, mark) else {
+    let Closing::Behind(end) = quotes::parse_enclosed(s, at + 1, mark) else {
         return 0;
     };
     packed(kind, end - at)
@@ -351,7 +351,7 @@ fn pack_field(s: &[u8], at: usize) -> usize
     requires { ⌜ (length (now s) ≤ limit) × (at < length (now s)) × (valueAt (now s) at ≡ fieldAt (now s) at) ⌝ }
     ensures { λ r. ⌜ r ≡ packedAt (now (s .entry)) at ⌝ }
 {
-    let Closing::Behind(end) = words::parse_multiline_string(s, at + 1) else {
+    let Closing::Behind(end) = quotes::parse_multiline_string(s, at + 1) else {
         return 0;
     };
     packed(13, end - at)
@@ -362,7 +362,7 @@ fn pack_letter(s: &[u8], at: usize) -> usize
     requires { ⌜ (length (now s) ≤ limit) × (at < length (now s)) × (startsReserved (getD (now s) at 0) ≡ true) ⌝ }
     ensures { λ r. ⌜ r ≡ packedAt (now (s .entry)) at ⌝ }
 {
-    if words::is_reserved(s, at) {
+    if keywords::is_reserved(s, at) {
         return 0;
     }
     let end = words::parse_identifier(s, at);
@@ -473,7 +473,7 @@ fn count_names(s: &[u8], from: usize) -> Names
     requires { ⌜ Ready (now s) from ⌝ }
     ensures { λ r. ⌜ r ≡ namesAt (now (s .entry)) from ⌝ }
 {
-    let mut at = text::gap_end(s, from);
+    let mut at = gaps::gap_end(s, from);
     let mut count: usize = 0;
     let mut sizes = Sizes::none();
     loop {
@@ -487,7 +487,7 @@ fn count_names(s: &[u8], from: usize) -> Names
         let end = words::long_word_end(s, at);
         sizes = sizes.add(6, end - at);
         count += 1;
-        at = text::gap_end(s, end);
+        at = gaps::gap_end(s, end);
     }
 }
 
@@ -512,7 +512,7 @@ fn count_values(s: &[u8], from: usize) -> Values
         };
         sizes = sizes.add_value(kind, size);
         count += 1;
-        at = text::gap_end(s, at + size);
+        at = gaps::gap_end(s, at + size);
     }
 }
 
@@ -563,12 +563,12 @@ fn parse_tag(s: &[u8], at: usize) -> Item
     ensures { λ r. ⌜ r ≡ itemAt (now (s .entry)) at ⌝ }
 {
     let end = words::long_word_end(s, at);
-    let stop = text::gap_end(s, end);
+    let stop = gaps::gap_end(s, end);
     let found = find_value(s, stop);
     if let Found::Value { kind, size } = found {
         let sizes = Sizes::none().add(4, end - at).add_value(kind, size);
         return Item::Single {
-            next: text::gap_end(s, stop + size),
+            next: gaps::gap_end(s, stop + size),
             sizes,
         };
     }
@@ -587,7 +587,7 @@ pub fn parse_data_item(s: &[u8], at: usize) -> Item
     requires { ⌜ Here (now s) at ⌝ }
     ensures { λ r. ⌜ r ≡ itemAt (now (s .entry)) at ⌝ }
 {
-    if words::at_loop(s, at) {
+    if keywords::at_loop(s, at) {
         return parse_loop(s, at);
     }
     if at_tag(s, at) {
@@ -645,13 +645,13 @@ fn close_frame(s: &[u8], start: usize, sizes: Sizes, stop: usize) -> Step
     requires { ⌜ Ready (now s) stop × Upto limit sizes ⌝ }
     ensures { λ r. ⌜ r ≡ frameEnd (now (s .entry)) start sizes stop ⌝ }
 {
-    if !words::at_save(s, stop) {
+    if !keywords::at_save(s, stop) {
         return Step::Refused {
             decision: Decision::OpenFrame { at: start },
         };
     }
     Step::Read {
-        next: text::gap_end(s, stop + 5),
+        next: gaps::gap_end(s, stop + 5),
         sizes: sizes.add(3, 5),
     }
 }
@@ -663,7 +663,7 @@ fn parse_save_frame(s: &[u8], start: usize) -> Step
 {
     let end = words::parse_identifier(s, start);
     let mut sizes = Sizes::none().add(2, end - start);
-    let mut at = text::gap_end(s, end);
+    let mut at = gaps::gap_end(s, end);
     loop {
         let inside = in_frame(parse_data_item(s, at));
         match inside {
@@ -682,7 +682,7 @@ fn parse_data_item_or_save_frame(s: &[u8], at: usize) -> Step
     requires { ⌜ Here (now s) at × (at < length (now s)) ⌝ }
     ensures { λ r. ⌜ Stepped (now (s .entry)) at r ⌝ }
 {
-    if words::at_save(s, at) {
+    if keywords::at_save(s, at) {
         return parse_save_frame(s, at);
     }
     in_block(parse_data_item(s, at))
@@ -695,7 +695,7 @@ fn parse_data_block(s: &[u8], start: usize) -> Decision
 {
     let end = words::parse_identifier(s, start);
     let mut sizes = Sizes::none().add(1, end - start);
-    let mut at = text::gap_end(s, end);
+    let mut at = gaps::gap_end(s, end);
     while at < s.len() {
         let step = parse_data_item_or_save_frame(s, at);
         match step {
@@ -714,8 +714,8 @@ pub fn lex_cif(s: &[u8]) -> Decision
     requires { ⌜ length (now s) ≤ limit ⌝ }
     ensures { λ r. ⌜ told r ≡ tells (decided (now (s .entry))) ⌝ }
 {
-    let at = text::gap_end(s, 0);
-    if !words::at_data(s, at) {
+    let at = gaps::gap_end(s, 0);
+    if !keywords::at_data(s, at) {
         return Decision::NoData { at };
     }
     parse_data_block(s, at)

@@ -5,11 +5,11 @@ use mathlib.Core.Bool.{Bool, true, false, cond, _&&_, _||_}
 use mathlib.Core.List.{List, [], _∷_, _++_}
 use mathlib.Core.Option.{Option, none, some}
 use lib.Dec.{eqb}
-use Rattle.text.specs.declared.Report.{Report}
-use Rattle.text.specs.Reports.{success, refusedBare}
-use Rattle.records.specs.declared.Entry.{Entry}
-use Rattle.records.specs.declared.Entry.the-variants.{Record, Nothing}
-use Rattle.records.specs.Kinds.{numberOf}
+use Rattle.places.specs.declared.Report.{Report}
+use Rattle.places.specs.Reports.{success, refusedBare}
+use Rattle.entries.specs.declared.Entry.{Entry}
+use Rattle.entries.specs.declared.Entry.the-variants.{Record, Nothing}
+use Rattle.kinds.specs.Kinds.{numberOf}
 use Rattle.stores.specs.Walk.{entries}
 use Rattle.stores.specs.Contents.{contentBytes}
 use Rattle.stores.specs.Soundness.{sound}

@@ -2,14 +2,14 @@
 ghost use mathlib.Core.Path.{_≡_};
 ghost use Prim.Native.Nat.{ℕ, _+_, _-_, _≤_, _<_, min};
 ghost use lib.ListN.{length, take};
-ghost use Rattle.text.specs.Reports.{refusedBare};
+ghost use Rattle.places.specs.Reports.{refusedBare};
 ghost use Rattle.naming.specs.Names.{sameName, sameBoth, scopeAfter, names, firstSame, repeatFrom, namingOf, nameCheck, namingReport};
 ghost use Rattle.naming.specs.Table.{mix as mixOf, hashOf, markOf, freeIn, known, entered, noted, repeatsIn, Swept, FreshTo};
 ghost use Rattle.naming.specs.Steps.{isNameKind, part, nameOf, Inside, Holds, namesAt, Counted, first, Ahead, Reached, earlierOf};
-use records::Entry;
-use records::Fields;
-use records::Kind;
-use text::Report;
+use entries::Entry;
+use entries::Fields;
+use kinds::Kind;
+use places::Report;
 
 // The name check's answer: no name stands twice; 12; or 13 with two record numbers.
 pub enum Naming {
@@ -177,7 +177,7 @@ fn next_name(store: &[u8], area: &[u8], spot: Spot) -> Next
     let mut number = spot.number;
     let mut scope = spot.scope;
     while at < store.len() {
-        let Entry::Record { kind, fields, next } = records::read_record(store, at) else {
+        let Entry::Record { kind, fields, next } = entries::read_record(store, at) else {
             return Next::End;
         };
         let k = kind.number();

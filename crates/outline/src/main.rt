@@ -3,7 +3,7 @@ ghost use Prim.Native.Nat.{_+_, _≤_};
 ghost use lib.ListN.{length};
 use libc::STDIN_FILENO;
 use libc::STDOUT_FILENO;
-use text::Report;
+use places::Report;
 
 // The longest text that is taken, and the bytes of the store.
 const LIMIT: usize = 65536;
@@ -53,7 +53,7 @@ fn say_records(store: &[u8]) {
     let mut at = 0;
     while at < store.len() {
         let kind = store[at];
-        let length = records::outline_length(kind);
+        let length = kinds::outline_length(kind);
         let from = at + 1;
         if store.len() - from < length {
             return;

@@ -13,20 +13,20 @@ use Rattle.text.specs.Runs.{span}
 use Rattle.text.proofs.Bools.{and-l, and-r, or-cases}
 use Rattle.text.proofs.Ranges.{allBelow}
 use Rattle.words.specs.Words.{inWord, word}
-use Rattle.words.specs.Keywords.{lower, starts, keyData, keyLoop, keySave, keyGlobal, keyStop, reserved}
+use Rattle.keywords.specs.Keywords.{lower, starts, keyData, keyLoop, keySave, keyGlobal, keyStop, reserved}
 use Rattle.numbers.specs.declared.Decimal.{Decimal}
 use Rattle.numbers.specs.Parts.{cut, consGot, digits, sign, point, absent, isEmpty, exponent, bracket, parts, isNumber}
 use Rattle.numbers.specs.Spelling.{renderNumber, Kept}
 use Rattle.numbers.proofs.Made.{all, others, number-made}
 use Rattle.numbers.proofs.Spelled.{number-is}
-use Rattle.records.specs.declared.Fields.{Fields}
-use Rattle.records.specs.declared.Kind.{Kind}
-use Rattle.records.specs.declared.Kind.the-variants.{NoKind, Block, FrameOpen, FrameClose, Tag, Loop, LoopTag, LoopEnd, Inapplicable, Unknown, Bare, SingleQuoted, DoubleQuoted, Multiline, Number, Uncertain}
-use Rattle.records.specs.declared.Parts.{Parts}
-use Rattle.records.specs.declared.Shape.{Shape}
-use Rattle.records.specs.declared.Shape.the-variants.{Empty, Place, Content, Count, Parts as PartsShape, PartsUncertain}
-use Rattle.records.specs.Kinds.{kindOf, numberOf, shapeOf, isContent, marksOf}
-use Rattle.records.specs.Entries.{noParts, isKind as isKindOf}
+use Rattle.entries.specs.declared.Fields.{Fields}
+use Rattle.kinds.specs.declared.Kind.{Kind}
+use Rattle.kinds.specs.declared.Kind.the-variants.{NoKind, Block, FrameOpen, FrameClose, Tag, Loop, LoopTag, LoopEnd, Inapplicable, Unknown, Bare, SingleQuoted, DoubleQuoted, Multiline, Number, Uncertain}
+use Rattle.entries.specs.declared.Parts.{Parts}
+use Rattle.kinds.specs.declared.Shape.{Shape}
+use Rattle.kinds.specs.declared.Shape.the-variants.{Empty, Place, Content, Count, Parts as PartsShape, PartsUncertain}
+use Rattle.kinds.specs.Kinds.{kindOf, numberOf, shapeOf, isContent, marksOf}
+use Rattle.entries.specs.Entries.{noParts, isKind as isKindOf}
 use Rattle.values.specs.Values.{Class, block, loop, save, tag, value, overLimit, nothing, Lexed, lexed, numberOr, wordOr, lexValue, lexAsValue}
 use Rattle.values.proofs.Laws.{Lies, value-lies}
 use Rattle.items.specs.Tokens.{Mode, inBlock, inFrame, saveSize, lexIn}

@@ -15,17 +15,17 @@ use Rattle.text.specs.Runs.{span}
 use Rattle.text.proofs.Bools.{and-l, and-r}
 use Rattle.text.proofs.Runs.{span-le}
 use Rattle.words.specs.Words.{inWord, word}
-use Rattle.words.specs.Keywords.{keyData, keySave}
+use Rattle.keywords.specs.Keywords.{keyData, keySave}
 use Rattle.words.proofs.Words.{word-fits}
-use Rattle.words.proofs.Quotes.{Ends, quote-ends, field-ends}
+use Rattle.quotes.proofs.Quotes.{Ends, quote-ends, field-ends}
 use Rattle.numbers.specs.declared.Decimal.{Decimal}
 use Rattle.numbers.proofs.Made.{all}
 use Rattle.numbers.proofs.Facts.{Bounded}
-use Rattle.records.specs.declared.Kind.{Kind}
-use Rattle.records.specs.declared.Kind.the-variants.{NoKind, Block, FrameOpen, FrameClose, Tag, Loop, LoopTag, LoopEnd, Inapplicable, Unknown, Bare, SingleQuoted, DoubleQuoted, Multiline, Number, Uncertain}
+use Rattle.kinds.specs.declared.Kind.{Kind}
+use Rattle.kinds.specs.declared.Kind.the-variants.{NoKind, Block, FrameOpen, FrameClose, Tag, Loop, LoopTag, LoopEnd, Inapplicable, Unknown, Bare, SingleQuoted, DoubleQuoted, Multiline, Number, Uncertain}
 use Rattle.records.specs.Bytes.{flag}
-use Rattle.records.specs.Kinds.{kindOf, numberOf, shapeOf, marksOf, opening, isContent, hasContent}
-use Rattle.records.specs.Entries.{stored}
+use Rattle.kinds.specs.Kinds.{kindOf, numberOf, shapeOf, marksOf, opening, isContent, hasContent}
+use Rattle.entries.specs.Entries.{stored}
 use Rattle.values.specs.Values.{tag, value, Lexed, lexed, lexAsValue}
 use Rattle.values.proofs.Views.{Read, missing, point, unknown, bare, quote, double, multi, number, over, view}
 use Rattle.values.proofs.Laws.{Lies, value-lies}

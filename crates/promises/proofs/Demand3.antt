@@ -14,7 +14,7 @@ use lib.Dec.{ltb}
 use lib.ListN.{length, getD}
 use Rattle.text.specs.Bytes.{is, isAscii, isEol}
 use Rattle.text.specs.Runs.{span}
-use Rattle.text.specs.Places.{placeAt}
+use Rattle.places.specs.Places.{placeAt}
 use Rattle.text.proofs.Bools.{or-l, or-r}
 use Rattle.items.specs.Tokens.{before, tokens}
 use Rattle.items.specs.Machine.{Rec, Answer, refused, done, config, start}

@@ -7,12 +7,12 @@ use mathlib.Core.List.{List, [], _∷_, _++_}
 use native.Mathlib.Omega.{arith}
 use lib.ListN.{length, getD}
 use Rattle.text.specs.Bytes.{is, isAscii, isDigit, isEol}
-use Rattle.text.specs.Reports.{success}
+use Rattle.places.specs.Reports.{success}
 use Rattle.numbers.specs.Spelling.{padded, trim, plain, signBytes, uncBytes, expBytes, fracBytes, renderNumber}
 use Rattle.records.specs.Bytes.{le32, le64, signed32, flag}
 use Rattle.records.specs.Records.{tokenBytes, decimalBytes, endRecord, placeRecord, contentRecord, loopRecord, numberRecord, uncertainRecord}
 use Rattle.records.specs.Put.{front}
-use Rattle.records.specs.Entries.{de32, de64, noParts, tokenOf as tokenAt, partsOf, plainFields, partsFields, fieldsOf, isKind, entryOf, entryAt}
+use Rattle.entries.specs.Entries.{de32, de64, noParts, tokenOf as tokenAt, partsOf, plainFields, partsFields, fieldsOf, isKind, entryOf, entryAt}
 use Rattle.items.specs.Machine.{Rec}
 use Rattle.writing.specs.Writing.{tokenOf, tokenText, decimalOf, shaped, shapeIn, recordBytes, tagsOf, storeOf}
 use Rattle.reading.specs.Services.{writtenIf, readStoreBy, readStore, readAreaBy, readArea}

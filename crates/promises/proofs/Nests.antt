@@ -12,15 +12,15 @@ use lib.Seq.{getD-drop}
 use Rattle.text.specs.Bytes.{isAscii}
 use Rattle.text.proofs.Bools.{and-l, and-r}
 use Rattle.numbers.proofs.Made.{all}
-use Rattle.records.specs.declared.Entry.{Entry}
-use Rattle.records.specs.declared.Entry.the-variants.{Record, Nothing}
-use Rattle.records.specs.declared.Fields.{Fields}
-use Rattle.records.specs.declared.Kind.{Kind}
-use Rattle.records.specs.declared.Kind.the-variants.{NoKind, Block, FrameOpen, FrameClose, Tag, Loop, LoopTag, LoopEnd, Inapplicable, Unknown, Bare, SingleQuoted, DoubleQuoted, Multiline, Number, Uncertain}
-use Rattle.records.specs.declared.Shape.{Shape}
-use Rattle.records.specs.declared.Shape.the-variants.{Empty, Place, Content, Count, Parts as PartsShape, PartsUncertain}
-use Rattle.records.specs.Kinds.{kindOf, numberOf, shapeOf, shapeLength, bodyLength, isContent}
-use Rattle.records.specs.Entries.{de32, partsOf, plainFields, partsFields, fieldsOf, isKind, entryOf, entryAt}
+use Rattle.entries.specs.declared.Entry.{Entry}
+use Rattle.entries.specs.declared.Entry.the-variants.{Record, Nothing}
+use Rattle.entries.specs.declared.Fields.{Fields}
+use Rattle.kinds.specs.declared.Kind.{Kind}
+use Rattle.kinds.specs.declared.Kind.the-variants.{NoKind, Block, FrameOpen, FrameClose, Tag, Loop, LoopTag, LoopEnd, Inapplicable, Unknown, Bare, SingleQuoted, DoubleQuoted, Multiline, Number, Uncertain}
+use Rattle.kinds.specs.declared.Shape.{Shape}
+use Rattle.kinds.specs.declared.Shape.the-variants.{Empty, Place, Content, Count, Parts as PartsShape, PartsUncertain}
+use Rattle.kinds.specs.Kinds.{kindOf, numberOf, shapeOf, shapeLength, bodyLength, isContent}
+use Rattle.entries.specs.Entries.{de32, partsOf, plainFields, partsFields, fieldsOf, isKind, entryOf, entryAt}
 use Rattle.values.specs.Values.{tag, loop, save, value}
 use Rattle.stores.specs.Walk.{onward, entriesFrom, entries}
 use Rattle.stores.specs.declared.Stand.{Stand}

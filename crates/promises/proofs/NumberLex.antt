@@ -13,7 +13,7 @@ use Rattle.text.specs.Runs.{span}
 use Rattle.text.proofs.Bools.{and-l, and-r}
 use Rattle.text.proofs.Ranges.{allBelow}
 use Rattle.words.specs.Words.{isOrdinary, word, inWord}
-use Rattle.words.specs.Keywords.{lower, starts, keyData, keyGlobal, keyLoop, keySave, keyStop}
+use Rattle.keywords.specs.Keywords.{lower, starts, keyData, keyGlobal, keyLoop, keySave, keyStop}
 use Rattle.numbers.specs.Parts.{isEmpty}
 use Rattle.numbers.specs.declared.Decimal.{Decimal}
 use Rattle.numbers.specs.Cif.{allDigits, minus}

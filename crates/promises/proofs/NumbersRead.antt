@@ -13,8 +13,8 @@ use lib.ListN.{length, take, drop, getD}
 use Rattle.text.specs.Bytes.{is, isDigit}
 use Rattle.text.proofs.Bools.{and-l, and-r}
 use Rattle.words.specs.Words.{word, isOrdinary}
-use Rattle.words.specs.Keywords.{reserved}
-use Rattle.words.specs.Quotes.{quoted, field}
+use Rattle.keywords.specs.Keywords.{reserved}
+use Rattle.quotes.specs.Quotes.{quoted, field}
 use Rattle.numbers.specs.declared.Decimal.{Decimal}
 use Rattle.numbers.specs.declared.Number.the-variants.{Is}
 use Rattle.numbers.specs.Parts.{parts, isNumber, within, value as valueOf, valueFrom}
@@ -24,16 +24,16 @@ use Rattle.numbers.specs.Cif.{CifNumeric, exact, uncertain, cifMeaning, cifWith
 use Rattle.numbers.proofs.Facts.{Bounded, no-number-by-first-byte, dot-alone}
 use Rattle.numbers.proofs.Cif.{Means, cif-is-number, cif-means}
 use Rattle.numbers.proofs.CifBack.{Out, Standard, number-is-cif}
-use Rattle.records.specs.declared.Entry.{Entry}
-use Rattle.records.specs.declared.Entry.the-variants.{Record, Nothing}
-use Rattle.records.specs.declared.Fields.{Fields}
-use Rattle.records.specs.declared.Kind.{Kind}
-use Rattle.records.specs.declared.Kind.the-variants.{Number, Uncertain}
-use Rattle.records.specs.declared.Shape.{Shape}
-use Rattle.records.specs.declared.Shape.the-variants.{Empty, Place, Content, Count, Parts, PartsUncertain}
+use Rattle.entries.specs.declared.Entry.{Entry}
+use Rattle.entries.specs.declared.Entry.the-variants.{Record, Nothing}
+use Rattle.entries.specs.declared.Fields.{Fields}
+use Rattle.kinds.specs.declared.Kind.{Kind}
+use Rattle.kinds.specs.declared.Kind.the-variants.{Number, Uncertain}
+use Rattle.kinds.specs.declared.Shape.{Shape}
+use Rattle.kinds.specs.declared.Shape.the-variants.{Empty, Place, Content, Count, Parts, PartsUncertain}
 use Rattle.records.specs.Bytes.{flag}
-use Rattle.records.specs.Kinds.{kindOf, numberOf, shapeOf}
-use Rattle.records.specs.Entries.{stored}
+use Rattle.kinds.specs.Kinds.{kindOf, numberOf, shapeOf}
+use Rattle.entries.specs.Entries.{stored}
 use Rattle.values.specs.Values.{Class, Reason, value, overLimit, nothing, openQuote, openField, Lexed, lexed, numberOr, wordOr, closed, lexValue, lexAsValue}
 use Rattle.items.specs.Machine.{Rec, loopEnd}
 use Rattle.items.proofs.Lexes.{pick}

@@ -4,9 +4,9 @@ use Prim.Native.Nat.{ℕ}
 use mathlib.Core.Bool.{cond}
 use mathlib.Core.Path.{_≡_, refl, sym, ap, _∙_}
 use lib.Dec.{eqb}
-use Rattle.text.specs.Reports.{success, refusedAt, refusedBare, noRoom}
-use Rattle.text.specs.declared.Place.{Place}
-use Rattle.text.specs.declared.Report.{Report}
+use Rattle.places.specs.Reports.{success, refusedAt, refusedBare, noRoom}
+use Rattle.places.specs.declared.Place.{Place}
+use Rattle.places.specs.declared.Report.{Report}
 use Rattle.items.specs.declared.Decision.{Decision}
 use Rattle.items.specs.declared.Decision.the-variants.{Fits, NoData as NoBlock, OpenFrame as FrameOpen, Ragged as RaggedLoop, NoValue as ValueAbsent, NoItem as ItemAbsent, NoNames as NamesAbsent, Over}
 use Rattle.items.specs.Decisions.{Told, refusal, room, told}

@@ -5,10 +5,10 @@ use mathlib.Core.Bool.{Bool, true, false, cond}
 use mathlib.Core.Path.{_≡_, refl, sym, ap, ap₂, _∙_}
 use mathlib.Core.List.{List, [], _∷_, _++_}
 use lib.ListN.{length}
-use Rattle.text.specs.Places.{placeAt}
-use Rattle.records.specs.declared.Shape.{Shape}
-use Rattle.records.specs.declared.Shape.the-variants.{Empty, Place, Content, Count, Parts, PartsUncertain}
-use Rattle.records.specs.Kinds.{kindOf, shapeOf, outlineShape}
+use Rattle.places.specs.Places.{placeAt}
+use Rattle.kinds.specs.declared.Shape.{Shape}
+use Rattle.kinds.specs.declared.Shape.the-variants.{Empty, Place, Content, Count, Parts, PartsUncertain}
+use Rattle.kinds.specs.Kinds.{kindOf, shapeOf, outlineShape}
 use Rattle.items.specs.Machine.{Rec, Answer, refused, done}
 use Rattle.items.specs.Sizes.{contentSize}
 use Rattle.items.specs.Reading.{outline}

@@ -8,8 +8,8 @@ use borrow.Author.Tests.{eqb-true}
 use lib.Dec.{eqb}
 use lib.ListN.{take}
 use Rattle.text.specs.Bytes.{is, isEol}
-use Rattle.text.specs.declared.Scan.{Scan}
-use Rattle.text.specs.Places.{start, step, scan, scanAt, placeAt}
+use Rattle.places.specs.declared.Scan.{Scan}
+use Rattle.places.specs.Places.{start, step, scan, scanAt, placeAt}
 
 pub take-map : (f : ℕ → ℕ) (n : ℕ) (s : List ℕ) → take n (map f s) ≡ map f (take n s)
 take-map f zero s = refl

@@ -12,12 +12,12 @@ use lib.Seq.{drop-at, take-at}
 use Rattle.text.specs.Bytes.{isAscii}
 use Rattle.text.specs.Runs.{span}
 use Rattle.text.proofs.Bools.{and-l, and-r}
-use Rattle.text.specs.Reports.{success, refusedAt, refusedBare, noRoom}
-use Rattle.records.specs.declared.Kind.{Kind}
-use Rattle.records.specs.declared.Shape.{Shape}
-use Rattle.records.specs.declared.Shape.the-variants.{Empty, Place, Content as ContentShape, Count, Parts, PartsUncertain}
-use Rattle.records.specs.Kinds.{kindOf, shapeOf, marksOf, isContent, hasContent}
-use Rattle.records.specs.Entries.{stored}
+use Rattle.places.specs.Reports.{success, refusedAt, refusedBare, noRoom}
+use Rattle.kinds.specs.declared.Kind.{Kind}
+use Rattle.kinds.specs.declared.Shape.{Shape}
+use Rattle.kinds.specs.declared.Shape.the-variants.{Empty, Place, Content as ContentShape, Count, Parts, PartsUncertain}
+use Rattle.kinds.specs.Kinds.{kindOf, shapeOf, marksOf, isContent, hasContent}
+use Rattle.entries.specs.Entries.{stored}
 use Rattle.items.specs.Machine.{Rec, Answer, refused, done}
 use Rattle.items.specs.Reading.{outline}
 use Rattle.items.specs.Sizes.{contentSize, storeSize, areaSize}

@@ -8,8 +8,8 @@ use native.Mathlib.Omega.{arith}
 use borrow.Author.Tests.{le-ltb}
 use lib.ListN.{length, take, length-append}
 use lib.Seq.{take-at}
-use Rattle.text.specs.Reports.{success}
-use Rattle.records.specs.Kinds.{kindOf, shapeOf, bodyLength}
+use Rattle.places.specs.Reports.{success}
+use Rattle.kinds.specs.Kinds.{kindOf, shapeOf, bodyLength}
 use Rattle.records.specs.Put.{front}
 use Rattle.items.specs.Machine.{Rec, done}
 use Rattle.items.specs.Reading.{outline}

@@ -3,15 +3,15 @@ use Prim.Native.Nat.{ℕ}
 use mathlib.Core.Path.{refl}
 use Rattle.text.specs.Bytes.{is, isAscii, isDigit, isEol, isSpace, endsWord}
 use Rattle.text.specs.Runs.{span}
-use Rattle.text.specs.Gaps.{gapByte, gapThen, gapIn, gap}
-use Rattle.text.specs.Places.{step as scanStep, scan, scanAt, placeAt}
-use Rattle.text.specs.Reports.{success, refusedAt, refusedBare, noRoom}
+use Rattle.gaps.specs.Gaps.{gapByte, gapThen, gapIn, gap}
+use Rattle.places.specs.Places.{step as scanStep, scan, scanAt, placeAt}
+use Rattle.places.specs.Reports.{success, refusedAt, refusedBare, noRoom}
 use Rattle.words.specs.Words.{inWord, word, isOrdinary}
-use Rattle.words.specs.Keywords.{lower, starts, keyData, keyGlobal, keyLoop, keySave, keyStop, reserved}
-use Rattle.words.specs.Quotes.{more, quoted, fieldIn, field}
+use Rattle.keywords.specs.Keywords.{lower, starts, keyData, keyGlobal, keyLoop, keySave, keyStop, reserved}
+use Rattle.quotes.specs.Quotes.{more, quoted, fieldIn, field}
 use Rattle.numbers.specs.Parts.{cut, consGot, digits, sign, point, absent, signedDigits, isEmpty, exponent, close, bracket, parts, isNumber, within, valueFrom, value, minus}
 use Rattle.numbers.specs.Meaning.{meaning}
-use Rattle.records.specs.Kinds.{kindOf, shapeOf, shapeLength, marksOf, opening, bodyLength, isContent, hasContent}
+use Rattle.kinds.specs.Kinds.{kindOf, shapeOf, shapeLength, marksOf, opening, bodyLength, isContent, hasContent}
 use Rattle.values.specs.Values.{lexed, numberOr, wordOr, closed, lexValue, lexAsValue}
 use Rattle.values.specs.Answers.{whyOf, answer, valueAnswer}
 use Rattle.items.specs.Tokens.{saveSize, lexIn, lex, after, tok, emit, step, tokensFrom, tokens}

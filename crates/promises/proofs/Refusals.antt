@@ -10,8 +10,8 @@ use lib.Dec.{ltb, eqb}
 use lib.ListN.{length}
 use Rattle.text.specs.Bytes.{isAscii}
 use Rattle.text.specs.Runs.{span}
-use Rattle.text.specs.Places.{placeAt}
-use Rattle.text.specs.Reports.{success, refusedAt, refusedBare, noRoom}
+use Rattle.places.specs.Places.{placeAt}
+use Rattle.places.specs.Reports.{success, refusedAt, refusedBare, noRoom}
 use Rattle.values.specs.Values.{Class, block, loop, save, tag, value, overLimit, nothing, atEnd, reservedWord, noStart, openQuote, openField}
 use Rattle.items.specs.Tokens.{Tok, tokens}
 use Rattle.items.specs.Machine.{Rec, Answer, refused, done, State, start, items, names, values, wants, Config, config, Outcome, go, stop, rec, loopEnd, closes, fails, atItem, loopEnds, atValue, noMoreNames, atName, atWant, atStart, move, follow, run}

@@ -13,19 +13,19 @@ use lib.Dec.{eqb}
 use lib.ListN.{length, take, drop}
 use lib.Seq.{take-append-seam}
 use Rattle.text.specs.Bytes.{is, isSpace, isAscii, endsWord}
-use Rattle.text.specs.Gaps.{gap, gapIn, gapByte, gapThen}
+use Rattle.gaps.specs.Gaps.{gap, gapIn, gapByte, gapThen}
 use Rattle.text.specs.Runs.{span}
-use Rattle.text.specs.Reports.{success}
+use Rattle.places.specs.Reports.{success}
 use Rattle.text.proofs.Bools.{or-cases, and-l, and-r}
-use Rattle.words.specs.Keywords.{lower, starts, keyData}
+use Rattle.keywords.specs.Keywords.{lower, starts, keyData}
 use Rattle.words.specs.Words.{inWord, word}
 use Rattle.values.specs.Values.{block, lexed}
-use Rattle.records.specs.declared.Entry.{Entry}
-use Rattle.records.specs.declared.Entry.the-variants.{Record, Nothing}
-use Rattle.records.specs.declared.Fields.{Fields}
-use Rattle.records.specs.declared.Kind.{Kind}
-use Rattle.records.specs.declared.Kind.the-variants.{Block}
-use Rattle.records.specs.Kinds.{kindOf, numberOf, shapeOf, isContent}
+use Rattle.entries.specs.declared.Entry.{Entry}
+use Rattle.entries.specs.declared.Entry.the-variants.{Record, Nothing}
+use Rattle.entries.specs.declared.Fields.{Fields}
+use Rattle.kinds.specs.declared.Kind.{Kind}
+use Rattle.kinds.specs.declared.Kind.the-variants.{Block}
+use Rattle.kinds.specs.Kinds.{kindOf, numberOf, shapeOf, isContent}
 use Rattle.records.specs.Put.{front}
 use Rattle.items.specs.Tokens.{before, inBlock, lex, after, tok, tokensFrom, tokens}
 use Rattle.items.specs.Machine.{Rec, done, start, config, go, rec, loopEnd, atStart, move, follow, run}

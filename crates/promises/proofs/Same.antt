@@ -10,22 +10,22 @@ use lib.Dec.{eqb, leb, ltb}
 use lib.ListN.{length, take, drop, length-append}
 use lib.Seq.{drop-append-add, drop-append-seam, take-append-seam, drop-at, take-at}
 use Rattle.text.proofs.Bools.{and-l}
-use Rattle.words.specs.Keywords.{keyData, keySave}
+use Rattle.keywords.specs.Keywords.{keyData, keySave}
 use Rattle.numbers.specs.declared.Decimal.{Decimal}
 use Rattle.numbers.specs.Parts.{parts}
 use Rattle.numbers.specs.Meaning.{meaning}
 use Rattle.numbers.specs.Spelling.{renderNumber}
 use Rattle.numbers.proofs.Spelled.{number-means}
-use Rattle.records.specs.declared.Entry.{Entry}
-use Rattle.records.specs.declared.Entry.the-variants.{Record, Nothing}
-use Rattle.records.specs.declared.Fields.{Fields}
-use Rattle.records.specs.declared.Kind.{Kind}
-use Rattle.records.specs.declared.Kind.the-variants.{NoKind, Block, FrameOpen, FrameClose, Tag, Loop, LoopTag, LoopEnd, Inapplicable, Unknown, Bare, SingleQuoted, DoubleQuoted, Multiline, Number, Uncertain}
-use Rattle.records.specs.declared.Parts.{Parts}
-use Rattle.records.specs.declared.Shape.the-variants.{Parts as PartsShape, PartsUncertain}
-use Rattle.records.specs.Kinds.{kindOf, numberOf, shapeOf, shapeLength, bodyLength, marksOf, opening, isContent, hasContent}
+use Rattle.entries.specs.declared.Entry.{Entry}
+use Rattle.entries.specs.declared.Entry.the-variants.{Record, Nothing}
+use Rattle.entries.specs.declared.Fields.{Fields}
+use Rattle.kinds.specs.declared.Kind.{Kind}
+use Rattle.kinds.specs.declared.Kind.the-variants.{NoKind, Block, FrameOpen, FrameClose, Tag, Loop, LoopTag, LoopEnd, Inapplicable, Unknown, Bare, SingleQuoted, DoubleQuoted, Multiline, Number, Uncertain}
+use Rattle.entries.specs.declared.Parts.{Parts}
+use Rattle.kinds.specs.declared.Shape.the-variants.{Parts as PartsShape, PartsUncertain}
+use Rattle.kinds.specs.Kinds.{kindOf, numberOf, shapeOf, shapeLength, bodyLength, marksOf, opening, isContent, hasContent}
 use Rattle.records.specs.Bytes.{flag}
-use Rattle.records.specs.Entries.{noParts, stored, isKind}
+use Rattle.entries.specs.Entries.{noParts, stored, isKind}
 use Rattle.items.specs.Machine.{Rec, loopEnd}
 use Rattle.items.specs.Sizes.{contentSize, storeSize, areaSize}
 use Rattle.writing.specs.Writing.{tokenText as textOf, contentOf, decimalOf as readDecimal}

@@ -6,18 +6,21 @@ use mathlib.Core.Path.{_≡_, refl, sym, ap, _∙_, fun-ext}
 use mathlib.Core.List.{List, [], _∷_, map}
 use lib.ListN.{take, length-map}
 use Rattle.text.specs.Bytes.{isDigit, is, isAscii}
-use Rattle.text.specs.Gaps.{gap}
-use Rattle.text.specs.Places.{placeAt}
+use Rattle.gaps.specs.Gaps.{gap}
+use Rattle.places.specs.Places.{placeAt}
 use Rattle.text.proofs.Ranges.{allBelow}
 use Rattle.words.specs.Words.{word}
-use Rattle.words.specs.Keywords.{lower, starts, keyData, keyGlobal, keyLoop, keySave, keyStop}
+use Rattle.keywords.specs.Keywords.{lower, starts, keyData, keyGlobal, keyLoop, keySave, keyStop}
 use Rattle.numbers.specs.Parts.{parts}
 use Rattle.values.specs.Values.{Lexed, numberOr, wordOr, lexValue}
 use Rattle.items.specs.Tokens.{Mode, before, inBlock, inFrame, saveSize, lexIn, lex, step, tokensFrom, tokens}
 use Rattle.items.specs.Reading.{decided, outline}
 use Rattle.promises.proofs.Places.{take-map, placeAt-w}
-use Rattle.text.proofs.Shape.{σ, flat, blind, is-σ, gap-σ, span-σ}
-use Rattle.words.proofs.Shape.{word-σ, starts-σ, noDigit, quoted-σ, field-σ, ordinary-σ}
+use Rattle.text.proofs.Shape.{σ, flat, blind, is-σ, span-σ}
+use Rattle.gaps.proofs.Shape.{gap-σ}
+use Rattle.words.proofs.Shape.{word-σ, ordinary-σ}
+use Rattle.keywords.proofs.Shape.{starts-σ, noDigit}
+use Rattle.quotes.proofs.Shape.{quoted-σ, field-σ}
 use Rattle.numbers.proofs.Shape.{isNumber-σ, within-σ, here-σ}
 
 pub numberOr-σ : (x : Lexed) (w : List ℕ) (n : ℕ) → numberOr x (parts (map σ w)) n ≡ numberOr x (parts w) n

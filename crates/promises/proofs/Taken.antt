@@ -14,8 +14,8 @@ use lib.ListN.{length, drop, length-drop}
 use lib.Seq.{drop-drop}
 use Rattle.text.specs.Bytes.{isAscii}
 use Rattle.text.specs.Runs.{span}
-use Rattle.text.specs.Gaps.{gap}
-use Rattle.text.proofs.Gaps.{gap-fits}
+use Rattle.gaps.specs.Gaps.{gap}
+use Rattle.gaps.proofs.Gaps.{gap-fits}
 use Rattle.values.specs.Values.{Class, block, loop, save, tag, value, overLimit, nothing, atEnd, reservedWord, noStart, openQuote, openField, Lexed, lexed}
 use Rattle.items.specs.Tokens.{Mode, before, inBlock, inFrame, lex, after, Tok, tok, emit, step, tokensFrom, tokens}
 use Rattle.items.specs.Machine.{Rec, Answer, refused, done, State, start, items, names, values, wants, Config, config, Outcome, go, stop, rec, loopEnd, closes, fails, atItem, loopEnds, atValue, noMoreNames, atName, atWant, atStart, move, follow, run}

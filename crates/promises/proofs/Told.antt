@@ -7,13 +7,13 @@ use native.Mathlib.Omega.{arith}
 use lib.ListN.{length, take, drop, length-append, length-take, length-drop}
 use lib.Seq.{drop-at, take-at}
 use Rattle.numbers.specs.declared.Decimal.{Decimal}
-use Rattle.records.specs.declared.Kind.{Kind}
-use Rattle.records.specs.declared.Kind.the-variants.{NoKind, Block, FrameOpen, FrameClose, Tag, Loop, LoopTag, LoopEnd, Inapplicable, Unknown, Bare, SingleQuoted, DoubleQuoted, Multiline, Number, Uncertain}
-use Rattle.records.specs.declared.Parts.{Parts}
-use Rattle.records.specs.declared.Shape.{Shape}
-use Rattle.records.specs.declared.Shape.the-variants.{Empty, Place, Content, Count, Parts as PartsShape, PartsUncertain}
-use Rattle.records.specs.Kinds.{kindOf, shapeOf, marksOf, opening, isContent, hasContent}
-use Rattle.records.specs.Entries.{stored, noParts}
+use Rattle.kinds.specs.declared.Kind.{Kind}
+use Rattle.kinds.specs.declared.Kind.the-variants.{NoKind, Block, FrameOpen, FrameClose, Tag, Loop, LoopTag, LoopEnd, Inapplicable, Unknown, Bare, SingleQuoted, DoubleQuoted, Multiline, Number, Uncertain}
+use Rattle.entries.specs.declared.Parts.{Parts}
+use Rattle.kinds.specs.declared.Shape.{Shape}
+use Rattle.kinds.specs.declared.Shape.the-variants.{Empty, Place, Content, Count, Parts as PartsShape, PartsUncertain}
+use Rattle.kinds.specs.Kinds.{kindOf, shapeOf, marksOf, opening, isContent, hasContent}
+use Rattle.entries.specs.Entries.{stored, noParts}
 use Rattle.items.specs.Machine.{Rec}
 use Rattle.items.specs.Sizes.{contentSize}
 use Rattle.writing.specs.Writing.{tokenOf, contentOf, decimalOf, storeOf, areaOf, tagsOf}

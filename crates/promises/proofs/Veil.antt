@@ -12,21 +12,23 @@ use lib.ListN.{length, take, length-map}
 use lib.Seq.{length-take-le, take-take}
 use Rattle.text.specs.Bytes.{isDigit, is, isEol, endsWord}
 use Rattle.text.specs.Runs.{span}
-use Rattle.text.specs.Gaps.{gapByte, gapThen, gapIn, gap}
+use Rattle.gaps.specs.Gaps.{gapByte, gapThen, gapIn, gap}
 use Rattle.text.proofs.Ranges.{allBelow}
 use Rattle.text.proofs.Runs.{span-le}
 use Rattle.text.proofs.Bools.{and-l, and-r, or-l, or-r}
 use Rattle.words.specs.Words.{isOrdinary, inWord, word}
-use Rattle.words.specs.Keywords.{lower, starts, keyData, keyGlobal, keyLoop, keySave, keyStop}
-use Rattle.words.specs.Quotes.{more, quoted, fieldIn, field}
+use Rattle.keywords.specs.Keywords.{lower, starts, keyData, keyGlobal, keyLoop, keySave, keyStop}
+use Rattle.quotes.specs.Quotes.{more, quoted, fieldIn, field}
 use Rattle.numbers.specs.Parts.{Parts, parts, isNumber, within}
 use Rattle.numbers.proofs.Made.{all, others, number-made}
 use Rattle.values.specs.Values.{Class, block, loop, save, tag, value, overLimit, nothing, Reason, openQuote, openField, Lexed, lexed, numberOr, wordOr, closed, lexValue}
 use Rattle.items.specs.Tokens.{Mode, before, inBlock, inFrame, saveSize, lexIn, lex, after, Tok, emit, step, tokensFrom}
 use Rattle.promises.specs.Differences.{isMark, isQuoted}
 use Rattle.promises.proofs.Places.{take-map}
-use Rattle.text.proofs.Shape.{σ, flat, blind, gap-σ, eol-σ, gapByte-σ}
-use Rattle.words.proofs.Shape.{word-σ, quoted-σ, field-σ, inWord-σ}
+use Rattle.text.proofs.Shape.{σ, flat, blind, eol-σ}
+use Rattle.gaps.proofs.Shape.{gap-σ, gapByte-σ}
+use Rattle.words.proofs.Shape.{word-σ, inWord-σ}
+use Rattle.quotes.proofs.Shape.{quoted-σ, field-σ}
 use Rattle.numbers.proofs.Shape.{ap-cond}
 use Rattle.promises.proofs.ShapeTokens.{numberOr-σ}
 

@@ -7,7 +7,7 @@ use native.Mathlib.Omega.{arith}
 use borrow.Author.Tests.{ltb-true}
 use lib.Dec.{ltb}
 use lib.ListN.{length, getD}
-use Rattle.text.specs.Gaps.{gap}
+use Rattle.gaps.specs.Gaps.{gap}
 use Rattle.text.specs.Bytes.{is, isEol, isDigit}
 use Rattle.text.proofs.Ranges.{allBelow, digit-not}
 use Rattle.text.proofs.Bools.{and-l, and-r}

@@ -8,9 +8,9 @@ use native.Mathlib.Nat.{zero-mod, zero-add}
 use borrow.Author.Tests.{eqb-true, eq-eqb, ne-eqb, le-leb}
 use lib.Dec.{eqb, leb}
 use lib.ListN.{drop}
-use Rattle.records.specs.declared.Entry.{Entry}
-use Rattle.records.specs.declared.Entry.the-variants.{Record, Nothing}
-use Rattle.records.specs.Kinds.{kindOf, numberOf, shapeOf}
+use Rattle.entries.specs.declared.Entry.{Entry}
+use Rattle.entries.specs.declared.Entry.the-variants.{Record, Nothing}
+use Rattle.kinds.specs.Kinds.{kindOf, numberOf, shapeOf}
 use Rattle.values.specs.Values.{value}
 use Rattle.values.proofs.Laws.{Lies, value-lies}
 use Rattle.items.specs.Machine.{Rec, loopEnd}

@@ -9,26 +9,26 @@ use native.Mathlib.Nat.{pow-le-pow-right}
 use borrow.Author.Tests.{eqb-true}
 use lib.Dec.{eqb}
 use lib.ListN.{length, drop, length-append}
-use Rattle.text.specs.Places.{placeAt}
-use Rattle.text.proofs.Places.{line-bound, column-bound}
+use Rattle.places.specs.Places.{placeAt}
+use Rattle.places.proofs.Places.{line-bound, column-bound}
 use Rattle.text.proofs.Ranges.{allBelow, passes}
 use Rattle.numbers.specs.declared.Decimal.{Decimal}
 use Rattle.numbers.specs.declared.Number.the-variants.{Is}
 use Rattle.numbers.specs.Meaning.{meaning, judged, numberOf as numberIn}
 use Rattle.numbers.proofs.Facts.{Bounded, number-facts}
-use Rattle.records.specs.declared.Entry.{Entry}
-use Rattle.records.specs.declared.Entry.the-variants.{Record, Nothing}
-use Rattle.records.specs.declared.Fields.{Fields}
-use Rattle.records.specs.declared.Kind.{Kind}
-use Rattle.records.specs.declared.Kind.the-variants.{NoKind, Block, FrameOpen, FrameClose, Tag, Loop, LoopTag, LoopEnd, Inapplicable, Unknown, Bare, SingleQuoted, DoubleQuoted, Multiline, Number, Uncertain}
-use Rattle.records.specs.declared.Shape.{Shape}
-use Rattle.records.specs.declared.Shape.the-variants.{Empty, Place, Content, Count, Parts, PartsUncertain}
+use Rattle.entries.specs.declared.Entry.{Entry}
+use Rattle.entries.specs.declared.Entry.the-variants.{Record, Nothing}
+use Rattle.entries.specs.declared.Fields.{Fields}
+use Rattle.kinds.specs.declared.Kind.{Kind}
+use Rattle.kinds.specs.declared.Kind.the-variants.{NoKind, Block, FrameOpen, FrameClose, Tag, Loop, LoopTag, LoopEnd, Inapplicable, Unknown, Bare, SingleQuoted, DoubleQuoted, Multiline, Number, Uncertain}
+use Rattle.kinds.specs.declared.Shape.{Shape}
+use Rattle.kinds.specs.declared.Shape.the-variants.{Empty, Place, Content, Count, Parts, PartsUncertain}
 use Rattle.records.specs.declared.Token.{Token}
-use Rattle.records.specs.Kinds.{kindOf, numberOf, shapeOf, shapeLength, bodyLength}
+use Rattle.kinds.specs.Kinds.{kindOf, numberOf, shapeOf, shapeLength, bodyLength}
 use Rattle.records.specs.Records.{endRecord}
-use Rattle.records.specs.Entries.{stored, noParts, noFields, entryAt}
+use Rattle.entries.specs.Entries.{stored, noParts, noFields, entryAt}
 use Rattle.records.proofs.Forms.{length-place, length-content, length-loop, length-number, length-uncertain}
-use Rattle.records.proofs.Back.{Fits, Small, end-back, place-back, content-back, loop-back, number-back, uncertain-back}
+use Rattle.entries.proofs.Back.{Fits, Small, end-back, place-back, content-back, loop-back, number-back, uncertain-back}
 use Rattle.items.specs.Machine.{Rec}
 use Rattle.items.specs.Sizes.{contentSize}
 use Rattle.items.proofs.Room.{content-small}

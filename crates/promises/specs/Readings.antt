@@ -7,8 +7,8 @@ use mathlib.Core.Path.{_≡_}
 use mathlib.Core.Bool.{Bool, true, false, cond}
 use mathlib.Core.List.{List, [], _∷_, map}
 use lib.Dec.{eqb}
-use Rattle.text.specs.declared.Report.{Report}
-use Rattle.text.specs.Places.{placeAt}
+use Rattle.places.specs.declared.Report.{Report}
+use Rattle.places.specs.Places.{placeAt}
 use Rattle.numbers.specs.declared.Decimal.{Decimal}
 use Rattle.values.specs.declared.Value.{Value}
 use Rattle.values.specs.declared.Value.the-variants.{Token, Number, Over}

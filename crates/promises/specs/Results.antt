@@ -2,7 +2,7 @@
 use Prim.Native.Nat.{ℕ}
 use mathlib.Core.List.{List}
 use lib.ListN.{length, take, drop}
-use Rattle.records.specs.declared.Fields.{Fields}
+use Rattle.entries.specs.declared.Fields.{Fields}
 use Rattle.reading.specs.Services.{readAnswer, readStore, readArea}
 use Rattle.rendering.specs.Rendering.{renderAnswer, renderOut}
 

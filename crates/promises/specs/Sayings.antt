@@ -5,12 +5,12 @@ use mathlib.Core.Path.{_≡_}
 use mathlib.Core.Bool.{Bool, cond}
 use mathlib.Core.List.{List, [], map}
 use lib.ListN.{getD}
-use Rattle.records.specs.declared.Entry.{Entry}
-use Rattle.records.specs.declared.Entry.the-variants.{Record, Nothing}
-use Rattle.records.specs.declared.Fields.{Fields}
-use Rattle.records.specs.declared.Kind.{Kind}
-use Rattle.records.specs.declared.Parts.{Parts}
-use Rattle.records.specs.Kinds.{shapeOf, isContent}
+use Rattle.entries.specs.declared.Entry.{Entry}
+use Rattle.entries.specs.declared.Entry.the-variants.{Record, Nothing}
+use Rattle.entries.specs.declared.Fields.{Fields}
+use Rattle.kinds.specs.declared.Kind.{Kind}
+use Rattle.entries.specs.declared.Parts.{Parts}
+use Rattle.kinds.specs.Kinds.{shapeOf, isContent}
 use Rattle.stores.specs.Walk.{entries}
 use Rattle.stores.specs.Contents.{contentBytes}
 

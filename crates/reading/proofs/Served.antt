@@ -9,7 +9,7 @@ use lib.Dec.{ltb, eqb}
 use lib.ListN.{length}
 use Rattle.text.specs.Bytes.{isAscii}
 use Rattle.text.specs.Runs.{span}
-use Rattle.text.specs.Reports.{success, noRoom}
+use Rattle.places.specs.Reports.{success, noRoom}
 use Rattle.records.specs.Put.{front}
 use Rattle.items.specs.declared.Sizes.{Sizes}
 use Rattle.items.specs.Machine.{Rec, Answer, refused, done}

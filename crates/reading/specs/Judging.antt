@@ -3,8 +3,8 @@ use Prim.Native.Nat.{ℕ}
 use mathlib.Core.Bool.{Bool, true, false, cond}
 use mathlib.Core.Path.{_≡_}
 use mathlib.Core.List.{List}
-use Rattle.text.specs.declared.Report.{Report}
-use Rattle.text.specs.Reports.{success}
+use Rattle.places.specs.declared.Report.{Report}
+use Rattle.places.specs.Reports.{success}
 use Rattle.items.specs.Machine.{Rec, Answer, refused, done}
 use Rattle.items.specs.Decisions.{Told}
 use Rattle.items.specs.Reading.{outline}

@@ -5,9 +5,9 @@ use mathlib.Core.Bool.{Bool, true, false, cond}
 use mathlib.Core.List.{List, [], _∷_}
 use lib.Dec.{eqb, ltb}
 use lib.ListN.{length}
-use Rattle.text.specs.Places.{placeAt}
-use Rattle.text.specs.Reports.{success, refusedAt, refusedBare, noRoom}
-use Rattle.text.specs.declared.Report.{Report}
+use Rattle.places.specs.Places.{placeAt}
+use Rattle.places.specs.Reports.{success, refusedAt, refusedBare, noRoom}
+use Rattle.places.specs.declared.Report.{Report}
 use Rattle.records.specs.Put.{front}
 use Rattle.items.specs.Machine.{Rec, Answer, refused, done}
 use Rattle.items.specs.Reading.{outline}

@@ -1,15 +1,15 @@
 // The services Read and Outline: a text in, records and copied contents out.
 ghost use mathlib.Core.Path.{_≡_};
 ghost use lib.ListN.{length};
-ghost use Rattle.text.specs.Reports.{refusedAt, noRoom};
+ghost use Rattle.places.specs.Reports.{refusedAt, noRoom};
 ghost use Rattle.items.specs.Reading.{outline as outlineOf};
 ghost use Rattle.items.specs.Decisions.{told};
 ghost use Rattle.reading.specs.Services.{readAnswer, readStore, readArea, outlineAnswer, outlineStore, refusalReport, readingReport, outlinedReport};
 ghost use Rattle.reading.specs.Judging.{judgement, judgedAs, declined, IsRead};
 use items::Decision;
 use items::Sizes;
-use text::Place;
-use text::Report;
+use places::Place;
+use places::Report;
 
 // What a text is refused for, 1 to 9.
 pub enum Refusal {
@@ -126,38 +126,38 @@ fn placed(s: &[u8], decision: Decision) -> Judged
         Decision::Fits { sizes } => Judged::Fits { sizes },
         Decision::NoData { at } => Judged::Declines {
             refusal: Refusal::NoData {
-                place: text::place_at(s, at),
+                place: places::place_at(s, at),
             },
         },
         Decision::OpenFrame { at } => Judged::Declines {
             refusal: Refusal::OpenFrame {
-                place: text::place_at(s, at),
+                place: places::place_at(s, at),
             },
         },
         Decision::Ragged { at, remainder } => Judged::Declines {
             refusal: Refusal::Ragged {
-                place: text::place_at(s, at),
+                place: places::place_at(s, at),
                 remainder,
             },
         },
         Decision::NoValue { at } => Judged::Declines {
             refusal: Refusal::NoValue {
-                place: text::place_at(s, at),
+                place: places::place_at(s, at),
             },
         },
         Decision::NoItem { at } => Judged::Declines {
             refusal: Refusal::NoItem {
-                place: text::place_at(s, at),
+                place: places::place_at(s, at),
             },
         },
         Decision::NoNames { at } => Judged::Declines {
             refusal: Refusal::NoNames {
-                place: text::place_at(s, at),
+                place: places::place_at(s, at),
             },
         },
         Decision::Over { at } => Judged::Declines {
             refusal: Refusal::OverLimit {
-                place: text::place_at(s, at),
+                place: places::place_at(s, at),
             },
         },
     }
@@ -176,7 +176,7 @@ fn judge(s: &[u8]) -> Judged
     if ascii < s.len() {
         return Judged::Declines {
             refusal: Refusal::NotAscii {
-                place: text::place_at(s, ascii),
+                place: places::place_at(s, ascii),
             },
         };
     }

@@ -5,10 +5,11 @@ use mathlib.Core.List.{List, [], _∷_, _++_, append-assoc}
 use native.Mathlib.Omega.{arith}
 use lib.ListN.{length}
 use Rattle.numbers.specs.declared.Decimal.{Decimal}
-use Rattle.records.specs.declared.Shape.{Shape}
-use Rattle.records.specs.declared.Shape.the-variants.{Empty, Place, Content, Count, Parts, PartsUncertain}
+use Rattle.kinds.specs.declared.Shape.{Shape}
+use Rattle.kinds.specs.declared.Shape.the-variants.{Empty, Place, Content, Count, Parts, PartsUncertain}
 use Rattle.records.specs.declared.Token.{Token}
-use Rattle.records.specs.Kinds.{kindOf, shapeOf, shapeLength, outlineShape, bodyLength, outlineLength}
+use Rattle.kinds.proofs.Numbering.{outline-place}
+use Rattle.kinds.specs.Kinds.{kindOf, shapeOf, shapeLength, outlineShape, bodyLength, outlineLength}
 use Rattle.records.specs.Bytes.{le32, le64, signed32, flag}
 use Rattle.records.specs.Put.{front, put}
 use Rattle.records.specs.Records.{tokenBytes, decimalBytes, endRecord, placeRecord, contentRecord, loopRecord, numberRecord, uncertainRecord}
@@ -68,24 +69,6 @@ unfolding bodyLength kindOf shapeOf shapeLength
 uncertain-whole t d = length-uncertain t d
 
 -- in the outline every record but kind 7 is its kind's byte and P
-pub outline-none : (s : Shape) → shapeLength s ≡ 0 → shapeLength (outlineShape s) ≡ 0
-unfolding shapeLength outlineShape
-outline-none Empty e = refl
-outline-none Place e = e
-outline-none Content e = absurd (omega arith)
-outline-none Count e = absurd (omega arith)
-outline-none Parts e = absurd (omega arith)
-outline-none PartsUncertain e = absurd (omega arith)
-
-pub outline-place : (s : Shape) → 0 < shapeLength s → shapeLength (outlineShape s) ≡ 16
-unfolding shapeLength outlineShape
-outline-place Empty h = absurd (omega arith)
-outline-place Place h = refl
-outline-place Content h = refl
-outline-place Count h = refl
-outline-place Parts h = refl
-outline-place PartsUncertain h = refl
-
 pub outline-whole : (k : ℕ) (t : Token) → 0 < bodyLength k → length (placeRecord k t) ≡ 1 + outlineLength k
 unfolding bodyLength outlineLength
 outline-whole k t h = rw (outline-place (shapeOf (kindOf k)) h) (length-place k t)

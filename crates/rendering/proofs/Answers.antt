@@ -7,7 +7,7 @@ use native.Mathlib.Omega.{arith}
 use borrow.Author.Tests.{ltb-true, lt-ltb, le-ltb}
 use lib.Dec.{ltb}
 use lib.ListN.{length}
-use Rattle.text.specs.Reports.{success, refusedBare, noRoom}
+use Rattle.places.specs.Reports.{success, refusedBare, noRoom}
 use Rattle.records.specs.Put.{front}
 use Rattle.stores.specs.Soundness.{sound}
 use Rattle.rendering.specs.declared.Rendered.{Rendered}

@@ -11,17 +11,17 @@ use mathlib.Core.Logic.{inl, inr}
 use types.Run.{OneOf}
 use denote.Enum.Declared.{tagOf}
 use Rattle.text.proofs.Bools.{and-l, and-r, or-cases}
-use Rattle.words.specs.Keywords.{keyData, keyLoop, keySave}
+use Rattle.keywords.specs.Keywords.{keyData, keyLoop, keySave}
 use Rattle.numbers.specs.Spelling.{renderNumber}
-use Rattle.records.specs.declared.Entry.the-variants.{Record}
-use Rattle.records.specs.declared.Kind.{Kind}
-use Rattle.records.specs.declared.Kind.the-variants.{NoKind, Block, FrameOpen, FrameClose, Tag, Loop, LoopTag, LoopEnd, Inapplicable, Unknown, Bare, SingleQuoted, DoubleQuoted, Multiline, Number, Uncertain}
-use Rattle.records.specs.declared.Shape.{Shape}
-use Rattle.records.specs.declared.Shape.the-variants.{Empty, Place, Content, Count, Parts as PartsShape, PartsUncertain}
-use Rattle.records.specs.declared.Parts.{Parts}
-use Rattle.records.specs.declared.Fields.{Fields}
-use Rattle.records.specs.Kinds.{shapeOf, isContent, marksOf}
-use Rattle.records.proofs.Shape.{the-type as shape-type}
+use Rattle.entries.specs.declared.Entry.the-variants.{Record}
+use Rattle.kinds.specs.declared.Kind.{Kind}
+use Rattle.kinds.specs.declared.Kind.the-variants.{NoKind, Block, FrameOpen, FrameClose, Tag, Loop, LoopTag, LoopEnd, Inapplicable, Unknown, Bare, SingleQuoted, DoubleQuoted, Multiline, Number, Uncertain}
+use Rattle.kinds.specs.declared.Shape.{Shape}
+use Rattle.kinds.specs.declared.Shape.the-variants.{Empty, Place, Content, Count, Parts as PartsShape, PartsUncertain}
+use Rattle.entries.specs.declared.Parts.{Parts}
+use Rattle.entries.specs.declared.Fields.{Fields}
+use Rattle.kinds.specs.Kinds.{shapeOf, isContent, marksOf}
+use Rattle.kinds.proofs.Shape.{the-type as shape-type}
 use Rattle.stores.specs.Contents.{contentBytes, contentLength, ownRule, partsKept, exponentKept}
 use Rattle.stores.proofs.Filling.{content-kept}
 use Rattle.rendering.specs.Rendering.{decimalOf, tokenText, isEnd, lineOf}

@@ -8,12 +8,12 @@ use borrow.Author.Tests.{lt-ltb, le-ltb}
 use lib.ListN.{length, take, drop, length-append, length-take, length-drop}
 use lib.Seq.{take-all, take-add, drop-drop, take-append-seam, drop-append-seam}
 use Rattle.text.proofs.Bools.{and-l, and-r}
-use Rattle.records.specs.declared.Entry.{Entry}
-use Rattle.records.specs.declared.Entry.the-variants.{Record, Nothing}
-use Rattle.records.specs.declared.Kind.{Kind}
-use Rattle.records.specs.declared.Fields.{Fields}
-use Rattle.records.specs.Entries.{entryAt}
-use Rattle.records.specs.Kinds.{shapeOf, isContent}
+use Rattle.entries.specs.declared.Entry.{Entry}
+use Rattle.entries.specs.declared.Entry.the-variants.{Record, Nothing}
+use Rattle.kinds.specs.declared.Kind.{Kind}
+use Rattle.entries.specs.declared.Fields.{Fields}
+use Rattle.entries.specs.Entries.{entryAt}
+use Rattle.kinds.specs.Kinds.{shapeOf, isContent}
 use Rattle.records.specs.Put.{front, put}
 use Rattle.records.proofs.Putting.{length-front, front-none, front-next}
 use Rattle.stores.specs.Walk.{entries}

@@ -5,16 +5,16 @@ use mathlib.Core.Bool.{Bool, true, false, cond}
 use mathlib.Core.List.{List, [], _∷_, _++_}
 use lib.Dec.{eqb, leb, ltb}
 use lib.ListN.{length}
-use Rattle.text.specs.declared.Report.{Report}
-use Rattle.text.specs.Reports.{success, refusedBare, noRoom}
-use Rattle.words.specs.Keywords.{keyData, keyLoop, keySave}
+use Rattle.places.specs.declared.Report.{Report}
+use Rattle.places.specs.Reports.{success, refusedBare, noRoom}
+use Rattle.keywords.specs.Keywords.{keyData, keyLoop, keySave}
 use Rattle.numbers.specs.declared.Decimal.{Decimal}
 use Rattle.numbers.specs.Spelling.{renderNumber}
-use Rattle.records.specs.declared.Entry.{Entry}
-use Rattle.records.specs.declared.Entry.the-variants.{Record, Nothing}
-use Rattle.records.specs.declared.Kind.{Kind}
-use Rattle.records.specs.declared.Kind.the-variants.{NoKind, Block, FrameOpen, FrameClose, Tag, Loop, LoopTag, LoopEnd, Inapplicable, Unknown, Bare, SingleQuoted, DoubleQuoted, Multiline, Number, Uncertain}
-use Rattle.records.specs.declared.Parts.{Parts}
+use Rattle.entries.specs.declared.Entry.{Entry}
+use Rattle.entries.specs.declared.Entry.the-variants.{Record, Nothing}
+use Rattle.kinds.specs.declared.Kind.{Kind}
+use Rattle.kinds.specs.declared.Kind.the-variants.{NoKind, Block, FrameOpen, FrameClose, Tag, Loop, LoopTag, LoopEnd, Inapplicable, Unknown, Bare, SingleQuoted, DoubleQuoted, Multiline, Number, Uncertain}
+use Rattle.entries.specs.declared.Parts.{Parts}
 use Rattle.records.specs.Put.{front}
 use Rattle.stores.specs.Walk.{entries}
 use Rattle.stores.specs.Contents.{contentBytes}

@@ -4,20 +4,20 @@ ghost use mathlib.Core.Bool.{true};
 ghost use mathlib.Core.List.{[], _∷_};
 ghost use Prim.Native.Nat.{ℕ, _+_, _-_, _≤_, _<_, _^_};
 ghost use lib.ListN.{length, take, drop};
-ghost use Rattle.text.specs.Reports.{noRoom};
+ghost use Rattle.places.specs.Reports.{noRoom};
 ghost use Rattle.numbers.specs.Spelling.{padded, plain, signBytes, fracBytes, expBytes, uncBytes, renderNumber};
-ghost use Rattle.records.specs.declared.Entry.the-variants.{Record};
+ghost use Rattle.entries.specs.declared.Entry.the-variants.{Record};
 ghost use Rattle.records.specs.Put.{front};
 ghost use Rattle.stores.specs.Walk.{entries};
 ghost use Rattle.rendering.specs.Rendering.{decimalOf, isEnd, lineOf, rendering, renderAnswer, renderOut, renderedReport};
 ghost use Rattle.rendering.specs.Writing.{Wrote, Short, sizeOf, markOf, openingText, bodyText, closingText, own, Owned, keepsDigits, lineLength, capped};
+use entries::Entry;
+use entries::Fields;
+use entries::Parts;
+use kinds::Kind;
+use kinds::Shape;
 use numbers::Decimal;
-use records::Entry;
-use records::Fields;
-use records::Kind;
-use records::Parts;
-use records::Shape;
-use text::Report;
+use places::Report;
 
 // Render's answer: done, with the length written; 12; 1; or 11 with the length needed.
 pub enum Rendered {
@@ -372,7 +372,7 @@ fn rendered_length(store: &[u8], area: &[u8]) -> usize
     let mut from = 0;
     let mut total = 0;
     while from < store.len() {
-        let Entry::Record { kind, fields, next } = records::read_record(store, from) else {
+        let Entry::Record { kind, fields, next } = entries::read_record(store, from) else {
             return total;
         };
         let line = line_length(kind, fields);
@@ -393,7 +393,7 @@ fn write_lines(store: &[u8], area: &[u8], out: &mut [u8])
     let mut from = 0;
     let mut at = 0;
     while from < store.len() {
-        let Entry::Record { kind, fields, next } = records::read_record(store, from) else {
+        let Entry::Record { kind, fields, next } = entries::read_record(store, from) else {
             return;
         };
         at = write_line(out, at, area, kind, fields);

@@ -1,5 +1,5 @@
 // A number as the source has it: an `f64`, made of decimal parts by the source's own steps.
-use records::Parts;
+use entries::Parts;
 
 // The pattern that stands for every NaN in the list.
 const NAN: u64 = 9221120237041090560;

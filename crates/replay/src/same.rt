@@ -1,12 +1,12 @@
 // Whether the services answer as an entry of the list says, and as each other.
 use crate::floats;
 use crate::list;
+use entries::Fields;
+use entries::Parts;
 use harness::fields::body_end;
 use harness::parts::part;
-use records::Fields;
-use records::Parts;
+use places::Report;
 use stores::Walked;
-use text::Report;
 
 // What differs, if anything does.
 pub enum Verdict {
@@ -155,11 +155,11 @@ fn same_outline(store: &[u8], outline: &[u8]) -> bool {
             return false;
         }
         let kind = outline[from];
-        let end = body_end(outline, from + 1, records::outline_length(kind));
+        let end = body_end(outline, from + 1, kinds::outline_length(kind));
         if !check::same(&outline[from..end], part(store, at, end - from)) {
             return false;
         }
-        at = body_end(store, at + 1, records::body_length(kind));
+        at = body_end(store, at + 1, kinds::body_length(kind));
         from = end;
     }
     at == store.len()

@@ -10,10 +10,10 @@ use native.Mathlib.Omega.{arith}
 use native.Mathlib.Numerals.{add-one}
 use native.Mathlib.Nat.{pow-suc, pow-le-pow-right}
 use lib.ListN.{length}
-use Rattle.records.specs.declared.Shape.{Shape}
-use Rattle.records.specs.declared.Shape.the-variants.{Empty, Place, Content, Count, Parts, PartsUncertain}
-use Rattle.records.specs.Kinds.{isContent}
-use Rattle.records.proofs.Shape.{the-type as shape-type}
+use Rattle.kinds.specs.declared.Shape.{Shape}
+use Rattle.kinds.specs.declared.Shape.the-variants.{Empty, Place, Content, Count, Parts, PartsUncertain}
+use Rattle.kinds.specs.Kinds.{isContent}
+use Rattle.kinds.proofs.Shape.{the-type as shape-type}
 
 -- the shapes that have no content
 pub shape-other : (s : Shape) → OneOf (0 ∷ 1 ∷ 3 ∷ 4 ∷ 5 ∷ []) (tagOf shape-type s) → false ≡ isContent s

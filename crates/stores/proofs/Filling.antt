@@ -9,12 +9,12 @@ use borrow.Author.Tests.{leb-true, eqb-true}
 use lib.Dec.{leb, eqb}
 use lib.ListN.{length}
 use Rattle.text.proofs.Bools.{and-l, and-r}
-use Rattle.records.specs.declared.Kind.{Kind}
-use Rattle.records.specs.declared.Fields.{Fields}
-use Rattle.records.specs.declared.Entry.{Entry}
-use Rattle.records.specs.declared.Entry.the-variants.{Record, Nothing}
-use Rattle.records.specs.Kinds.{shapeOf, isContent, marksOf}
-use Rattle.records.specs.Entries.{entryAt}
+use Rattle.kinds.specs.declared.Kind.{Kind}
+use Rattle.entries.specs.declared.Fields.{Fields}
+use Rattle.entries.specs.declared.Entry.{Entry}
+use Rattle.entries.specs.declared.Entry.the-variants.{Record, Nothing}
+use Rattle.kinds.specs.Kinds.{shapeOf, isContent, marksOf}
+use Rattle.entries.specs.Entries.{entryAt}
 use Rattle.stores.specs.Walk.{entries}
 use Rattle.stores.specs.Contents.{readable, partsKept, contentLength, contentKept, ownRule, takes, filledFrom, filled}
 use Rattle.stores.proofs.Walking.{rest, rest-all, rest-over, rest-none, next-at}

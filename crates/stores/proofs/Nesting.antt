@@ -11,12 +11,12 @@ use native.Mathlib.Nat.{mod-zero}
 use borrow.Author.Tests.{eq-eqb, ne-eqb}
 use lib.Dec.{eqb, leb}
 use lib.ListN.{length}
-use Rattle.records.specs.declared.Kind.{Kind}
-use Rattle.records.specs.declared.Fields.{Fields}
-use Rattle.records.specs.declared.Entry.{Entry}
-use Rattle.records.specs.declared.Entry.the-variants.{Record, Nothing}
-use Rattle.records.specs.Kinds.{numberOf}
-use Rattle.records.specs.Entries.{entryAt}
+use Rattle.kinds.specs.declared.Kind.{Kind}
+use Rattle.entries.specs.declared.Fields.{Fields}
+use Rattle.entries.specs.declared.Entry.{Entry}
+use Rattle.entries.specs.declared.Entry.the-variants.{Record, Nothing}
+use Rattle.kinds.specs.Kinds.{numberOf}
+use Rattle.entries.specs.Entries.{entryAt}
 use Rattle.stores.specs.declared.Where.{Where}
 use Rattle.stores.specs.declared.Where.the-variants.{Start, Items, Names, Values, Wants}
 use Rattle.stores.specs.declared.Stand.{Stand}

@@ -15,12 +15,12 @@ use lib.Dec.{eqb, leb, eqb·suc-suc}
 use lib.ListN.{length, drop, getD, length-append, drop-of-length-le}
 use lib.Seq.{drop-cons}
 use Rattle.text.specs.Bytes.{is, isEol}
-use Rattle.words.specs.declared.Closing.the-variants.{Behind, Nothing}
+use Rattle.quotes.specs.declared.Closing.the-variants.{Behind, Nothing}
 use Rattle.words.specs.Words.{isOrdinary}
-use Rattle.words.specs.Keywords.{lower, starts, keyData, keyGlobal, keyLoop, keySave, keyStop, reserved}
-use Rattle.words.specs.Quotes.{more, quoted, fieldIn, field}
-use Rattle.words.specs.Answers.{fieldEnd}
-use Rattle.words.proofs.Quotes.{field-behind, field-nothing}
+use Rattle.keywords.specs.Keywords.{lower, starts, keyData, keyGlobal, keyLoop, keySave, keyStop, reserved}
+use Rattle.quotes.specs.Quotes.{more, quoted, fieldIn, field}
+use Rattle.quotes.specs.Answers.{fieldEnd}
+use Rattle.quotes.proofs.Quotes.{field-behind, field-nothing}
 use Rattle.values.specs.declared.Value.{Value}
 use Rattle.values.specs.declared.Value.the-variants.{Token, Number, Over, Missing}
 use Rattle.values.specs.Values.{Reason, Class, value, overLimit, nothing, Lexed, lexed, closed, lexValue, lexAsValue}

@@ -8,12 +8,12 @@ use borrow.Author.Tests.{le-leb, leb-true, leb-false}
 use lib.Dec.{leb}
 use lib.ListN.{length}
 use Rattle.text.proofs.Bools.{and-l, and-r}
-use Rattle.records.specs.declared.Kind.{Kind}
-use Rattle.records.specs.declared.Fields.{Fields}
-use Rattle.records.specs.declared.Entry.{Entry}
-use Rattle.records.specs.declared.Entry.the-variants.{Record as Whole, Nothing}
-use Rattle.records.specs.Kinds.{numberOf, shapeOf, isContent, marksOf}
-use Rattle.records.specs.Entries.{entryAt}
+use Rattle.kinds.specs.declared.Kind.{Kind}
+use Rattle.entries.specs.declared.Fields.{Fields}
+use Rattle.entries.specs.declared.Entry.{Entry}
+use Rattle.entries.specs.declared.Entry.the-variants.{Record as Whole, Nothing}
+use Rattle.kinds.specs.Kinds.{numberOf, shapeOf, isContent, marksOf}
+use Rattle.entries.specs.Entries.{entryAt}
 use Rattle.stores.specs.Walk.{entries}
 use Rattle.stores.specs.Nesting.{nested}
 use Rattle.stores.specs.Contents.{contentLength, ownRule, takes, filledFrom, filled}

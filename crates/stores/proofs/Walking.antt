@@ -9,12 +9,12 @@ use lib.Dec.{leb}
 use lib.ListN.{length, drop, length-drop, drop-of-length-le}
 use lib.Seq.{drop-drop, drop-cons}
 use Rattle.text.proofs.Bools.{and-r}
-use Rattle.records.specs.declared.Kind.{Kind}
-use Rattle.records.specs.declared.Fields.{Fields}
-use Rattle.records.specs.declared.Entry.{Entry}
-use Rattle.records.specs.declared.Entry.the-variants.{Record, Nothing}
-use Rattle.records.specs.Kinds.{kindOf, shapeOf, bodyLength}
-use Rattle.records.specs.Entries.{isKind, fieldsOf, entryOf, entryAt}
+use Rattle.kinds.specs.declared.Kind.{Kind}
+use Rattle.entries.specs.declared.Fields.{Fields}
+use Rattle.entries.specs.declared.Entry.{Entry}
+use Rattle.entries.specs.declared.Entry.the-variants.{Record, Nothing}
+use Rattle.kinds.specs.Kinds.{kindOf, shapeOf, bodyLength}
+use Rattle.entries.specs.Entries.{isKind, fieldsOf, entryOf, entryAt}
 use Rattle.stores.specs.Walk.{onward, entriesFrom, entries}
 
 -- the entries from an offset on

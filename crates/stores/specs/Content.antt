@@ -4,11 +4,11 @@ use Prim.Native.Nat.{ℕ, zero, suc, _-_}
 use mathlib.Core.Bool.{Bool, true, false, cond}
 use mathlib.Core.List.{List, [], _∷_}
 use lib.ListN.{take, drop}
-use Rattle.text.specs.declared.Report.{Report}
-use Rattle.text.specs.Reports.{success, refusedBare}
-use Rattle.records.specs.declared.Entry.{Entry}
-use Rattle.records.specs.declared.Entry.the-variants.{Record, Nothing}
-use Rattle.records.specs.Kinds.{shapeOf, isContent}
+use Rattle.places.specs.declared.Report.{Report}
+use Rattle.places.specs.Reports.{success, refusedBare}
+use Rattle.entries.specs.declared.Entry.{Entry}
+use Rattle.entries.specs.declared.Entry.the-variants.{Record, Nothing}
+use Rattle.kinds.specs.Kinds.{shapeOf, isContent}
 use Rattle.stores.specs.Walk.{entries}
 use Rattle.stores.specs.Contents.{contentLength}
 use Rattle.stores.specs.Soundness.{sound}

@@ -9,13 +9,13 @@ use Rattle.text.specs.Bytes.{isAscii}
 use Rattle.text.specs.Runs.{span}
 use Rattle.words.specs.Words.{word}
 use Rattle.values.specs.Values.{Class, block, loop, save, tag, value, overLimit, nothing, lexAsValue}
-use Rattle.records.specs.declared.Entry.{Entry}
-use Rattle.records.specs.declared.Entry.the-variants.{Record, Nothing}
-use Rattle.records.specs.declared.Parts.{Parts}
-use Rattle.records.specs.declared.Kind.{Kind}
-use Rattle.records.specs.declared.Kind.the-variants.{NoKind, Block, FrameOpen, FrameClose, Tag, Loop, LoopTag, LoopEnd, Inapplicable, Unknown, Bare, SingleQuoted, DoubleQuoted, Multiline, Number, Uncertain}
-use Rattle.records.specs.declared.Fields.{Fields}
-use Rattle.records.specs.Kinds.{shapeOf, isContent, marksOf}
+use Rattle.entries.specs.declared.Entry.{Entry}
+use Rattle.entries.specs.declared.Entry.the-variants.{Record, Nothing}
+use Rattle.entries.specs.declared.Parts.{Parts}
+use Rattle.kinds.specs.declared.Kind.{Kind}
+use Rattle.kinds.specs.declared.Kind.the-variants.{NoKind, Block, FrameOpen, FrameClose, Tag, Loop, LoopTag, LoopEnd, Inapplicable, Unknown, Bare, SingleQuoted, DoubleQuoted, Multiline, Number, Uncertain}
+use Rattle.entries.specs.declared.Fields.{Fields}
+use Rattle.kinds.specs.Kinds.{shapeOf, isContent, marksOf}
 
 -- w alone is a value of kind k, and nothing stands behind it
 unfoldable pub isKind : ℕ → Class → Bool

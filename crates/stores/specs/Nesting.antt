@@ -4,9 +4,9 @@ use Prim.Native.Nat.{ℕ, zero, suc, _%_}
 use mathlib.Core.Bool.{Bool, true, false, not, cond, _&&_}
 use mathlib.Core.List.{List, [], _∷_}
 use lib.Dec.{eqb, leb}
-use Rattle.records.specs.declared.Entry.{Entry}
-use Rattle.records.specs.declared.Entry.the-variants.{Record, Nothing}
-use Rattle.records.specs.Kinds.{numberOf}
+use Rattle.entries.specs.declared.Entry.{Entry}
+use Rattle.entries.specs.declared.Entry.the-variants.{Record, Nothing}
+use Rattle.kinds.specs.Kinds.{numberOf}
 use Rattle.stores.specs.declared.Where.{Where}
 use Rattle.stores.specs.declared.Where.the-variants.{Start, Items, Names, Values, Wants}
 use Rattle.stores.specs.declared.Stand.{Stand}

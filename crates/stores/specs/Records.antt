@@ -8,12 +8,12 @@ use mathlib.Core.Bool.{Bool, cond, _&&_}
 use mathlib.Core.List.{List, [], _∷_}
 use lib.Dec.{leb}
 use lib.ListN.{length}
-use Rattle.records.specs.declared.Kind.{Kind}
-use Rattle.records.specs.declared.Fields.{Fields}
-use Rattle.records.specs.declared.Entry.{Entry}
-use Rattle.records.specs.declared.Entry.the-variants.{Record as Whole, Nothing}
-use Rattle.records.specs.Kinds.{numberOf, shapeOf, isContent, marksOf}
-use Rattle.records.specs.Entries.{entryAt}
+use Rattle.kinds.specs.declared.Kind.{Kind}
+use Rattle.entries.specs.declared.Fields.{Fields}
+use Rattle.entries.specs.declared.Entry.{Entry}
+use Rattle.entries.specs.declared.Entry.the-variants.{Record as Whole, Nothing}
+use Rattle.kinds.specs.Kinds.{numberOf, shapeOf, isContent, marksOf}
+use Rattle.entries.specs.Entries.{entryAt}
 use Rattle.stores.specs.Contents.{contentLength}
 use Rattle.stores.specs.declared.Walked.{Walked}
 use Rattle.stores.specs.declared.Walked.the-variants.{Record, NoRecord}

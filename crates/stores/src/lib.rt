@@ -4,7 +4,7 @@ ghost use mathlib.Core.List.{_∷_, [], _++_};
 ghost use Prim.Native.Nat.{_+_, _%_, _^_, _≤_, _<_};
 ghost use lib.Dec.{eqb};
 ghost use lib.ListN.{length};
-ghost use Rattle.records.specs.Kinds.{shapeOf, isContent};
+ghost use Rattle.kinds.specs.Kinds.{shapeOf, isContent};
 ghost use Rattle.stores.specs.Walk.{entries};
 ghost use Rattle.stores.specs.Nesting.{isValueKind, opensLoop, atItems, atNames, atValues, counted, standing as standingOf, ended, nested};
 ghost use Rattle.stores.specs.Contents.{isAlone, isName, readableBy, readable, exponentKept, partsKept, contentLength, contentKept, ownRule, takes, filled};
@@ -12,14 +12,14 @@ ghost use Rattle.stores.specs.Pieces.{plain};
 ghost use Rattle.stores.specs.Soundness.{sound};
 ghost use Rattle.stores.specs.Content.{nth, partOf, contentAt, contentReport, partBytes};
 ghost use Rattle.stores.specs.Records.{lies, walkedAt};
-use records::Entry;
-use records::Fields;
-use records::Kind;
-use records::Parts;
-use records::Shape;
-use text::Report;
+use entries::Entry;
+use entries::Fields;
+use entries::Parts;
+use kinds::Kind;
+use kinds::Shape;
+use places::Report;
+use quotes::Closing;
 use values::Value;
-use words::Closing;
 
 // What may stand next in a store.
 pub enum Where {
@@ -212,7 +212,7 @@ fn is_nested(store: &[u8]) -> bool
     let mut place = Where::Start;
     let mut at = 0;
     while at < store.len() {
-        let Entry::Record { kind, fields, next } = records::read_record(store, at) else {
+        let Entry::Record { kind, fields, next } = entries::read_record(store, at) else {
             return false;
         };
         let stand = standing(frame, place, kind.number(), fields.number as usize);
@@ -280,7 +280,7 @@ fn is_field(content: &[u8]) -> bool
     if !text::is_eol(content[size - 1]) {
         return false;
     }
-    let closing = words::parse_multiline_string(content, 0);
+    let closing = quotes::parse_multiline_string(content, 0);
     let Closing::Nothing = closing else {
         return false;
     };
@@ -431,7 +431,7 @@ fn is_filled(store: &[u8], area: &[u8]) -> bool
     let mut from = 0;
     let mut at = 0;
     while at < store.len() {
-        let Entry::Record { kind, fields, next } = records::read_record(store, at) else {
+        let Entry::Record { kind, fields, next } = entries::read_record(store, at) else {
             return false;
         };
         if !keeps_rule(area, from, kind, fields) {
@@ -492,7 +492,7 @@ fn part_at(store: &[u8], number: usize) -> Content
     let mut left = number;
     let mut at = 0;
     while at < store.len() {
-        let Entry::Record { kind, fields, next } = records::read_record(store, at) else {
+        let Entry::Record { kind, fields, next } = entries::read_record(store, at) else {
             return Content::NoContent;
         };
         if left == 0 {
@@ -566,7 +566,7 @@ fn lies_inside(size: usize, kind: Kind, fields: Fields) -> bool
 pub fn record_at(store: &[u8], area: &[u8], at: usize) -> Walked
     ensures { λ r. ⌜ r ≡ walkedAt (now (store .entry)) (now (area .entry)) at ⌝ }
 {
-    let found = records::read_record(store, at);
+    let found = entries::read_record(store, at);
     let Entry::Record { kind, fields, next } = found else {
         return Walked::NoRecord;
     };

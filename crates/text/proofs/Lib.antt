@@ -1,8 +1,5 @@
 pub mod Bools
 pub mod Ranges
 pub mod Runs
-pub mod Lines
-pub mod Gaps
-pub mod Places
-pub mod Feeds
+pub mod Blocks
 pub mod Shape

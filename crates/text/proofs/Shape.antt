@@ -1,4 +1,4 @@
--- The shape of a text has every digit replaced by `0`. Proved: no class of bytes tells a byte from its shape, so runs, and space and comments, are the same in both.
+-- The shape of a text has every digit replaced by `0`. Proved: no class of bytes tells a byte from its shape, so runs are the same in both.
 -- A class is one computed test over the ten digits (blind). The outline hides digits because of this, crate by crate. Assumes nothing.
 use Prim.Native.Nat.{ℕ, _+_, _-_, _≤_}
 use mathlib.Core.Bool.{Bool, true, false, cond, Bool·beq}
@@ -9,7 +9,6 @@ use native.Mathlib.Omega.{arith}
 use borrow.Author.Tests.{leb-true}
 use Rattle.text.specs.Bytes.{isDigit, isEol, isSpace, endsWord, is}
 use Rattle.text.specs.Runs.{span}
-use Rattle.text.specs.Gaps.{gapByte, gapThen, gapIn, gap}
 use Rattle.text.proofs.Bools.{and-l, and-r}
 use Rattle.text.proofs.Ranges.{allBelow, below}
 
@@ -67,22 +66,3 @@ pub span-σ : (p : ℕ → Bool) → ((b : ℕ) → p (σ b) ≡ p b) → (s : L
 unfolding span
 span-σ p h [] = refl
 span-σ p h (b ∷ s) = rw (h b, span-σ p h s)
-
-pub gapByte-σ : (c : Bool) (b : ℕ) → gapByte c (σ b) ≡ gapByte c b
-unfolding flat allBelow gapByte isSpace is
-gapByte-σ true b = refl
-gapByte-σ false b = blind (gapByte false) refl b
-
-pub gapThen-σ : (c : Bool) (b : ℕ) → gapThen c (σ b) ≡ gapThen c b
-unfolding flat allBelow gapThen isEol is
-gapThen-σ true b = blind (gapThen true) refl b
-gapThen-σ false b = blind (gapThen false) refl b
-
-pub gapIn-σ : (c : Bool) (s : List ℕ) → gapIn c (map σ s) ≡ gapIn c s
-unfolding gapIn
-gapIn-σ c [] = refl
-gapIn-σ c (b ∷ s) = rw (gapByte-σ c b, gapThen-σ c b, gapIn-σ (gapThen c b) s)
-
-pub gap-σ : (s : List ℕ) → gap (map σ s) ≡ gap s
-unfolding gap
-gap-σ s = gapIn-σ false s

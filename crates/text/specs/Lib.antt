@@ -1,6 +1,3 @@
 pub mod Bytes
 pub mod Runs
-pub mod Lines
-pub mod Gaps
-pub mod Places
-pub mod Reports
+pub mod Blocks

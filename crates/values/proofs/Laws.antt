@@ -9,9 +9,9 @@ use lib.ListN.{length, take, drop, getD, length-drop}
 use lib.Seq.{getD-drop}
 use Rattle.text.specs.Bytes.{isEol}
 use Rattle.words.specs.Words.{word}
-use Rattle.words.specs.Quotes.{quoted}
+use Rattle.quotes.specs.Quotes.{quoted}
 use Rattle.words.proofs.Words.{word-end, word-fits, word-plain}
-use Rattle.words.proofs.Quotes.{Ends, quote-ends, quote-plain, field-ends}
+use Rattle.quotes.proofs.Quotes.{Ends, quote-ends, quote-plain, field-ends}
 use Rattle.numbers.specs.Parts.{parts}
 use Rattle.numbers.specs.Meaning.{meaning}
 use Rattle.numbers.specs.declared.Decimal.{Decimal}

@@ -12,13 +12,13 @@ use lib.ListN.{length, take, drop, getD, drop-of-length-le}
 use lib.Seq.{drop-cons, getD-drop}
 use Rattle.text.specs.Bytes.{is, isDigit}
 use Rattle.words.specs.Words.{word, wordEnd, isOrdinary}
-use Rattle.words.specs.Keywords.{reserved}
-use Rattle.words.specs.Quotes.{quoted, field}
-use Rattle.words.specs.Answers.{quoteEnd, fieldEnd}
-use Rattle.words.specs.declared.Closing.{Closing}
-use Rattle.words.specs.declared.Closing.the-variants.{Behind, Nothing}
+use Rattle.keywords.specs.Keywords.{reserved}
+use Rattle.quotes.specs.Quotes.{quoted, field}
+use Rattle.quotes.specs.Answers.{quoteEnd, fieldEnd}
+use Rattle.quotes.specs.declared.Closing.{Closing}
+use Rattle.quotes.specs.declared.Closing.the-variants.{Behind, Nothing}
 use Rattle.words.proofs.Words.{word-size}
-use Rattle.words.proofs.Quotes.{quote-behind, quote-nothing, field-behind, field-nothing}
+use Rattle.quotes.proofs.Quotes.{quote-behind, quote-nothing, field-behind, field-nothing}
 use Rattle.numbers.specs.Parts.{parts, isNumber, within}
 use Rattle.numbers.specs.Meaning.{meaning, judged, numberOf}
 use Rattle.numbers.specs.declared.Decimal.{Decimal}

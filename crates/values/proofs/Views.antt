@@ -8,8 +8,8 @@ use borrow.Author.Tests.{eqb-true}
 use lib.ListN.{take}
 use Rattle.text.specs.Bytes.{is, endsWord}
 use Rattle.words.specs.Words.{word, inWord, isOrdinary}
-use Rattle.words.specs.Keywords.{reserved}
-use Rattle.words.specs.Quotes.{quoted, field}
+use Rattle.keywords.specs.Keywords.{reserved}
+use Rattle.quotes.specs.Quotes.{quoted, field}
 use Rattle.words.proofs.Words.{word-pos, ordinary-in-word}
 use Rattle.numbers.specs.Parts.{parts, isNumber, within}
 use Rattle.values.specs.Values.{Reason, atEnd, reservedWord, noStart, openQuote, openField, value, overLimit, nothing, Lexed, lexed, numberOr, wordOr, closed, lexValue, lexAsValue}

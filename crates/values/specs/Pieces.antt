@@ -6,7 +6,7 @@ use mathlib.Core.Option.{Option, none, some}
 use lib.ListN.{take, drop, getD}
 use Rattle.text.specs.Bytes.{isDigit}
 use Rattle.words.specs.Words.{wordEnd}
-use Rattle.words.specs.Quotes.{quoted, field}
+use Rattle.quotes.specs.Quotes.{quoted, field}
 use Rattle.numbers.specs.Meaning.{numberOf}
 use Rattle.numbers.specs.declared.Number.{Number as Judged}
 use Rattle.numbers.specs.declared.Number.the-variants.{Not, Is, Over as Long}

@@ -7,8 +7,8 @@ use mathlib.Core.Option.{Option, none, some}
 use lib.ListN.{take}
 use Rattle.text.specs.Bytes.{is}
 use Rattle.words.specs.Words.{word, isOrdinary}
-use Rattle.words.specs.Keywords.{reserved}
-use Rattle.words.specs.Quotes.{quoted, field}
+use Rattle.keywords.specs.Keywords.{reserved}
+use Rattle.quotes.specs.Quotes.{quoted, field}
 use Rattle.numbers.specs.Parts.{Parts, parts, isNumber, within}
 
 -- why no value stands here: the end; a reserved word; a byte that starts none; a quote, a text field that is not closed

@@ -6,7 +6,7 @@ ghost use Rattle.values.specs.Answers.{valueAt};
 ghost use Rattle.values.specs.Pieces.{numberAt, wordAt, pointAt, quoteAt, fieldAt};
 use numbers::Decimal;
 use numbers::Number;
-use words::Closing;
+use quotes::Closing;
 
 // Why no value stands here.
 pub enum Why {
@@ -72,7 +72,7 @@ fn parse_quote(s: &[u8], at: usize, mark: u8, kind: u8) -> Value
     requires { ⌜ at < length (now s) ⌝ }
     ensures { λ r. ⌜ r ≡ quoteAt mark kind (now (s .entry)) at ⌝ }
 {
-    let Closing::Behind(end) = words::parse_enclosed(s, at + 1, mark) else {
+    let Closing::Behind(end) = quotes::parse_enclosed(s, at + 1, mark) else {
         return Value::Missing {
             why: Why::OpenQuote,
         };
@@ -88,7 +88,7 @@ fn parse_field(s: &[u8], at: usize) -> Value
     requires { ⌜ at < length (now s) ⌝ }
     ensures { λ r. ⌜ r ≡ fieldAt (now (s .entry)) at ⌝ }
 {
-    let Closing::Behind(end) = words::parse_multiline_string(s, at + 1) else {
+    let Closing::Behind(end) = quotes::parse_multiline_string(s, at + 1) else {
         return Value::Missing {
             why: Why::OpenField,
         };
@@ -106,7 +106,7 @@ pub fn parse_value(s: &[u8], at: usize) -> Value
     if s.len() <= at {
         return Value::Missing { why: Why::AtEnd };
     }
-    if words::is_reserved(s, at) {
+    if keywords::is_reserved(s, at) {
         return Value::Missing { why: Why::Reserved };
     }
     let b = s[at];

@@ -1,5 +1,2 @@
-pub mod Blocks
 pub mod Words
-pub mod Keywords
-pub mod Quotes
 pub mod Shape

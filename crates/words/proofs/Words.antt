@@ -12,9 +12,9 @@ use Rattle.text.specs.Runs.{span, spanEnd, runs}
 use Rattle.text.proofs.Bools.{and-l, and-r, or-cases}
 use Rattle.text.proofs.Ranges.{allBelow, passes}
 use Rattle.text.proofs.Runs.{span-from, span-within, span-all, span-over, span-go}
-use Rattle.words.specs.Blocks.{clear}
+use Rattle.text.specs.Blocks.{clear}
 use Rattle.words.specs.Words.{inWord, word, wordEnd, isOrdinary}
-use Rattle.words.proofs.Blocks.{clear-least, block-keeps}
+use Rattle.text.proofs.Blocks.{clear-least, block-keeps}
 
 -- a word is the run of its bytes
 pub word-run : (s : List ℕ) (o : ℕ) → wordEnd s o ≡ spanEnd inWord s o

@@ -6,16 +6,16 @@ use mathlib.Core.List.{List, [], _∷_}
 use mathlib.Core.Option.{none}
 use native.Mathlib.Omega.{arith}
 use lib.ListN.{length, drop}
-use Rattle.text.specs.Gaps.{gapEnd}
-use Rattle.text.specs.Places.{placeAt}
-use Rattle.text.specs.declared.Place.{Place}
-use Rattle.text.proofs.Gaps.{gap-none}
-use Rattle.text.proofs.Places.{is-start, place-offset}
+use Rattle.gaps.specs.Gaps.{gapEnd}
+use Rattle.places.specs.Places.{placeAt}
+use Rattle.places.specs.declared.Place.{Place}
+use Rattle.gaps.proofs.Gaps.{gap-none}
+use Rattle.places.proofs.Places.{is-start, place-offset}
 use Rattle.words.specs.Words.{word, wordEnd}
-use Rattle.words.specs.Keywords.{startsAt, keyData}
-use Rattle.words.proofs.Keywords.{data-word}
+use Rattle.keywords.specs.Keywords.{startsAt, keyData}
+use Rattle.keywords.proofs.Keywords.{data-word}
 use Rattle.words.proofs.Words.{word-end}
-use Rattle.records.specs.Kinds.{kindOf, shapeOf, marksOf}
+use Rattle.kinds.specs.Kinds.{kindOf, shapeOf, marksOf}
 use Rattle.records.specs.Put.{front, put}
 use Rattle.records.proofs.Putting.{put-zero}
 use Rattle.items.specs.Machine.{Rec}

@@ -6,12 +6,12 @@ use mathlib.Core.List.{List, [], _∷_, _++_, append-assoc}
 use native.Mathlib.Omega.{arith}
 use native.Mathlib.Nat.{add-zero}
 use lib.ListN.{length, drop, length-append, length-take, length-drop}
-use Rattle.records.specs.declared.Kind.{Kind}
-use Rattle.records.specs.declared.Kind.the-variants.{NoKind, Block, FrameOpen, FrameClose, Tag, Loop, LoopTag, LoopEnd, Inapplicable, Unknown, Bare, SingleQuoted, DoubleQuoted, Multiline, Number, Uncertain}
-use Rattle.records.specs.declared.Shape.{Shape}
-use Rattle.records.specs.declared.Shape.the-variants.{Empty, Place, Content, Count, Parts, PartsUncertain}
+use Rattle.kinds.specs.declared.Kind.{Kind}
+use Rattle.kinds.specs.declared.Kind.the-variants.{NoKind, Block, FrameOpen, FrameClose, Tag, Loop, LoopTag, LoopEnd, Inapplicable, Unknown, Bare, SingleQuoted, DoubleQuoted, Multiline, Number, Uncertain}
+use Rattle.kinds.specs.declared.Shape.{Shape}
+use Rattle.kinds.specs.declared.Shape.the-variants.{Empty, Place, Content, Count, Parts, PartsUncertain}
 use Rattle.records.specs.Bytes.{le32, le64, signed32}
-use Rattle.records.specs.Kinds.{kindOf, shapeOf, shapeLength, outlineShape, bodyLength, outlineLength, marksOf, opening, hasContent}
+use Rattle.kinds.specs.Kinds.{kindOf, shapeOf, shapeLength, outlineShape, bodyLength, outlineLength, marksOf, opening, hasContent}
 use Rattle.records.specs.Records.{tokenBytes, decimalBytes, placeRecord, contentRecord, loopRecord, numberRecord, uncertainRecord}
 use Rattle.items.specs.Machine.{Rec}
 use Rattle.items.specs.Sizes.{contentSize, storeSize, outlineSize, areaSize}

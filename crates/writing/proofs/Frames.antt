@@ -8,17 +8,18 @@ use native.Mathlib.Omega.{arith}
 use borrow.Author.Tests.{ne-eqb}
 use lib.Dec.{eqb}
 use lib.ListN.{length, drop}
-use Rattle.text.specs.Gaps.{gap, gapEnd}
-use Rattle.text.specs.Places.{placeAt, Whole}
-use Rattle.text.proofs.Gaps.{gap-from, gap-none}
-use Rattle.text.proofs.Places.{place-offset, place-own, gap-whole}
-use Rattle.text.specs.declared.Place.{Place}
+use Rattle.gaps.specs.Gaps.{gap, gapEnd}
+use Rattle.places.specs.Places.{placeAt, Whole}
+use Rattle.gaps.proofs.Gaps.{gap-from, gap-none}
+use Rattle.places.proofs.Places.{place-offset, place-own}
+use Rattle.gaps.proofs.Gaps.{gap-whole}
+use Rattle.places.specs.declared.Place.{Place}
 use Rattle.text.proofs.Ranges.{allBelow, fails}
 use Rattle.words.specs.Words.{word, wordEnd}
-use Rattle.words.specs.Keywords.{startsAt, keyLoop, keySave}
-use Rattle.words.proofs.Keywords.{save-word}
+use Rattle.keywords.specs.Keywords.{startsAt, keyLoop, keySave}
+use Rattle.keywords.proofs.Keywords.{save-word}
 use Rattle.words.proofs.Words.{word-end}
-use Rattle.records.specs.Kinds.{kindOf, shapeOf, marksOf}
+use Rattle.kinds.specs.Kinds.{kindOf, shapeOf, marksOf}
 use Rattle.items.specs.Machine.{Rec, loopEnd}
 use Rattle.items.specs.Sizes.{contentSize, areaSize}
 use Rattle.items.specs.Decisions.{headAt}

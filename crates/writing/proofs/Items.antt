@@ -8,16 +8,16 @@ use native.Mathlib.Omega.{arith}
 use borrow.Author.Tests.{ne-eqb}
 use lib.Dec.{eqb}
 use lib.ListN.{length, drop}
-use Rattle.text.specs.Gaps.{gap, gapEnd}
-use Rattle.text.specs.Places.{placeAt}
-use Rattle.text.proofs.Gaps.{gap-none}
-use Rattle.text.proofs.Places.{place-offset}
-use Rattle.words.specs.Keywords.{startsAt, keyLoop}
+use Rattle.gaps.specs.Gaps.{gap, gapEnd}
+use Rattle.places.specs.Places.{placeAt}
+use Rattle.gaps.proofs.Gaps.{gap-none}
+use Rattle.places.proofs.Places.{place-offset}
+use Rattle.keywords.specs.Keywords.{startsAt, keyLoop}
 use Rattle.words.specs.Words.{word, wordEnd}
-use Rattle.words.proofs.Keywords.{loop-word}
+use Rattle.keywords.proofs.Keywords.{loop-word}
 use Rattle.words.proofs.Words.{word-end}
 use Rattle.values.specs.Values.{Class, block, loop, save, tag, value, overLimit, nothing, lexed}
-use Rattle.records.specs.Kinds.{kindOf, marksOf}
+use Rattle.kinds.specs.Kinds.{kindOf, marksOf}
 use Rattle.items.specs.declared.Found.{Found}
 use Rattle.items.specs.declared.Found.the-variants.{Value, Over, Missing}
 use Rattle.items.specs.Tokens.{inBlock, lexIn, lex, after, Tok, tok}

@@ -11,14 +11,14 @@ use lib.ListN.{length, take, drop, getD, length-drop}
 use lib.Seq.{getD-drop}
 use Rattle.text.specs.Bytes.{is, isEol}
 use Rattle.words.specs.Words.{word, wordEnd, isOrdinary}
-use Rattle.words.specs.Keywords.{starts, keyData, keyGlobal, keyLoop, keySave, keyStop}
-use Rattle.words.specs.Quotes.{quoted, field}
+use Rattle.keywords.specs.Keywords.{starts, keyData, keyGlobal, keyLoop, keySave, keyStop}
+use Rattle.quotes.specs.Quotes.{quoted, field}
 use Rattle.words.proofs.Words.{word-end, word-plain, word-fits}
-use Rattle.words.proofs.Quotes.{Ends, quote-ends, field-ends, quote-plain}
+use Rattle.quotes.proofs.Quotes.{Ends, quote-ends, field-ends, quote-plain}
 use Rattle.numbers.specs.Parts.{parts, isNumber, within}
 use Rattle.values.specs.Values.{Class, Reason, loop, save, tag, value, overLimit, nothing, atEnd, reservedWord, noStart, openQuote, openField, Lexed, lexed, numberOr, wordOr, closed, lexValue}
-use Rattle.records.specs.Kinds.{kindOf, marksOf}
-use Rattle.text.specs.Gaps.{gap}
+use Rattle.kinds.specs.Kinds.{kindOf, marksOf}
+use Rattle.gaps.specs.Gaps.{gap}
 use Rattle.items.specs.Tokens.{Mode, inBlock, lexIn, lex, Tok, tok}
 use Rattle.items.proofs.Offsets.{Met, first}
 use Rattle.writing.specs.Walk.{IsToken}

@@ -5,12 +5,12 @@ use mathlib.Core.Bool.{Bool, true, false}
 use mathlib.Core.List.{List, [], _∷_}
 use native.Mathlib.Omega.{arith}
 use lib.ListN.{length, drop}
-use Rattle.text.specs.Gaps.{gap, gapEnd}
-use Rattle.text.proofs.Gaps.{gap-from, gap-none}
-use Rattle.text.proofs.Places.{place-offset}
+use Rattle.gaps.specs.Gaps.{gap, gapEnd}
+use Rattle.gaps.proofs.Gaps.{gap-from, gap-none}
+use Rattle.places.proofs.Places.{place-offset}
 use Rattle.text.proofs.Ranges.{allBelow, fails}
 use Rattle.words.specs.Words.{wordEnd}
-use Rattle.records.specs.Kinds.{kindOf, shapeOf}
+use Rattle.kinds.specs.Kinds.{kindOf, shapeOf}
 use Rattle.items.specs.declared.Found.the-variants.{Value}
 use Rattle.items.specs.Tokens.{inBlock, Tok}
 use Rattle.items.specs.Machine.{Rec}

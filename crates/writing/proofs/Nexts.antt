@@ -4,7 +4,7 @@ use mathlib.Core.Path.{_≡_, refl, sym, ap, _∙_}
 use mathlib.Core.Bool.{Bool, true, false, cond}
 use mathlib.Core.List.{List}
 use lib.ListN.{drop}
-use Rattle.text.specs.Gaps.{gap, gapEnd}
+use Rattle.gaps.specs.Gaps.{gap, gapEnd}
 use Rattle.words.specs.Words.{wordEnd}
 use Rattle.values.specs.declared.Why.{Why}
 use Rattle.items.specs.declared.Item.the-variants.{NoValue, Over}

@@ -5,13 +5,13 @@ use mathlib.Core.Bool.{Bool, true, false, cond}
 use mathlib.Core.List.{List, [], _∷_}
 use native.Mathlib.Omega.{arith}
 use lib.ListN.{length, take, drop}
-use Rattle.text.specs.declared.Place.{Place}
-use Rattle.text.specs.Places.{placeAt, IsPlace}
-use Rattle.text.proofs.Places.{place-offset, place-line, place-column}
+use Rattle.places.specs.declared.Place.{Place}
+use Rattle.places.specs.Places.{placeAt, IsPlace}
+use Rattle.places.proofs.Places.{place-offset, place-line, place-column}
 use Rattle.numbers.specs.declared.Decimal.{Decimal}
 use Rattle.records.specs.declared.Token.{Token}
-use Rattle.records.specs.declared.Shape.the-variants.{Place as PlaceAlone, Content, Parts, PartsUncertain}
-use Rattle.records.specs.Kinds.{kindOf, shapeOf, shapeLength, outlineShape, marksOf, opening, isContent, hasContent, bodyLength, outlineLength}
+use Rattle.kinds.specs.declared.Shape.the-variants.{Place as PlaceAlone, Content, Parts, PartsUncertain}
+use Rattle.kinds.specs.Kinds.{kindOf, shapeOf, shapeLength, outlineShape, marksOf, opening, isContent, hasContent, bodyLength, outlineLength}
 use Rattle.records.specs.Put.{put}
 use Rattle.records.specs.Records.{endRecord, placeRecord}
 use Rattle.items.specs.Sizes.{contentSize, storeSize, outlineSize, areaSize}

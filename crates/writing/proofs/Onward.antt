@@ -7,7 +7,7 @@ use native.Mathlib.Omega.{arith}
 use lib.ListN.{length, length-append}
 use Rattle.records.specs.Put.{put}
 use Rattle.items.specs.Machine.{Rec}
-use Rattle.text.specs.Places.{placeAt}
+use Rattle.places.specs.Places.{placeAt}
 use Rattle.items.specs.Sizes.{contentSize, areaSize}
 use Rattle.writing.specs.Writing.{recordBytes, tagsOf, storeOf, contentOf, areaOf, areaIn}
 use Rattle.writing.specs.Walk.{storeLength, Desk, Going, Room, WroteOne, Wrote, Onward}

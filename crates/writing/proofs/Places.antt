@@ -5,9 +5,9 @@ use mathlib.Core.Bool.{false}
 use mathlib.Core.List.{List}
 use native.Mathlib.Omega.{arith}
 use lib.Dec.{eqb}
-use Rattle.text.specs.declared.Place.{Place}
-use Rattle.text.specs.Places.{placeAt, Whole, IsPlace}
-use Rattle.text.proofs.Places.{place-along, place-offset, place-own, whole-after}
+use Rattle.places.specs.declared.Place.{Place}
+use Rattle.places.specs.Places.{placeAt, Whole, IsPlace}
+use Rattle.places.proofs.Places.{place-along, place-offset, place-own, whole-after}
 use Rattle.writing.specs.Walk.{IsToken}
 
 -- on one line the column counts the bytes

@@ -4,12 +4,12 @@ use mathlib.Core.Path.{_≡_, refl, sym, ap, _∙_}
 use mathlib.Core.Bool.{Bool, true, false}
 use mathlib.Core.List.{List, [], _∷_}
 use native.Mathlib.Omega.{arith}
-use Rattle.text.specs.Gaps.{gapEnd}
-use Rattle.text.specs.Places.{placeAt}
-use Rattle.text.proofs.Places.{place-offset}
-use Rattle.records.specs.declared.Shape.{Shape}
-use Rattle.records.specs.declared.Shape.the-variants.{Empty, Place, Content, Count, Parts, PartsUncertain}
-use Rattle.records.specs.Kinds.{kindOf, shapeOf, outlineShape}
+use Rattle.gaps.specs.Gaps.{gapEnd}
+use Rattle.places.specs.Places.{placeAt}
+use Rattle.places.proofs.Places.{place-offset}
+use Rattle.kinds.specs.declared.Shape.{Shape}
+use Rattle.kinds.specs.declared.Shape.the-variants.{Empty, Place, Content, Count, Parts, PartsUncertain}
+use Rattle.kinds.specs.Kinds.{kindOf, shapeOf, outlineShape}
 use Rattle.items.specs.Tokens.{Tok}
 use Rattle.items.specs.Machine.{Rec}
 use Rattle.items.specs.Sizes.{areaSize}

@@ -7,11 +7,12 @@ use native.Mathlib.Omega.{arith}
 use borrow.Author.Tests.{leb-true, eqb-false}
 use lib.Dec.{eqb, leb}
 use lib.ListN.{length, take, drop}
-use Rattle.text.specs.Gaps.{gap, gapEnd}
-use Rattle.text.specs.Places.{placeAt}
+use Rattle.gaps.specs.Gaps.{gap, gapEnd}
+use Rattle.places.specs.Places.{placeAt}
 use Rattle.text.proofs.Bools.{or-l, or-r, and-l, and-r}
-use Rattle.text.proofs.Gaps.{gap-from, gap-within, gap-none}
-use Rattle.text.proofs.Places.{place-offset, is-gap-end}
+use Rattle.gaps.proofs.Gaps.{gap-from, gap-within, gap-none}
+use Rattle.places.proofs.Places.{place-offset}
+use Rattle.gaps.proofs.Gaps.{is-gap-end}
 use Rattle.words.specs.Words.{word, wordEnd}
 use Rattle.words.proofs.Words.{word-end}
 use Rattle.numbers.specs.declared.Decimal.{Decimal}
@@ -20,8 +21,8 @@ use Rattle.numbers.specs.Meaning.{meaning}
 use Rattle.values.specs.Values.{Class, block, loop, save, tag, value, overLimit, nothing, lexed, lexAsValue}
 use Rattle.values.specs.Answers.{answer, valueAnswer, valueAt}
 use Rattle.values.specs.declared.Value.the-variants.{Token, Number}
-use Rattle.records.specs.declared.Shape.the-variants.{Place as PlaceAlone, Content}
-use Rattle.records.specs.Kinds.{kindOf, shapeOf, marksOf}
+use Rattle.kinds.specs.declared.Shape.the-variants.{Place as PlaceAlone, Content}
+use Rattle.kinds.specs.Kinds.{kindOf, shapeOf, marksOf}
 use Rattle.items.specs.declared.Found.the-variants.{Value}
 use Rattle.items.specs.Tokens.{inBlock, lexIn, lex, after, tok}
 use Rattle.items.specs.Machine.{rec}

@@ -3,8 +3,8 @@ use Prim.Native.Nat.{ℕ}
 use mathlib.Core.Path.{_≡_, ap}
 use mathlib.Core.Bool.{Bool}
 use mathlib.Core.List.{List}
-use Rattle.text.specs.Gaps.{gapEnd}
-use Rattle.text.specs.Places.{placeAt}
+use Rattle.gaps.specs.Gaps.{gapEnd}
+use Rattle.places.specs.Places.{placeAt}
 use Rattle.items.specs.Machine.{Rec}
 use Rattle.writing.specs.declared.Cursor.{Cursor}
 use Rattle.writing.specs.Walk.{Desk, desk, Going, Room, WroteOne, Wrote, behindGap}

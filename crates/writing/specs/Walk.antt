@@ -8,10 +8,10 @@ use mathlib.Core.Option.{Option, some}
 use lib.Dec.{eqb}
 use lib.ListN.{length, drop, getD}
 use Rattle.text.specs.Bytes.{isEol}
-use Rattle.text.specs.Gaps.{gap, gapEnd}
-use Rattle.text.specs.Places.{placeAt, IsPlace}
-use Rattle.words.specs.Keywords.{startsAt, keySave}
-use Rattle.records.specs.Kinds.{kindOf, shapeLength, marksOf}
+use Rattle.gaps.specs.Gaps.{gap, gapEnd}
+use Rattle.places.specs.Places.{placeAt, IsPlace}
+use Rattle.keywords.specs.Keywords.{startsAt, keySave}
+use Rattle.kinds.specs.Kinds.{kindOf, shapeLength, marksOf}
 use Rattle.records.specs.Put.{put}
 use Rattle.items.specs.declared.Found.the-variants.{Value}
 use Rattle.items.specs.Answers.{foundAt}

@@ -5,15 +5,15 @@ use mathlib.Core.Bool.{Bool, true, false, cond}
 use mathlib.Core.List.{List, [], _∷_, _++_}
 use lib.Dec.{eqb}
 use lib.ListN.{length, take, drop}
-use Rattle.text.specs.declared.Place.{Place}
-use Rattle.text.specs.Places.{placeAt}
+use Rattle.places.specs.declared.Place.{Place}
+use Rattle.places.specs.Places.{placeAt}
 use Rattle.numbers.specs.declared.Decimal.{Decimal}
 use Rattle.numbers.specs.Parts.{parts}
 use Rattle.numbers.specs.Meaning.{meaning}
-use Rattle.records.specs.declared.Shape.{Shape}
-use Rattle.records.specs.declared.Shape.the-variants.{Empty, Place as PlaceAlone, Content, Count, Parts, PartsUncertain}
+use Rattle.kinds.specs.declared.Shape.{Shape}
+use Rattle.kinds.specs.declared.Shape.the-variants.{Empty, Place as PlaceAlone, Content, Count, Parts, PartsUncertain}
 use Rattle.records.specs.declared.Token.{Token}
-use Rattle.records.specs.Kinds.{kindOf, shapeOf, outlineShape, opening}
+use Rattle.kinds.specs.Kinds.{kindOf, shapeOf, outlineShape, opening}
 use Rattle.records.specs.Records.{placeRecord, contentRecord, loopRecord, numberRecord, uncertainRecord}
 use Rattle.items.specs.Machine.{Rec}
 use Rattle.items.specs.Sizes.{contentSize}

@@ -4,11 +4,11 @@ ghost use mathlib.Core.Bool.{true, cond};
 ghost use mathlib.Core.List.{List, [], _∷_};
 ghost use Prim.Native.Nat.{ℕ, _+_, _≤_, _<_, _^_};
 ghost use lib.ListN.{length, take, drop};
-ghost use Rattle.text.specs.Places.{IsPlace, placeAt};
-ghost use Rattle.text.specs.Gaps.{gapEnd};
-ghost use Rattle.words.specs.Keywords.{startsAt, keyLoop, keySave};
-ghost use Rattle.records.specs.Kinds.{kindOf, shapeOf};
-ghost use Rattle.records.specs.declared.Shape.the-variants.{Content, Place as PlaceAlone};
+ghost use Rattle.places.specs.Places.{IsPlace, placeAt};
+ghost use Rattle.gaps.specs.Gaps.{gapEnd};
+ghost use Rattle.keywords.specs.Keywords.{startsAt, keyLoop, keySave};
+ghost use Rattle.kinds.specs.Kinds.{kindOf, shapeOf};
+ghost use Rattle.kinds.specs.declared.Shape.the-variants.{Content, Place as PlaceAlone};
 ghost use Rattle.items.specs.Sizes.{areaSize};
 ghost use Rattle.records.specs.Put.{front, put};
 ghost use Rattle.items.specs.Machine.{loopEnd};
@@ -21,10 +21,10 @@ ghost use Rattle.items.specs.Descent.{nameRecs, afterNames, valueRecs, afterVal
 ghost use Rattle.writing.specs.Writing.{storeOf, areaIn, placed, tokenAt, contentBytes, loopBytes, numberBytes, recordBytes};
 ghost use Rattle.writing.specs.Walk.{storeLength, recordLength, Going, Room, IsToken, recAt, WroteOne, Wrote, behindGap, ValueHere, ItemHere, WroteItem, nextOf, Closing, Closed, Ahead, Moved, recsLeft, isDone, answerRecs, desk};
 use items::Item;
+use kinds::Kind;
 use numbers::Decimal;
-use records::Kind;
+use places::Place;
 use records::Token;
-use text::Place;
 
 // Where writing stands: the place in the text, and the offsets in the store and in the area.
 pub struct Cursor {
@@ -75,9 +75,9 @@ fn record_length(full: bool, kind: u8) -> usize
     ensures { λ r. ⌜ r ≡ recordLength full kind ⌝ }
 {
     if full {
-        return 1 + records::body_length(kind);
+        return 1 + kinds::body_length(kind);
     }
-    1 + records::outline_length(kind)
+    1 + kinds::outline_length(kind)
 }
 
 // The place behind a token: only a text field has line ends in it.
@@ -90,7 +90,7 @@ fn behind(s: &[u8], p: Place, kind: u8, size: usize) -> Place
     let column = p.column;
     let end = offset + size;
     if kind == 13 {
-        return text::advance(s, p, end);
+        return places::advance(s, p, end);
     }
     Place {
         offset: end,
@@ -256,7 +256,7 @@ fn trim_from(s: &[u8], offset: usize, line: usize, column: usize) -> Place
         line,
         column,
     };
-    text::skip_on(s, &mut place);
+    gaps::skip_on(s, &mut place);
     place
 }
 
@@ -265,9 +265,9 @@ fn trim_spaces_first(s: &[u8], offset: usize, line: usize, column: usize) -> Pla
     requires { ⌜ IsPlace (now s) (placed offset line column) ⌝ }
     ensures { λ r. ⌜ r ≡ placeAt (now (s .entry)) (gapEnd (now (s .entry)) offset) ⌝ }
 {
-    let at = text::spaces_end(s, offset);
+    let at = gaps::spaces_end(s, offset);
     let here = column + (at - offset);
-    if text::shows_no_gap(s, at) {
+    if gaps::shows_no_gap(s, at) {
         return Place {
             offset: at,
             line,
@@ -354,10 +354,10 @@ fn count_tags(s: &[u8], from: usize) -> usize
     requires { ⌜ from ≤ length (now s) ⌝ }
     ensures { λ r. ⌜ r ≡ length (nameRecs (tokensAt inBlock (now (s .entry)) from)) ⌝ }
 {
-    let mut at = text::gap_end(s, from);
+    let mut at = gaps::gap_end(s, from);
     let mut count: usize = 0;
     while items::at_tag(s, at) {
-        at = text::gap_end(s, words::long_word_end(s, at));
+        at = gaps::gap_end(s, words::long_word_end(s, at));
         count += 1;
     }
     count
@@ -414,7 +414,7 @@ fn write_item(s: &[u8], full: bool, store: &mut [u8], area: &mut [u8], c: Cursor
 {
     let place = c.place;
     let offset = place.offset;
-    if words::at_loop(s, offset) {
+    if keywords::at_loop(s, offset) {
         return write_loop_item(s, full, store, area, c);
     }
     write_tag_item(s, full, store, area, c)
@@ -458,7 +458,7 @@ fn next_in_frame(s: &[u8], at: usize) -> Next
         return decide_next(s, at);
     }
     let end = words::long_word_end(s, at);
-    let stop = text::gap_end(s, end);
+    let stop = gaps::gap_end(s, end);
     if items::pack_value(s, stop) == 0 {
         return Next::Stop { at: stop };
     }
@@ -474,7 +474,7 @@ fn close_frame(s: &[u8], full: bool, store: &mut [u8], c: Cursor, stop: usize) -
     let at = c.at;
     let area = c.area;
     let here = Cursor {
-        place: text::advance(s, place, stop),
+        place: places::advance(s, place, stop),
         at,
         area,
     };
@@ -507,7 +507,7 @@ fn write_item_or_frame(s: &[u8], full: bool, store: &mut [u8], area: &mut [u8], 
 {
     let place = c.place;
     let offset = place.offset;
-    if words::at_save(s, offset) {
+    if keywords::at_save(s, offset) {
         return write_frame(s, full, store, area, c);
     }
     write_item(s, full, store, area, c)

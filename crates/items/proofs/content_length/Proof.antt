@@ -3,7 +3,7 @@ use mathlib.Core.Path.{_∙_}
 use native.Mathlib.Omega.{arith}
 use Prim.Native.Nat.{_-_}
 use mathlib.Core.Path.{_≡_}
-use Rattle.records.specs.Kinds.{hasContent}
+use Rattle.kinds.specs.Kinds.{hasContent}
 use Rattle.items.proofs.Choices.{no-content}
 use Rattle.items.proofs.Room.{content-none, content-by}
 use borrow.Author.Needs.{needs}

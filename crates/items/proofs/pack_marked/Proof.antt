@@ -3,7 +3,7 @@ use Prim.Native.Nat.{_<_}
 use mathlib.Core.Path.{sym, _∙_}
 use native.Mathlib.Omega.{arith}
 use lib.ListN.{getD}
-use Rattle.words.proofs.Keywords.{reserved-low}
+use Rattle.keywords.proofs.Keywords.{reserved-low}
 use Rattle.values.proofs.Pieces.{value-quote, value-double, value-field}
 use Rattle.items.proofs.First.{tag-found}
 use borrow.Author.Needs.{needs}

@@ -1,5 +1,5 @@
 -- `naming::bare`: a number and six zeros. Assumes nothing.
-use Rattle.text.specs.Reports.{refusedBare}
+use Rattle.places.specs.Reports.{refusedBare}
 use Rattle.naming.proofs.bare.Statement.{statement}
 use Rattle.naming.proofs.bare.Tie as tie
 use mathlib.Core.Path.{refl}

@@ -1,6 +1,6 @@
 -- `reading::lengths`: as it is defined. Assumes nothing.
 use mathlib.Core.Path.{refl}
-use Rattle.text.specs.Reports.{noRoom}
+use Rattle.places.specs.Reports.{noRoom}
 use Rattle.reading.proofs.lengths.Statement.{statement}
 use Rattle.reading.proofs.lengths.Tie as tie
 

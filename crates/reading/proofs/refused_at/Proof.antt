@@ -1,6 +1,6 @@
 -- `reading::refused_at`: as it is defined. Assumes nothing.
 use mathlib.Core.Path.{refl}
-use Rattle.text.specs.Reports.{refusedAt}
+use Rattle.places.specs.Reports.{refusedAt}
 use Rattle.reading.proofs.refused_at.Statement.{statement}
 use Rattle.reading.proofs.refused_at.Tie as tie
 

@@ -1,6 +1,6 @@
 -- `rendering::answer` meets its contract. Assumes nothing.
 use mathlib.Core.Path.{refl}
-use Rattle.text.specs.Reports.{noRoom}
+use Rattle.places.specs.Reports.{noRoom}
 use Rattle.rendering.proofs.answer.Statement.{statement}
 use Rattle.rendering.proofs.answer.Tie as tie
 

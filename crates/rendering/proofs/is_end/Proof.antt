@@ -2,8 +2,8 @@
 use mathlib.Core.Path.{refl}
 use mathlib.Core.Bool.{true, false}
 use mathlib.Core.List.{[], _∷_}
-use Rattle.records.specs.Kinds.{kindOf}
-use Rattle.records.proofs.Numbering.{told}
+use Rattle.kinds.specs.Kinds.{kindOf}
+use Rattle.kinds.proofs.Numbering.{told}
 use Rattle.rendering.specs.Rendering.{isEnd}
 use Rattle.rendering.proofs.is_end.Statement.{statement}
 use Rattle.rendering.proofs.is_end.Tie as tie

@@ -6,9 +6,9 @@ use mathlib.Core.List.{[], _∷_}
 use native.Mathlib.Omega.{arith}
 use lib.ListN.{length}
 use Rattle.numbers.specs.Spelling.{renderNumber}
-use Rattle.records.specs.declared.Kind.the-variants.{Number, Uncertain}
-use Rattle.records.specs.Kinds.{kindOf, shapeOf, isContent}
-use Rattle.records.proofs.Numbering.{told}
+use Rattle.kinds.specs.declared.Kind.the-variants.{Number, Uncertain}
+use Rattle.kinds.specs.Kinds.{kindOf, shapeOf, isContent}
+use Rattle.kinds.proofs.Numbering.{told}
 use Rattle.rendering.specs.Rendering.{decimalOf}
 use Rattle.rendering.specs.Writing.{Short, lineLength}
 use Rattle.rendering.proofs.Lines.{digits-kept, parts-short}

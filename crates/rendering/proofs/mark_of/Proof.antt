@@ -2,8 +2,8 @@
 use borrow.Author.Needs.{needs}
 use mathlib.Core.Path.{refl}
 use mathlib.Core.List.{[], _∷_}
-use Rattle.records.specs.Kinds.{kindOf}
-use Rattle.records.proofs.Numbering.{told}
+use Rattle.kinds.specs.Kinds.{kindOf}
+use Rattle.kinds.proofs.Numbering.{told}
 use Rattle.rendering.specs.Writing.{markOf}
 use Rattle.rendering.proofs.mark_of.Statement.{statement}
 use Rattle.rendering.proofs.mark_of.Tie as tie

@@ -6,7 +6,7 @@ use mathlib.Core.Bool.{true, false}
 use native.Mathlib.Omega.{arith}
 use lib.ListN.{length, take, drop, length-take, length-drop}
 use Rattle.numbers.specs.Spelling.{renderNumber}
-use Rattle.records.specs.Kinds.{isContent, marksOf}
+use Rattle.kinds.specs.Kinds.{isContent, marksOf}
 use Rattle.rendering.specs.Writing.{bodyText}
 use Rattle.rendering.proofs.Wrote.{wrote-none, wrote-as, room-as}
 use Rattle.rendering.proofs.Lines.{body-content, body-parts, body-uncertain, body-none, own-content, own-parts, parts-short}

@@ -6,8 +6,8 @@ use mathlib.Core.List.{[], _∷_}
 use native.Mathlib.Omega.{arith}
 use lib.Dec.{ltb}
 use lib.ListN.{length}
-use Rattle.records.specs.Kinds.{kindOf}
-use Rattle.records.proofs.Numbering.{told}
+use Rattle.kinds.specs.Kinds.{kindOf}
+use Rattle.kinds.proofs.Numbering.{told}
 use Rattle.rendering.specs.Writing.{markOf, closingText}
 use Rattle.rendering.proofs.Wrote.{wrote-as, wrote-then, wrote-room, room-as, room-first}
 use Rattle.rendering.proofs.Lines.{closing-mark}

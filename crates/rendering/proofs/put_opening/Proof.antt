@@ -5,9 +5,9 @@ use mathlib.Core.Bool.{true}
 use mathlib.Core.List.{[], _∷_}
 use native.Mathlib.Omega.{arith}
 use lib.Dec.{ltb}
-use Rattle.words.specs.Keywords.{keyData, keyLoop, keySave}
-use Rattle.records.specs.Kinds.{kindOf}
-use Rattle.records.proofs.Numbering.{told}
+use Rattle.keywords.specs.Keywords.{keyData, keyLoop, keySave}
+use Rattle.kinds.specs.Kinds.{kindOf}
+use Rattle.kinds.proofs.Numbering.{told}
 use Rattle.rendering.specs.Writing.{markOf, openingText}
 use Rattle.rendering.proofs.Wrote.{wrote-none, wrote-as, room-as}
 use Rattle.rendering.proofs.Lines.{opening-mark}

@@ -5,8 +5,8 @@ use mathlib.Core.Path.{_≡_, sym, _∙_}
 use native.Mathlib.Omega.{arith}
 use lib.ListN.{length}
 use borrow.Author.Needs.{needs}
-use Rattle.records.specs.declared.Entry.the-variants.{Record}
-use Rattle.records.specs.Entries.{entryAt}
+use Rattle.entries.specs.declared.Entry.the-variants.{Record}
+use Rattle.entries.specs.Entries.{entryAt}
 use Rattle.stores.proofs.Walking.{next-at}
 use Rattle.rendering.proofs.Passing.{Summing, summing-first, summing-end, summing-none, summing-digits, summing-over, summing-more}
 use Rattle.rendering.proofs.rendered_length.Statement.{statement}

@@ -4,8 +4,8 @@ use mathlib.Core.Path.{_≡_, sym, _∙_}
 use native.Mathlib.Omega.{arith}
 use lib.ListN.{length}
 use borrow.Author.Needs.{needs}
-use Rattle.records.specs.declared.Entry.the-variants.{Record}
-use Rattle.records.specs.Entries.{entryAt}
+use Rattle.entries.specs.declared.Entry.the-variants.{Record}
+use Rattle.entries.specs.Entries.{entryAt}
 use Rattle.stores.proofs.Walking.{next-at}
 use Rattle.rendering.proofs.Passing.{Writing, writing-first, writing-length, writing-end, writing-none, writing-own, writing-room, writing-more}
 use Rattle.rendering.proofs.write_lines.Statement.{statement}

@@ -1,7 +1,7 @@
 -- `stores::has_content`: by the shape. Assumes nothing.
 use mathlib.Core.Path.{_≡_, sym, _∙_}
 use borrow.Author.Needs.{needs}
-use Rattle.records.specs.Kinds.{isContent}
+use Rattle.kinds.specs.Kinds.{isContent}
 use Rattle.stores.proofs.Contents.{shape-other}
 use Rattle.stores.proofs.has_content.Statement.{statement}
 use Rattle.stores.proofs.has_content.Tie as tie

@@ -6,8 +6,8 @@ use native.Mathlib.Omega.{arith}
 use lib.ListN.{length}
 use borrow.Author.Needs.{needs}
 use borrow.Author.Tests.{not-true, not-false}
-use Rattle.records.specs.declared.Entry.the-variants.{Record}
-use Rattle.records.specs.Entries.{entryAt}
+use Rattle.entries.specs.declared.Entry.the-variants.{Record}
+use Rattle.entries.specs.Entries.{entryAt}
 use Rattle.stores.specs.Walk.{entries}
 use Rattle.stores.specs.Contents.{ownRule, takes, filled, filledFrom}
 use Rattle.stores.proofs.Walking.{rest, next-at}

@@ -4,9 +4,9 @@ use mathlib.Core.Path.{_≡_, refl, sym, _∙_, ap}
 use native.Mathlib.Omega.{arith}
 use lib.ListN.{length}
 use borrow.Author.Needs.{needs}
-use Rattle.records.specs.declared.Entry.the-variants.{Record}
-use Rattle.records.specs.Kinds.{numberOf}
-use Rattle.records.specs.Entries.{entryAt}
+use Rattle.entries.specs.declared.Entry.the-variants.{Record}
+use Rattle.kinds.specs.Kinds.{numberOf}
+use Rattle.entries.specs.Entries.{entryAt}
 use Rattle.stores.specs.Walk.{entries}
 use Rattle.stores.specs.declared.Stand.the-variants.{Stands, Falls}
 use Rattle.stores.specs.Nesting.{nested, nestedFrom, counted, standing}

@@ -3,8 +3,8 @@ use mathlib.Core.Path.{_≡_, refl, sym, _∙_}
 use mathlib.Core.Bool.{false}
 use mathlib.Core.List.{[], _∷_}
 use borrow.Author.Needs.{needs}
-use Rattle.records.specs.Kinds.{kindOf}
-use Rattle.records.proofs.Numbering.{told}
+use Rattle.kinds.specs.Kinds.{kindOf}
+use Rattle.kinds.proofs.Numbering.{told}
 use Rattle.stores.specs.Contents.{isName, readableBy}
 use Rattle.stores.proofs.Quoting.{alone-single, alone-double}
 use Rattle.stores.proofs.is_readable_by.Statement.{statement}

@@ -4,8 +4,8 @@ use mathlib.Core.Path.{_≡_, refl, sym, _∙_}
 use native.Mathlib.Omega.{arith}
 use lib.ListN.{length}
 use borrow.Author.Needs.{needs}
-use Rattle.records.specs.declared.Entry.the-variants.{Record}
-use Rattle.records.specs.Entries.{entryAt}
+use Rattle.entries.specs.declared.Entry.the-variants.{Record}
+use Rattle.entries.specs.Entries.{entryAt}
 use Rattle.stores.specs.Walk.{entries}
 use Rattle.stores.specs.Content.{nth, partOf}
 use Rattle.stores.proofs.Walking.{rest, next-at}

@@ -2,7 +2,7 @@
 use borrow.Author.Needs.{needs}
 use borrow.Author.Tests.{ne-eqb}
 use native.Mathlib.Omega.{arith}
-use Rattle.text.proofs.Places.{place-column}
+use Rattle.places.proofs.Places.{place-column}
 use Rattle.writing.proofs.Places.{behind-line}
 use Rattle.writing.proofs.behind.Statement.{statement}
 use Rattle.writing.proofs.behind.Tie as tie

@@ -2,7 +2,7 @@
 use borrow.Author.Needs.{needs}
 use mathlib.Core.Path.{refl}
 use mathlib.Core.List.{[]}
-use Rattle.records.specs.Kinds.{kindOf, shapeOf}
+use Rattle.kinds.specs.Kinds.{kindOf, shapeOf}
 use Rattle.writing.proofs.Frames.{closing-place, closing-token, closed}
 use Rattle.writing.proofs.close_frame.Statement.{statement}
 use Rattle.writing.proofs.close_frame.Tie as tie

@@ -3,8 +3,8 @@ use Prim.Native.Nat.{_+_, _-_, _≤_}
 use mathlib.Core.Path.{_≡_, sym, ap, _∙_}
 use native.Mathlib.Omega.{arith}
 use lib.ListN.{length}
-use Rattle.text.specs.Gaps.{gapEnd}
-use Rattle.text.proofs.Gaps.{gap-from, gap-within}
+use Rattle.gaps.specs.Gaps.{gapEnd}
+use Rattle.gaps.proofs.Gaps.{gap-from, gap-within}
 use Rattle.words.specs.Words.{wordEnd}
 use Rattle.items.specs.Tokens.{inBlock}
 use Rattle.items.specs.Descent.{nameRecs}

@@ -43,15 +43,15 @@ use denote.Triple.Spec.{Meets, tripleOf}
 use denote.Triple.Table.{entered, cited}
 use denote.Triple.Walked.{says, needs, Stays, stay-none, stay-none-slice, walkOf, goes-none, goes-none-slice, Walks, ends-at, walked, walk-meets}
 use denote.Exit.{yes}
-use Rattle.text.specs.declared.Place.{Place}
-use Rattle.text.specs.Places.{placeAt, IsPlace}
-use Rattle.text.specs.Gaps.{gapEnd}
-use Rattle.text.proofs.Place as T
-use Rattle.text.proofs.Place.Laws as T′
-use Rattle.text.proofs.skip_on as skip-on
-use Rattle.text.proofs.skip_on.Symbol as skip-on-def
-use Rattle.text.proofs.skip_on.Symbol.{name as #text·skip-on}
-use Rattle.text.proofs.skip_on.Met as skip-on-thm
+use Rattle.places.specs.declared.Place.{Place}
+use Rattle.places.specs.Places.{placeAt, IsPlace}
+use Rattle.gaps.specs.Gaps.{gapEnd}
+use Rattle.places.proofs.Place as T
+use Rattle.places.proofs.Place.Laws as T′
+use Rattle.gaps.proofs.skip_on as skip-on
+use Rattle.gaps.proofs.skip_on.Symbol as skip-on-def
+use Rattle.gaps.proofs.skip_on.Symbol.{name as #gaps·skip-on}
+use Rattle.gaps.proofs.skip_on.Met as skip-on-thm
 use Rattle.writing.specs.Writing.{placed}
 use Rattle.writing.proofs.trim_from.Key.{name as #writing·trim-from}
 use Rattle.writing.proofs.trim_from as trim-from
@@ -142,7 +142,7 @@ module _ {M : Type 1} (𝓤 : URA M) (H : Heap 𝓤) (A : Atoms 𝓤) (W : Given
       owned ! usize (Is usize) (uint-makes 𝓤 H A W w64) n _ (refl, n-fits) $ fjoin ! $ move ! (1 ∷ 0 ∷ []) $ fjoin ! $
       owned ! T.the-row (Is T.the-row) (LL.makes T.the-type T′.the-plain 𝓤 H A) r _ is $ move ! (1 ∷ 0 ∷ []) $ done !
 
-  module _ (C : Calls 𝓤 H) (Λ : Loops 𝓤 H) (fm : FmC 𝓤 H (W .laws) C) (known : Triple 𝓤 (C #text·skip-on) (Skip 𝓤 H A at-mem run)) where
+  module _ (C : Calls 𝓤 H) (Λ : Loops 𝓤 H) (fm : FmC 𝓤 H (W .laws) C) (known : Triple 𝓤 (C #gaps·skip-on) (Skip 𝓤 H A at-mem run)) where
     walk : Is (ShrSlice (named 0) κ u8) s (v ∷ []) → IsPlace (now s) h → ent 𝓤 (onEntry 𝓤 H A trim-from.signature (κ, tt) (q, tt) x at) (WpFn 𝓤 H C Λ code.function (v ∷ vint w64 n ∷ vint w64 m ∷ vint w64 k ∷ []) Post)
     walk sp f =
         qed W ((‵ (flft κ q) ⊛ ‵ ftrue) ∷ ‵ (owns (ShrSlice (named 0) κ u8 ∷ usize ∷ usize ∷ usize ∷ []) x at) ∷ []) ∵
@@ -178,14 +178,14 @@ module _ {M : Type 1} (𝓤 : URA M) (H : Heap 𝓤) (A : Atoms 𝓤) (W : Given
         keep ! (1 ∷ 3 ∷ []) $ by ! (exits (ws .1 .0) is e)))))))))))))))))
 
 module _ {M : Type 1} (𝓤 : URA M) (H : Heap 𝓤) (A : Atoms 𝓤) (W : Given 𝓤 H A) (at-mem : Memory → SProp 𝓤) (run : Routine → Fun 𝓤) where
-  trim-from-walks : (C : Calls 𝓤 H) (Λ : Loops 𝓤 H) → FmC 𝓤 H (W .laws) C → Triple 𝓤 (C #text·skip-on) (Skip 𝓤 H A at-mem run) → Walks 𝓤 H A trim-from.ended stayed (WpFn 𝓤 H C Λ code.function) (trim-from.clauses 𝓤 H A at-mem run)
+  trim-from-walks : (C : Calls 𝓤 H) (Λ : Loops 𝓤 H) → FmC 𝓤 H (W .laws) C → Triple 𝓤 (C #gaps·skip-on) (Skip 𝓤 H A at-mem run) → Walks 𝓤 H A trim-from.ended stayed (WpFn 𝓤 H C Λ code.function) (trim-from.clauses 𝓤 H A at-mem run)
   unfolding placed
   trim-from-walks C Λ fm known = walked 𝓤 H A trim-from.ended stayed (trim-from.clauses 𝓤 H A at-mem run) (WpFn 𝓤 H C Λ code.function)
       (λ κs. (slice-vals, (uint-vals w64, (uint-vals w64, (uint-vals w64, tt))))) (λ κs. (shr-slice-tells (named 0) (κs .0) u8, (uint-tells w64, (uint-tells w64, (uint-tells w64, tt)))))
       (λ κs qs bounds a g are. needs 𝓤 (IsPlace (now (a .0)) (placed (a .1 .0) (a .1 .1 .0) (a .1 .1 .1 .0))) _ (λ f.
       walk 𝓤 H A W at-mem run (κs .0) (qs .0) (a .0) (a .1 .0) (a .1 .1 .0) (a .1 .1 .1 .0) (are .1 .0 .1) (are .1 .1 .0 .1) (are .1 .1 .1 .0 .1) C Λ fm known (are .0) f))
 
-trim-from-meets : {M : Type 1} (𝓤 : URA M) (H : Heap 𝓤) (A : Atoms 𝓤) → Given 𝓤 H A → (at-mem : Memory → SProp 𝓤) (run : Routine → Fun 𝓤) (𝓣 : Tables 𝓤 H) → Triple 𝓤 (𝓣 .C #text·skip-on) (Skip 𝓤 H A at-mem run)
+trim-from-meets : {M : Type 1} (𝓤 : URA M) (H : Heap 𝓤) (A : Atoms 𝓤) → Given 𝓤 H A → (at-mem : Memory → SProp 𝓤) (run : Routine → Fun 𝓤) (𝓣 : Tables 𝓤 H) → Triple 𝓤 (𝓣 .C #gaps·skip-on) (Skip 𝓤 H A at-mem run)
     → Meets 𝓤 H A trim-from.signature (WpFn 𝓤 H (𝓣 .C) (𝓣 .Λ) code.function) (trim-from.spec 𝓤 H A at-mem run)
 trim-from-meets 𝓤 H A W at-mem run 𝓣 known =
     walk-meets 𝓤 H A trim-from.ended stayed W (goes-none-slice 𝓤 H A W 1 (0 ∷ []) tt (plain (λ _. u8)) yes, (goes-none 𝓤 H A W 1 (λ _. usize) yes (λ κs x f. refl), (goes-none 𝓤 H A W 1 (λ _. usize) yes (λ κs x f. refl), (goes-none 𝓤 H A W 1 (λ _. usize) yes (λ κs x f. refl), tt))))
@@ -197,4 +197,4 @@ trim-from-spec 𝓤 H 𝓜 𝓖 𝓡 =
     entered 𝓤 H (tripleOf 𝓤 H (𝓖 .A) trim-from.signature (trim-from.spec 𝓤 H (𝓖 .A) (𝓜 .mem) (𝓡 .run)))
     (tables 𝓤 H 𝓜 𝓡 code.env .C) (tables 𝓤 H 𝓜 𝓡 code.env .Λ) #writing·trim-from code.function (code.unfolded 𝓤 H 𝓜 𝓡)
     (trim-from-meets 𝓤 H (𝓖 .A) (givenOf 𝓤 H 𝓜 𝓖) (𝓜 .mem) (𝓡 .run) (tablesOf 𝓤 H 𝓜 (tables 𝓤 H 𝓜 𝓡 code.env))
-    (cited 𝓤 H (Skip 𝓤 H (𝓖 .A) (𝓜 .mem) (𝓡 .run)) 𝓜 𝓡 code.env #text·skip-on skip-on-def.routine code.calls-text·skip-on (skip-on-thm.met 𝓤 H 𝓜 𝓖 𝓡)))
+    (cited 𝓤 H (Skip 𝓤 H (𝓖 .A) (𝓜 .mem) (𝓡 .run)) 𝓜 𝓡 code.env #gaps·skip-on skip-on-def.routine code.calls-gaps·skip-on (skip-on-thm.met 𝓤 H 𝓜 𝓖 𝓡)))

@@ -2,11 +2,11 @@
 use mathlib.Core.Path.{sym, ap, _∙_}
 use native.Mathlib.Omega.{arith}
 use Rattle.text.specs.Bytes.{is}
-use Rattle.text.specs.Gaps.{gapEnd}
-use Rattle.text.specs.Places.{placeAt}
+use Rattle.gaps.specs.Gaps.{gapEnd}
+use Rattle.places.specs.Places.{placeAt}
 use Rattle.text.proofs.Runs.{span-from, span-within}
-use Rattle.text.proofs.Gaps.{gap-spaces, gap-shown}
-use Rattle.text.proofs.Places.{place-column, is-spaces-end}
+use Rattle.gaps.proofs.Gaps.{gap-spaces, gap-shown}
+use Rattle.places.proofs.Places.{place-column, is-spaces-end}
 use Rattle.writing.specs.Writing.{placed}
 use Rattle.writing.proofs.trim_spaces_first.Statement.{statement}
 use Rattle.writing.proofs.trim_spaces_first.Tie as tie

@@ -1,7 +1,7 @@
 -- `writing::trimmed`: only the place moves on. Assumes nothing.
 use borrow.Author.Needs.{needs}
 use mathlib.Core.Path.{ap}
-use Rattle.text.specs.declared.Place.{Place}
+use Rattle.places.specs.declared.Place.{Place}
 use Rattle.writing.specs.Walk.{behindGap}
 use Rattle.writing.specs.Writing.{placed}
 use Rattle.writing.proofs.trimmed.Statement.{statement}

@@ -3,9 +3,9 @@ use borrow.Author.Needs.{needs}
 use Prim.Native.Nat.{_-_}
 use mathlib.Core.Path.{refl, ap}
 use native.Mathlib.Omega.{arith}
-use Rattle.text.proofs.Places.{is-start}
+use Rattle.places.proofs.Places.{is-start}
 use Rattle.words.proofs.Words.{word-from}
-use Rattle.records.specs.Kinds.{kindOf, shapeOf}
+use Rattle.kinds.specs.Kinds.{kindOf, shapeOf}
 use Rattle.items.specs.Reading.{limit}
 use Rattle.writing.specs.declared.Cursor.{Cursor}
 use Rattle.writing.specs.Writing.{placed}

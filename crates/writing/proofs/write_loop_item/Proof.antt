@@ -1,7 +1,7 @@
 -- `writing::write_loop_item`: head, names, values and end, one after the other. Assumes nothing.
 use borrow.Author.Needs.{needs}
 use Prim.Native.Nat.{_+_}
-use Rattle.text.proofs.Places.{place-offset}
+use Rattle.places.proofs.Places.{place-offset}
 use Rattle.writing.specs.Walk.{desk}
 use Rattle.writing.proofs.SoFar.{room-first}
 use Rattle.writing.proofs.Items.{names-few, loop-names-room, loop-values-room, loop-token, loop-begun, loop-opened, loop-named, loop-valued, loop-ended}

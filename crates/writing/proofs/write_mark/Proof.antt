@@ -3,7 +3,7 @@ use borrow.Author.Needs.{needs}
 use mathlib.Core.Path.{_≡_, refl, ap, _∙_}
 use native.Mathlib.Omega.{arith}
 use Prim.Native.Nat.{_+_}
-use Rattle.records.specs.Kinds.{isContent}
+use Rattle.kinds.specs.Kinds.{isContent}
 use Rattle.records.specs.Put.{put}
 use Rattle.records.specs.Records.{placeRecord}
 use Rattle.records.proofs.Putting.{part-put}

@@ -5,8 +5,8 @@ use mathlib.Core.Path.{refl, sym, ap, _∙_}
 use native.Mathlib.Omega.{arith}
 use borrow.Author.Tests.{not-true, not-false}
 use lib.ListN.{length}
-use Rattle.records.specs.Kinds.{kindOf, shapeOf}
-use Rattle.text.proofs.Gaps.{gap-from}
+use Rattle.kinds.specs.Kinds.{kindOf, shapeOf}
+use Rattle.gaps.proofs.Gaps.{gap-from}
 use Rattle.words.proofs.Words.{word-from}
 use Rattle.writing.specs.Walk.{desk}
 use Rattle.writing.proofs.SoFar.{SoFar, start}

@@ -4,7 +4,7 @@ use Prim.Native.Nat.{_-_}
 use mathlib.Core.Path.{refl, sym, ap, _∙_}
 use native.Mathlib.Omega.{arith}
 use Rattle.words.proofs.Words.{word-from}
-use Rattle.records.specs.Kinds.{kindOf, shapeOf}
+use Rattle.kinds.specs.Kinds.{kindOf, shapeOf}
 use Rattle.writing.specs.Walk.{desk}
 use Rattle.writing.proofs.Items.{tag-token, tag-room, tag-value-room, tag-done}
 use Rattle.writing.proofs.write_tag_item.Statement.{statement}

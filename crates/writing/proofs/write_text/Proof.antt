@@ -6,7 +6,7 @@ use mathlib.Core.Bool.{cond}
 use mathlib.Core.List.{[], _∷_}
 use native.Mathlib.Omega.{arith}
 use lib.ListN.{length}
-use Rattle.records.specs.Kinds.{kindOf, marksOf, opening}
+use Rattle.kinds.specs.Kinds.{kindOf, marksOf, opening}
 use Rattle.records.specs.Put.{put}
 use Rattle.writing.specs.Writing.{contentBytes}
 use Rattle.writing.specs.Walk.{storeLength, recAt, desk}

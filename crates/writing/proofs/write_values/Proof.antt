@@ -3,7 +3,7 @@ use Prim.Native.Nat.{_-_}
 use mathlib.Core.Path.{_≡_, sym, _∙_}
 use native.Mathlib.Omega.{arith}
 use lib.ListN.{length}
-use Rattle.text.proofs.Gaps.{gap-from}
+use Rattle.gaps.proofs.Gaps.{gap-from}
 use Rattle.items.specs.Reading.{limit}
 use Rattle.items.proofs.Packs.{unpack, no-value-packed}
 use Rattle.writing.specs.Walk.{desk}

@@ -1,6 +1,6 @@
 -- `check_leaves::leaves::field`: the word behind the space is a part of the text. Assumes nothing.
 use native.Mathlib.Omega.{arith}
-use Rattle.text.proofs.Gaps.{gap-within}
+use Rattle.gaps.proofs.Gaps.{gap-within}
 use Rattle.words.proofs.Words.{word-from, word-within}
 use borrow.Author.Needs.{needs}
 use Rattle.check_leaves.proofs.leaves.field.Statement.{statement}

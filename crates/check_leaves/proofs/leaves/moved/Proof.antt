@@ -1,5 +1,5 @@
 -- `check_leaves::leaves::moved`: offset 0 is a place of every text. Assumes nothing.
-use Rattle.text.proofs.Places.{is-start}
+use Rattle.places.proofs.Places.{is-start}
 use borrow.Author.Needs.{needs}
 use Rattle.check_leaves.proofs.leaves.moved.Statement.{statement}
 use Rattle.check_leaves.proofs.leaves.moved.Tie as tie

@@ -1,7 +1,7 @@
 -- `naming::Naming::report`: an answer's numbers, case by case. Assumes nothing.
 use borrow.Author.Needs.{needs}
 use mathlib.Core.Path.{_∙_}
-use Rattle.text.specs.Reports.{success, refusedBare}
+use Rattle.places.specs.Reports.{success, refusedBare}
 use Rattle.naming.specs.Names.{namingReport}
 use Rattle.naming.proofs.Naming.report.Statement.{statement}
 use Rattle.naming.proofs.Naming.report.Tie as tie

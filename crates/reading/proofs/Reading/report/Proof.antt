@@ -1,5 +1,5 @@
 -- `reading::Reading::report`: case by case. Assumes nothing.
-use Rattle.text.specs.Reports.{noRoom, refusedBare, refusedAt, success}
+use Rattle.places.specs.Reports.{noRoom, refusedBare, refusedAt, success}
 use Rattle.reading.specs.Services.{readingReport}
 use borrow.Author.Needs.{needs}
 use Rattle.reading.proofs.Reading.report.Statement.{statement}

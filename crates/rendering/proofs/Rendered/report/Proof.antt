@@ -1,6 +1,6 @@
 -- `rendering::Rendered::report` meets its contract. Assumes nothing.
 use borrow.Author.Needs.{needs}
-use Rattle.text.specs.Reports.{success, refusedBare, noRoom}
+use Rattle.places.specs.Reports.{success, refusedBare, noRoom}
 use Rattle.rendering.specs.Rendering.{renderedReport}
 use Rattle.rendering.proofs.Rendered.report.Statement.{statement}
 use Rattle.rendering.proofs.Rendered.report.Tie as tie

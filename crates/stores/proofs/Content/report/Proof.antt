@@ -1,6 +1,6 @@
 -- `stores::Content::report`: each case's number. Assumes nothing.
 use borrow.Author.Needs.{needs}
-use Rattle.text.specs.Reports.{success, refusedBare}
+use Rattle.places.specs.Reports.{success, refusedBare}
 use Rattle.stores.specs.Content.{contentReport}
 use Rattle.stores.proofs.Content.report.Statement.{statement}
 use Rattle.stores.proofs.Content.report.Tie as tie

@@ -1,0 +1,3 @@
+pub mod Offsets
+pub mod Entering
+pub mod Back

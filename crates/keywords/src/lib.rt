@@ -1,0 +1,85 @@
+// Keywords: in any letter case, as prefixes.
+ghost use mathlib.Core.Path.{_≡_};
+ghost use Prim.Native.Nat.{_<_};
+ghost use lib.ListN.{drop};
+ghost use Rattle.keywords.specs.Keywords.{lower, startsAt, keyData, keyLoop, keySave, reserved};
+
+// A to Z as a to z.
+fn to_lower(b: u8) -> u8
+    ensures { λ r. ⌜ r ≡ lower b ⌝ }
+{
+    if b < 65 {
+        return b;
+    }
+    if 90 < b {
+        return b;
+    }
+    b + 32
+}
+
+// Whether a keyword, written in lower case, stands at an offset in any letter case.
+pub fn start_with(s: &[u8], at: usize, key: &[u8]) -> bool
+    ensures { λ r. ⌜ r ≡ startsAt (now (key .entry)) (now (s .entry)) at ⌝ }
+{
+    let mut here = at;
+    let mut i = 0;
+    while i < key.len() {
+        if s.len() <= here {
+            return false;
+        }
+        if to_lower(s[here]) != key[i] {
+            return false;
+        }
+        here += 1;
+        i += 1;
+    }
+    true
+}
+
+pub fn at_data(s: &[u8], at: usize) -> bool
+    ensures { λ r. ⌜ r ≡ startsAt keyData (now (s .entry)) at ⌝ }
+{
+    start_with(s, at, b"data_")
+}
+
+pub fn at_loop(s: &[u8], at: usize) -> bool
+    ensures { λ r. ⌜ r ≡ startsAt keyLoop (now (s .entry)) at ⌝ }
+{
+    start_with(s, at, b"loop_")
+}
+
+pub fn at_save(s: &[u8], at: usize) -> bool
+    ensures { λ r. ⌜ r ≡ startsAt keySave (now (s .entry)) at ⌝ }
+{
+    start_with(s, at, b"save_")
+}
+
+// Whether one of the five words that start no value stands at an offset. The first byte decides which can.
+pub fn is_reserved(s: &[u8], at: usize) -> bool
+    ensures { λ r. ⌜ r ≡ reserved (drop at (now (s .entry))) ⌝ }
+{
+    if s.len() <= at {
+        return false;
+    }
+    let b = s[at];
+    if b < 68 {
+        return false;
+    }
+    let first = to_lower(b);
+    if first == 100 {
+        return at_data(s, at);
+    }
+    if first == 103 {
+        return start_with(s, at, b"global_");
+    }
+    if first == 108 {
+        return at_loop(s, at);
+    }
+    if first != 115 {
+        return false;
+    }
+    if at_save(s, at) {
+        return true;
+    }
+    start_with(s, at, b"stop_")
+}

@@ -1,0 +1,71 @@
+// Quoted values and text fields: where they close.
+ghost use mathlib.Core.Path.{_≡_};
+ghost use Prim.Native.Nat.{_<_};
+ghost use Rattle.text.specs.Bytes.{is};
+ghost use Rattle.text.specs.Runs.{spanEnd};
+ghost use Rattle.text.specs.Blocks.{clear};
+ghost use Rattle.quotes.specs.Answers.{quoteEnd, fieldEnd};
+
+// What a search for a closing mark finds: the offset behind it, or nothing.
+pub enum Closing {
+    Behind(usize),
+    Nothing,
+}
+
+// Behind the mark that closes a quote on its line; `from` is behind the mark that opens it.
+pub fn parse_enclosed(s: &[u8], from: usize, mark: u8) -> Closing
+    ensures { λ r. ⌜ r ≡ quoteEnd mark (now (s .entry)) from ⌝ }
+{
+    let mut at = from;
+    while text::is_clear(s, at, 8, 14, mark) {
+        at += 8;
+    }
+    while at < s.len() {
+        let b = s[at];
+        if b == mark {
+            return Closing::Behind(at + 1);
+        }
+        if text::is_eol(b) {
+            return Closing::Nothing;
+        }
+        at += 1;
+    }
+    Closing::Nothing
+}
+
+// Where the next `;` stands at an offset or behind it, or the text's end.
+fn next_semicolon(s: &[u8], from: usize) -> usize
+    ensures { λ r. ⌜ r ≡ spanEnd (clear 0 59) (now (s .entry)) from ⌝ }
+{
+    let mut at = from;
+    while text::is_clear(s, at, 16, 0, 59) {
+        at += 16;
+    }
+    while at < s.len() {
+        if s[at] == 59 {
+            return at;
+        }
+        at += 1;
+    }
+    at
+}
+
+// Behind the `;` that closes a text field; `from` is behind the `;` that opens it. Only a `;` is looked at, and the byte before it.
+pub fn parse_multiline_string(s: &[u8], from: usize) -> Closing
+    ensures { λ r. ⌜ r ≡ fieldEnd (now (s .entry)) from ⌝ }
+{
+    let mut at = from;
+    let end = loop {
+        at = next_semicolon(s, at);
+        if s.len() <= at {
+            return Closing::Nothing;
+        }
+        if from < at {
+            if text::is_eol(s[at - 1]) {
+                break at;
+            }
+        }
+        at += 1;
+    };
+    Closing::Behind(end + 1)
+}
