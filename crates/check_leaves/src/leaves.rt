@@ -135,8 +135,8 @@ fn kind_of(number: u32) -> u8 {
 pub fn kind(s: &[u8]) {
     let number = kind_of(integer_of(s));
     let k = Kind::of(number);
-    say::size(kinds::body_length(number));
-    say::size(kinds::outline_length(number));
+    say::size(kinds::Kind::body_length(number));
+    say::size(kinds::Kind::outline_length(number));
     say::size(k.marks());
     say::size(k.opening());
 }

@@ -19,9 +19,9 @@ fn one_record(kind: u8, body: &[u8]) {
 // The bytes of a body, in a store or in an outline.
 fn body_length(kind: u8, is_outline: bool) -> usize {
     if is_outline {
-        return kinds::outline_length(kind);
+        return kinds::Kind::outline_length(kind);
     }
-    kinds::body_length(kind)
+    kinds::Kind::body_length(kind)
 }
 
 pub fn records(s: &[u8], is_outline: bool) {

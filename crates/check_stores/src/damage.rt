@@ -106,7 +106,7 @@ fn try_store(store: &mut [u8], area: &[u8]) -> Tally {
     let mut tally = nothing();
     let mut at = 0;
     while at < store.len() {
-        let end = fields::body_end(store, at + 1, kinds::body_length(store[at]));
+        let end = fields::body_end(store, at + 1, kinds::Kind::body_length(store[at]));
         tally = sum(tally, try_record(store, area, at, end));
         at = end;
     }

@@ -69,8 +69,8 @@ fn same_but_places(a: &[u8], b: &[u8]) -> bool {
     while at < a.len() {
         let kind = a[at];
         let from = at + 1;
-        let behind = body_end(a, from, kinds::outline_length(kind));
-        let end = body_end(a, from, kinds::body_length(kind));
+        let behind = body_end(a, from, kinds::Kind::outline_length(kind));
+        let end = body_end(a, from, kinds::Kind::body_length(kind));
         if end < behind {
             return false;
         }

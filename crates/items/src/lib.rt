@@ -140,8 +140,8 @@ impl Sizes {
         ensures { λ r. ⌜ r ≡ added self kind size ⌝ }
     {
         Sizes {
-            store: self.store + 1 + kinds::body_length(kind),
-            outline: self.outline + 1 + kinds::outline_length(kind),
+            store: self.store + 1 + kinds::Kind::body_length(kind),
+            outline: self.outline + 1 + kinds::Kind::outline_length(kind),
             area: self.area + content_length(kind, size),
         }
     }

@@ -35,6 +35,37 @@ pub enum Shape {
 }
 
 impl Kind {
+    // The numbers of the kinds, as document 01 has them.
+    pub const BLOCK: u8 = 1;
+
+    pub const FRAME_OPEN: u8 = 2;
+
+    pub const FRAME_CLOSE: u8 = 3;
+
+    pub const TAG: u8 = 4;
+
+    pub const LOOP: u8 = 5;
+
+    pub const LOOP_TAG: u8 = 6;
+
+    pub const LOOP_END: u8 = 7;
+
+    pub const INAPPLICABLE: u8 = 8;
+
+    pub const UNKNOWN: u8 = 9;
+
+    pub const BARE: u8 = 10;
+
+    pub const SINGLE_QUOTED: u8 = 11;
+
+    pub const DOUBLE_QUOTED: u8 = 12;
+
+    pub const MULTILINE: u8 = 13;
+
+    pub const NUMBER: u8 = 14;
+
+    pub const UNCERTAIN: u8 = 15;
+
     // Offset, length, line and column: document 01's P.
     pub const PLACE: usize = 16;
 
@@ -92,21 +123,21 @@ impl Kind {
     {
         match self {
             Kind::NoKind => 0,
-            Kind::Block => 1,
-            Kind::FrameOpen => 2,
-            Kind::FrameClose => 3,
-            Kind::Tag => 4,
-            Kind::Loop => 5,
-            Kind::LoopTag => 6,
-            Kind::LoopEnd => 7,
-            Kind::Inapplicable => 8,
-            Kind::Unknown => 9,
-            Kind::Bare => 10,
-            Kind::SingleQuoted => 11,
-            Kind::DoubleQuoted => 12,
-            Kind::Multiline => 13,
-            Kind::Number => 14,
-            Kind::Uncertain => 15,
+            Kind::Block => Self::BLOCK,
+            Kind::FrameOpen => Self::FRAME_OPEN,
+            Kind::FrameClose => Self::FRAME_CLOSE,
+            Kind::Tag => Self::TAG,
+            Kind::Loop => Self::LOOP,
+            Kind::LoopTag => Self::LOOP_TAG,
+            Kind::LoopEnd => Self::LOOP_END,
+            Kind::Inapplicable => Self::INAPPLICABLE,
+            Kind::Unknown => Self::UNKNOWN,
+            Kind::Bare => Self::BARE,
+            Kind::SingleQuoted => Self::SINGLE_QUOTED,
+            Kind::DoubleQuoted => Self::DOUBLE_QUOTED,
+            Kind::Multiline => Self::MULTILINE,
+            Kind::Number => Self::NUMBER,
+            Kind::Uncertain => Self::UNCERTAIN,
         }
     }
 
@@ -147,6 +178,23 @@ impl Kind {
             _ => 0,
         }
     }
+
+    // The bytes of a body, by the kind's number.
+    pub fn body_length(kind: u8) -> usize
+        ensures { λ r. ⌜ r ≡ bodyLength kind ⌝ }
+    {
+        Kind::of(kind).shape().length()
+    }
+
+    // In the outline every body is P, but for one that is empty.
+    pub fn outline_length(kind: u8) -> usize
+        ensures { λ r. ⌜ r ≡ outlineLength kind ⌝ }
+    {
+        if Self::body_length(kind) == 0 {
+            return 0;
+        }
+        Self::PLACE
+    }
 }
 
 impl Shape {
@@ -163,21 +211,4 @@ impl Shape {
             Shape::PartsUncertain => Kind::PLACE + Kind::PARTS + Kind::UNCERTAINTY,
         }
     }
-}
-
-// The bytes of a body, by the kind's number.
-pub fn body_length(kind: u8) -> usize
-    ensures { λ r. ⌜ r ≡ bodyLength kind ⌝ }
-{
-    Kind::of(kind).shape().length()
-}
-
-// In the outline every body is P, but for one that is empty.
-pub fn outline_length(kind: u8) -> usize
-    ensures { λ r. ⌜ r ≡ outlineLength kind ⌝ }
-{
-    if body_length(kind) == 0 {
-        return 0;
-    }
-    Kind::PLACE
 }

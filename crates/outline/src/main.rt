@@ -53,7 +53,7 @@ fn say_records(store: &[u8]) {
     let mut at = 0;
     while at < store.len() {
         let kind = store[at];
-        let length = kinds::outline_length(kind);
+        let length = kinds::Kind::outline_length(kind);
         let from = at + 1;
         if store.len() - from < length {
             return;

@@ -155,11 +155,11 @@ fn same_outline(store: &[u8], outline: &[u8]) -> bool {
             return false;
         }
         let kind = outline[from];
-        let end = body_end(outline, from + 1, kinds::outline_length(kind));
+        let end = body_end(outline, from + 1, kinds::Kind::outline_length(kind));
         if !check::same(&outline[from..end], part(store, at, end - from)) {
             return false;
         }
-        at = body_end(store, at + 1, kinds::body_length(kind));
+        at = body_end(store, at + 1, kinds::Kind::body_length(kind));
         from = end;
     }
     at == store.len()

@@ -75,9 +75,9 @@ fn record_length(full: bool, kind: u8) -> usize
     ensures { λ r. ⌜ r ≡ recordLength full kind ⌝ }
 {
     if full {
-        return 1 + kinds::body_length(kind);
+        return 1 + kinds::Kind::body_length(kind);
     }
-    1 + kinds::outline_length(kind)
+    1 + kinds::Kind::outline_length(kind)
 }
 
 // The place behind a token: only a text field has line ends in it.

@@ -1,12 +1,12 @@
--- `kinds::outline_length`: an empty body, or P. Assumes nothing.
+-- `kinds::Kind::outline_length`: an empty body, or P. Assumes nothing.
 use borrow.Author.Needs.{needs}
 use Prim.Native.Nat.{_<_}
 use mathlib.Core.Path.{_≡_, sym, _∙_}
 use native.Mathlib.Omega.{arith}
 use Rattle.kinds.specs.Kinds.{kindOf, shapeOf, bodyLength, outlineLength}
 use Rattle.kinds.proofs.Numbering.{outline-none, outline-place}
-use Rattle.kinds.proofs.outline_length.Statement.{statement}
-use Rattle.kinds.proofs.outline_length.Tie as tie
+use Rattle.kinds.proofs.Kind.outline_length.Statement.{statement}
+use Rattle.kinds.proofs.Kind.outline_length.Tie as tie
 
 body-length-requires : tie.Need-body-length-requires
 body-length-requires c κs = search needs

@@ -1,8 +1,8 @@
--- `kinds::body_length`: by the three functions that it asks. Assumes nothing.
+-- `kinds::Kind::body_length`: by the three functions that it asks. Assumes nothing.
 use borrow.Author.Needs.{needs}
 use Rattle.kinds.specs.Kinds.{bodyLength}
-use Rattle.kinds.proofs.body_length.Statement.{statement}
-use Rattle.kinds.proofs.body_length.Tie as tie
+use Rattle.kinds.proofs.Kind.body_length.Statement.{statement}
+use Rattle.kinds.proofs.Kind.body_length.Tie as tie
 
 of-requires : tie.Need-of-requires
 of-requires c κs = search needs
