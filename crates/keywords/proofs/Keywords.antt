@@ -52,7 +52,7 @@ starts-fits (c ∷ k) (b ∷ s) e =
 
 -- letter case does not tell the bytes of a word from others
 lower-in-word : (b : ℕ) → inWord (lower b) ≡ inWord b
-unfolding lower inWord endsWord allBelow
+unfolding lower inWord endsWord
 lower-in-word b = by (leb 65 b && leb b 90) refl
   where
     by : (t : Bool) → (leb 65 b && leb b 90) ≡ t → inWord (cond t (b + 32) b) ≡ inWord b
@@ -130,7 +130,7 @@ unfolding reserved starts keyData keyGlobal keyLoop keySave keyStop
 reserved-over s o h = rw (drop-of-length-le s h)
 
 pub reserved-low : (s : List ℕ) (o : ℕ) → o < length s → getD s o 0 < 68 → reserved (drop o s) ≡ false
-unfolding allBelow lower
+unfolding lower
 reserved-low s o h l =
     let b = getD s o 0 in
     let no : (c : ℕ) → allBelow (λ k. not (eqb (lower (0 + k)) c)) 68 ≡ true → eqb (lower b) c ≡ false = λ c t. fails (λ x. eqb (lower x) c) 0 68 t b (omega arith) (omega arith) in

@@ -194,7 +194,7 @@ module _ (s : List ℕ) (o : ℕ) (h : o ≤ length s) where
 
     -- without a bracket the last byte is a digit or the point
     no-bracket : is 41 (getD s (f - 1) 0) ≡ false
-    unfolding allBelow is p
+    unfolding is p
     no-bracket = by (decLt p f)
       where
         digit-no : (b : ℕ) → isDigit b ≡ true → is 41 b ≡ false

@@ -10,7 +10,7 @@ use lib.ListN.{length, drop, getD}
 use Rattle.text.specs.Bytes.{isEol, endsWord}
 use Rattle.text.specs.Runs.{span, spanEnd, runs}
 use Rattle.text.proofs.Bools.{and-l, and-r, or-cases}
-use Rattle.text.proofs.Ranges.{allBelow, passes}
+use Rattle.text.proofs.Ranges.{passes}
 use Rattle.text.proofs.Runs.{span-from, span-within, span-all, span-over, span-go}
 use Rattle.text.specs.Blocks.{clear}
 use Rattle.words.specs.Words.{inWord, word, wordEnd, isOrdinary}
@@ -71,7 +71,7 @@ unfolding word span
 word-pos b s e = rw e (omega arith)
 
 pub ordinary-in-word : (b : ℕ) → isOrdinary b ≡ true → inWord b ≡ true
-unfolding isOrdinary inWord endsWord allBelow
+unfolding isOrdinary inWord endsWord
 ordinary-in-word b e =
     let r = and-l (leb 33 b && leb b 126) _ e in
     let low : 33 ≤ b = leb-true 33 b (and-l (leb 33 b) (leb b 126) r) in
