@@ -10,10 +10,10 @@ use lib.Dec.{leb, eqb}
 use lib.ListN.{length, drop, getD, drop-of-length-le}
 use lib.Seq.{drop-cons}
 use Rattle.text.specs.Bytes.{is, endsWord}
-use Rattle.text.specs.Runs.{span}
 use Rattle.text.proofs.Bools.{and-l, and-r}
 use Rattle.text.proofs.Ranges.{allBelow, passes, fails}
 use Rattle.words.specs.Words.{inWord, word}
+use Rattle.words.proofs.Words.{word-next}
 use Rattle.keywords.specs.Keywords.{lower, starts, startsAt, keyData, keyGlobal, keyLoop, keySave, keyStop, reserved}
 
 -- letter by letter: what is left to compare from letter i of k on and from offset o of s on
@@ -69,14 +69,14 @@ allWord (c ∷ k) = inWord c && allWord k
 
 -- a keyword lies within the word that it starts, so that none of its bytes ends a line
 pub starts-word : (k s : List ℕ) → allWord k ≡ true → starts k s ≡ true → length k ≤ word s
-unfolding starts allWord word span is
+unfolding starts allWord is
 starts-word [] s a e = omega arith
 starts-word (c ∷ k) [] a e = absurd (true≢false (sym e))
 starts-word (c ∷ k) (b ∷ s) a e =
     let f : lower b ≡ c = eqb-true (lower b) c (and-l (is c (lower b)) (starts k s) e) in
     let w : inWord b ≡ true = sym (lower-in-word b) ∙ ap inWord f ∙ and-l (inWord c) (allWord k) a in
     let h : length k ≤ word s = starts-word k s (and-r (inWord c) (allWord k) a) (and-r (is c (lower b)) (starts k s) e) in
-    rw w (omega arith)
+    omega (arith, word-next b s w)
 
 pub data-word : (s : List ℕ) (o : ℕ) → startsAt keyData s o ≡ true → 5 ≤ word (drop o s)
 unfolding startsAt allWord inWord endsWord keyData

@@ -12,9 +12,8 @@ use lib.ListN.{length, take, drop, getD, length-take, length-drop, drop-of-lengt
 use lib.Seq.{take-suc, take-nil, take-add, drop-cons, drop-drop, getD-drop}
 use borrow.Author.Tests.{leb-true, lt-ltb, le-ltb, le-leb, lt-leb}
 use Rattle.text.specs.Bytes.{isDigit, is}
-use Rattle.text.specs.Runs.{span, spanEnd}
 use Rattle.text.proofs.Bools.{and-l, and-r}
-use Rattle.text.proofs.Runs.{past-end, span-from, span-within, span-all}
+use Rattle.text.proofs.Runs.{past-end, span-from, span-within, span-all, span-twice}
 use Rattle.numbers.specs.Parts.{isEmpty, valueFrom, value, minus}
 use Rattle.numbers.specs.Cuts.{piece, digitsEnd, Run}
 
@@ -116,19 +115,10 @@ digits-from w i = span-from isDigit w i
 pub run-none : (w : List ℕ) (i : ℕ) → i ≤ length w → Run w i i
 run-none w i h = record { from = omega arith; to = h; all = λ k a b. absurd (omega arith) }
 
-span-twice : (p : ℕ → Bool) (s : List ℕ) → span p (drop (span p s) s) ≡ 0
-unfolding span
-span-twice p [] = refl
-span-twice p (b ∷ s) = by (p b) refl (span-twice p s)
-  where
-    by : (t : Bool) → p b ≡ t → span p (drop (span p s) s) ≡ 0 → span p (drop (cond t (suc (span p s)) 0) (b ∷ s)) ≡ 0
-    by true e h = h
-    by false e h = rw e
-
 -- behind digits no more digits stand
 pub digits-end-twice : (w : List ℕ) (i : ℕ) → digitsEnd w (digitsEnd w i) ≡ digitsEnd w i
-unfolding digitsEnd spanEnd
-digits-end-twice w i = rw (← drop-drop (span isDigit (drop i w)) i w, span-twice isDigit (drop i w), add-zero)
+unfolding digitsEnd
+digits-end-twice w i = span-twice isDigit w i
 
 -- the numbers that they write
 
