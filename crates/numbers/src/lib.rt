@@ -6,10 +6,12 @@ ghost use lib.Dec.{eqb};
 ghost use lib.ListN.{getD};
 ghost use Rattle.numbers.specs.Parts.{parts, isNumber, within, value, minus};
 ghost use Rattle.numbers.specs.Meaning.{meaning, numberOf};
-ghost use Rattle.numbers.specs.Cuts.{piece, startsNumber, after, digitsEnd, digitsAt, nowhere as nowhereOf, startsExponent, exponentAt, bracketAt, cutsOf, partsOf, Run, Sound};
+ghost use Rattle.numbers.specs.Cuts.{piece, startsNumber, after, digitsEnd, digitsAt, nowhere as nowhereOf};
+ghost use Rattle.numbers.specs.Cuts.{startsExponent, exponentAt, bracketAt, cutsOf, partsOf, Run, Sound};
 ghost use Rattle.numbers.specs.Plain.{wordStops, bracketEnd, decimalEnd};
 
-// What a number means: its sign, integer, fraction and how many digits that has, sign and size of the exponent, and uncertainty.
+// What a number means: its sign, integer, fraction and how many digits that has, sign and size of the exponent, and
+// uncertainty.
 pub struct Decimal {
     pub minus: bool,
     pub integer: u32,
@@ -28,7 +30,8 @@ pub enum Number {
     Over,
 }
 
-// Where an optional part lies: its sign starts at `sign`, its digits at `digits` and end at `end`, and what follows it starts at `next`.
+// Where an optional part lies: its sign starts at `sign`, its digits at `digits` and end at `end`, and what follows it
+// starts at `next`.
 struct Extent {
     here: bool,
     sign: usize,
@@ -60,13 +63,13 @@ fn starts_number(b: u8) -> bool
     if text::is_digit(b) {
         return true;
     }
-    if b == 43 {
+    if b == b'+' {
         return true;
     }
-    if b == 45 {
+    if b == b'-' {
         return true;
     }
-    b == 46
+    b == b'.'
 }
 
 // The byte at an offset, 0 past the end.
@@ -132,10 +135,10 @@ fn starts_exponent(w: &[u8], at: usize) -> bool
     if w.len() <= at + 1 {
         return false;
     }
-    if w[at] == 101 {
+    if w[at] == b'e' {
         return true;
     }
-    w[at] == 69
+    w[at] == b'E'
 }
 
 // The exponent at an offset.
@@ -146,7 +149,7 @@ fn exponent_at(w: &[u8], at: usize) -> Extent
         return nowhere(at);
     }
     let sign = at + 1;
-    let digits = after_one(w, sign, 43, 45);
+    let digits = after_one(w, sign, b'+', b'-');
     let end = digits_end(w, digits);
     Extent {
         here: true,
@@ -161,12 +164,12 @@ fn exponent_at(w: &[u8], at: usize) -> Extent
 fn bracket_at(w: &[u8], at: usize) -> Extent
     ensures { λ r. ⌜ r ≡ bracketAt (now (w .entry)) at ⌝ }
 {
-    if byte_at(w, at) != 40 {
+    if byte_at(w, at) != b'(' {
         return nowhere(at);
     }
     let digits = at + 1;
     let end = digits_end(w, digits);
-    if byte_at(w, end) != 41 {
+    if byte_at(w, end) != b')' {
         return nowhere(at);
     }
     Extent {
@@ -182,9 +185,9 @@ fn bracket_at(w: &[u8], at: usize) -> Extent
 fn cut(w: &[u8]) -> Cuts
     ensures { λ r. ⌜ r ≡ cutsOf (now (w .entry)) ⌝ }
 {
-    let sign = after_one(w, 0, 43, 45);
+    let sign = after_one(w, 0, b'+', b'-');
     let integer = digits_end(w, sign);
-    let point = after_one(w, integer, 46, 46);
+    let point = after_one(w, integer, b'.', b'.');
     let fraction = digits_end(w, point);
     let exponent = exponent_at(w, fraction);
     let behind = exponent.next;
@@ -230,6 +233,7 @@ fn in_limits(w: &[u8], k: Cuts) -> bool
     k.bracket.end - k.bracket.digits <= 9
 }
 
+// A byte as a number.
 fn wide(x: u8) -> u64
     ensures { λ r. ⌜ r ≡ x ⌝ }
 {
@@ -244,7 +248,7 @@ fn digits_value(w: &[u8], from: usize, to: usize) -> u64
     let mut v: u64 = 0;
     let mut at = from;
     while at < to {
-        v = v * 10 + wide(w[at] - 48);
+        v = v * 10 + wide(w[at] - b'0');
         at += 1;
     }
     v
@@ -269,7 +273,7 @@ fn digits_at(w: &[u8], from: usize) -> Digits
         if !text::is_digit(w[at]) {
             return Digits { end: at, value: v };
         }
-        v = v * 10 + wide(w[at] - 48);
+        v = v * 10 + wide(w[at] - b'0');
         at += 1;
     }
     Digits { end: at, value: v }
@@ -282,7 +286,7 @@ fn is_minus(w: &[u8], from: usize, to: usize) -> bool
     if to <= from {
         return false;
     }
-    byte_at(w, from) == 45
+    byte_at(w, from) == b'-'
 }
 
 // Whether an exponent of a size has a minus: 0 has none.
@@ -327,16 +331,17 @@ fn decimal_by_cuts(w: &[u8]) -> Decimal
     read(w, k)
 }
 
-// What a word means whose parts keep the limits. Most end behind their fraction or a bracket there, and one pass reads those.
+// What a word means whose parts keep the limits. Most end behind their fraction or a bracket there, and one pass reads
+// those.
 pub fn decimal_of(w: &[u8]) -> Decimal
     requires { ⌜ within (parts (now w)) ≡ true ⌝ }
     ensures { λ r. ⌜ r ≡ meaning (parts (now (w .entry))) ⌝ }
 {
-    let sign = after_one(w, 0, 43, 45);
+    let sign = after_one(w, 0, b'+', b'-');
     let minus = is_minus(w, 0, sign);
     let whole = digits_at(w, sign);
     let integer = whole.value as u32;
-    let point = after_one(w, whole.end, 46, 46);
+    let point = after_one(w, whole.end, b'.', b'.');
     let part = digits_at(w, point);
     let behind = part.end;
     let places = behind - point;
@@ -352,7 +357,7 @@ pub fn decimal_of(w: &[u8]) -> Decimal
             uncertainty: 0,
         };
     }
-    if w[behind] != 40 {
+    if w[behind] != b'(' {
         return decimal_by_cuts(w);
     }
     // A bracket that isn't closed may have digits without limit.
@@ -360,7 +365,7 @@ pub fn decimal_of(w: &[u8]) -> Decimal
         return decimal_by_cuts(w);
     }
     let inner = digits_at(w, behind + 1);
-    if byte_at(w, inner.end) != 41 {
+    if byte_at(w, inner.end) != b')' {
         return decimal_by_cuts(w);
     }
     Decimal {
@@ -406,7 +411,7 @@ fn word_stops(s: &[u8], at: usize) -> bool
 fn bracket_end(s: &[u8], at: usize) -> usize
     ensures { λ r. ⌜ r ≡ bracketEnd (now (s .entry)) at ⌝ }
 {
-    if byte_at(s, at) != 40 {
+    if byte_at(s, at) != b'(' {
         return at;
     }
     let digits = at + 1;
@@ -414,23 +419,24 @@ fn bracket_end(s: &[u8], at: usize) -> usize
     if 9 < end - digits {
         return at;
     }
-    if byte_at(s, end) != 41 {
+    if byte_at(s, end) != b')' {
         return at;
     }
     end + 1
 }
 
-// Where the number that starts at an offset of a text ends, if it has no exponent, keeps the limits and is the whole word; else the offset. It makes no
-// decimal: most values are such numbers, and most readers want their kind and length alone.
+// Where the number that starts at an offset of a text ends, if it has no exponent, keeps the limits and is the whole
+// word; else the offset. It makes no decimal: most values are such numbers, and most readers want their kind and length
+// alone.
 pub fn decimal_end(s: &[u8], from: usize) -> usize
     ensures { λ r. ⌜ r ≡ decimalEnd (now (s .entry)) from ⌝ }
 {
-    let sign = after_one(s, from, 43, 45);
+    let sign = after_one(s, from, b'+', b'-');
     let integer = digits_end(s, sign);
     if 9 < integer - sign {
         return from;
     }
-    let point = after_one(s, integer, 46, 46);
+    let point = after_one(s, integer, b'.', b'.');
     let fraction = digits_end(s, point);
     if 18 < fraction - point {
         return from;
