@@ -21,11 +21,12 @@ use Rattle.keywords.proofs.Keywords.{reserved-none, reserved-low}
 use Rattle.numbers.specs.declared.Number.the-variants.{Not}
 use Rattle.numbers.specs.Parts.{parts}
 use Rattle.numbers.specs.Meaning.{meaning, numberOf}
-use Rattle.numbers.specs.Cuts.{piece, startsNumber}
-use Rattle.numbers.specs.Plain.{wordStops, decimalEnd}
+use Rattle.cuts.specs.Digits.{piece}
+use Rattle.numbers.specs.Pieces.{startsNumber}
+use Rattle.decimals.specs.Plain.{wordStops, decimalEnd}
 use Rattle.numbers.proofs.Facts.{not-number, no-number-by-first-byte}
 use Rattle.numbers.proofs.Made.{all, others}
-use Rattle.numbers.proofs.Plain.{Plain, plain, plain-bytes}
+use Rattle.decimals.proofs.Plain.{Plain, plain, plain-bytes}
 use Rattle.values.specs.declared.Value.{Value}
 use Rattle.values.specs.declared.Value.the-variants.{Token, Number, Over, Missing}
 use Rattle.values.specs.declared.Why.the-variants.{AtEnd, Reserved, NoStart}

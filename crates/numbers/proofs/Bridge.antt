@@ -13,8 +13,11 @@ use Rattle.text.specs.Bytes.{isDigit, is}
 use Rattle.text.specs.Runs.{span}
 use Rattle.text.proofs.Runs.{span-end, span-none, span-by, past-end}
 use Rattle.numbers.specs.Parts.{Cut, cut, consGot, digits, sign, point, absent, signedDigits, exponent, close, bracket, parts}
-use Rattle.numbers.specs.Cuts.{piece, after, digitsEnd, nowhere, startsExponent, exponentAt, bracketAt, cutsOf, partOf, partsOf}
-use Rattle.numbers.proofs.DigitRuns.{piece-none, rest-empty, digits-end-twice}
+use Rattle.cuts.specs.Cuts.{nowhere, startsExponent, exponentAt, bracketAt, cutsOf}
+use Rattle.cuts.specs.Digits.{piece, after, digitsEnd}
+use Rattle.numbers.specs.Pieces.{partOf, partsOf}
+use Rattle.cuts.proofs.DigitRuns.{piece-none, digits-end-twice}
+use Rattle.numbers.proofs.Pieces.{rest-empty}
 
 -- what stands at i: nothing, or a byte and what follows it
 data Rest (w : List ℕ) (i : ℕ) : Type 0 where

@@ -9,7 +9,8 @@ use lib.Dec.{leb, eqb}
 use lib.ListN.{length}
 use Rattle.text.specs.Bytes.{isDigit, is}
 use Rattle.numbers.specs.declared.Decimal.{Decimal}
-use Rattle.numbers.specs.Parts.{isEmpty, value, minus as isMinus}
+use Rattle.numbers.specs.Parts.{isEmpty, minus as isMinus}
+use Rattle.cuts.specs.Digits.{value}
 
 -- digits only
 unfoldable pub allDigits : List ℕ → Bool

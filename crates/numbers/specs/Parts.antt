@@ -1,10 +1,9 @@
 -- Numbers (document 01): a word is cut greedily into its parts; a word whose parts leave nothing over, with a digit before or after the point, is a number.
 -- Assumes nothing.
-use Prim.Native.Nat.{ℕ, zero, suc, _+_, _*_, _-_}
+use Prim.Native.Nat.{ℕ}
 use mathlib.Core.Bool.{Bool, true, false, not, cond, _&&_, _||_}
 use mathlib.Core.List.{List, [], _∷_}
-use mathlib.Core.Option.{Option, none, some}
-use lib.Dec.{leb, eqb}
+use lib.Dec.{leb}
 use lib.ListN.{length}
 use Rattle.text.specs.Bytes.{isDigit, is}
 
@@ -89,14 +88,7 @@ isNumber p = isEmpty (p .unc .left) && not (isEmpty (p .int) && isEmpty (p .frac
 unfoldable pub within : Parts → Bool
 within p = leb (length (p .int)) 9 && leb (length (p .frac)) 18 && leb (length (p .exp .run)) 9 && leb (length (p .unc .run)) 9
 
--- the number that digits write
-unfoldable pub valueFrom : ℕ → List ℕ → ℕ
-valueFrom a [] = a
-valueFrom a (d ∷ ds) = valueFrom (a * 10 + (d - 48)) ds
-
-unfoldable pub value : List ℕ → ℕ
-value ds = valueFrom 0 ds
-
+-- a sign that is a minus
 unfoldable pub minus : List ℕ → Bool
 minus [] = false
 minus (b ∷ s) = is 45 b
