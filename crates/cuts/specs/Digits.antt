@@ -1,11 +1,11 @@
--- Pieces of a word, the digits in it and the numbers that they write. Past the word's end a byte reads as 0, which is in
--- no class. Assumes nothing.
+-- Pieces of a word, the digits in it and the numbers that they write. Past the word's end a byte reads as 0, which is
+-- in no class. Assumes nothing.
 use Prim.Native.Nat.{ℕ, _+_, _*_, _-_, _≤_, _<_}
 use mathlib.Core.Path.{_≡_}
 use mathlib.Core.Bool.{true, cond, _||_}
 use mathlib.Core.List.{List, [], _∷_}
 use lib.ListN.{length, getD, take, drop}
-use Rattle.text.specs.Bytes.{isDigit, is}
+use Rattle.text.specs.Bytes.{isDigit, is, digitZero}
 use Rattle.text.specs.Runs.{spanEnd}
 use Rattle.cuts.specs.declared.Digits.{Digits}
 
@@ -20,7 +20,7 @@ after x y w i = cond (is x (getD w i 0) || is y (getD w i 0)) (i + 1) i
 -- the number that digits write, behind those that write a
 unfoldable pub valueFrom : ℕ → List ℕ → ℕ
 valueFrom a [] = a
-valueFrom a (d ∷ ds) = valueFrom (a * 10 + (d - 48)) ds
+valueFrom a (d ∷ ds) = valueFrom (a * 10 + (d - digitZero)) ds
 
 -- the number that digits write; none write 0
 unfoldable pub value : List ℕ → ℕ

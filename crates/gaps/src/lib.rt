@@ -1,7 +1,7 @@
 // Space and comments: where they end, and the place behind them.
 ghost use mathlib.Core.Path.{_≡_};
 ghost use Prim.Native.Nat.{_+_, _-_, _<_};
-ghost use Rattle.text.specs.Bytes.{is};
+ghost use Rattle.text.specs.Bytes.{is, space};
 ghost use Rattle.text.specs.Runs.{spanEnd};
 ghost use Rattle.gaps.specs.Gaps.{gapEnd, showsNoGap};
 ghost use Rattle.places.specs.Places.{placeAt, IsPlace};
@@ -29,7 +29,7 @@ fn comments_end(s: &[u8], from: usize) -> usize
 
 // Where the run of space bytes at an offset ends.
 pub fn spaces_end(s: &[u8], from: usize) -> usize
-    ensures { λ r. ⌜ r ≡ spanEnd (is 32) (now (s .entry)) from ⌝ }
+    ensures { λ r. ⌜ r ≡ spanEnd (is space) (now (s .entry)) from ⌝ }
 {
     let mut at = from;
     while at < s.len() {

@@ -1,4 +1,5 @@
--- What a number means (document 01): sign, integer, fraction, fraction digits, exponent, uncertainty; and the digit limits, judged by counts. Assumes nothing.
+-- What a number means (document 01): sign, integer, fraction, fraction digits, exponent, uncertainty; and the digit
+-- limits, judged by counts. Assumes nothing.
 use Prim.Native.Nat.{ℕ}
 use mathlib.Core.Bool.{not, cond, _&&_}
 use mathlib.Core.List.{List}

@@ -4,7 +4,7 @@ use Prim.Native.Nat.{ℕ}
 use mathlib.Core.Bool.{Bool, _||_}
 use mathlib.Core.List.{List}
 use lib.ListN.{drop}
-use Rattle.text.specs.Bytes.{isDigit, is}
+use Rattle.text.specs.Bytes.{isDigit, is, plusSign, minusSign, fullStop}
 use Rattle.cuts.specs.declared.Cuts.{Cuts}
 use Rattle.cuts.specs.declared.Extent.{Extent}
 use Rattle.cuts.specs.Digits.{piece}
@@ -12,7 +12,7 @@ use Rattle.numbers.specs.Parts.{Part, Parts}
 
 -- what a number may start with: a digit, a sign, the point
 unfoldable pub startsNumber : ℕ → Bool
-startsNumber b = isDigit b || (is 43 b || (is 45 b || is 46 b))
+startsNumber b = isDigit b || (is plusSign b || (is minusSign b || is fullStop b))
 
 -- the part that lies at an extent
 unfoldable pub partOf : List ℕ → Extent → Part

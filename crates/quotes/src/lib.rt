@@ -1,7 +1,7 @@
 // Quoted values and text fields: where they close.
 ghost use mathlib.Core.Path.{_≡_};
 ghost use Prim.Native.Nat.{_<_};
-ghost use Rattle.text.specs.Bytes.{is};
+ghost use Rattle.text.specs.Bytes.{is, semicolon};
 ghost use Rattle.text.specs.Runs.{spanEnd};
 ghost use Rattle.text.specs.Blocks.{clear};
 ghost use Rattle.quotes.specs.Answers.{quoteEnd, fieldEnd};
@@ -35,7 +35,7 @@ pub fn parse_enclosed(s: &[u8], from: usize, mark: u8) -> Closing
 
 // Where the next `;` stands at an offset or behind it, or the text's end.
 fn next_semicolon(s: &[u8], from: usize) -> usize
-    ensures { λ r. ⌜ r ≡ spanEnd (clear 0 59) (now (s .entry)) from ⌝ }
+    ensures { λ r. ⌜ r ≡ spanEnd (clear 0 semicolon) (now (s .entry)) from ⌝ }
 {
     let mut at = from;
     while text::is_clear(s, at, 16, 0, b';') {
