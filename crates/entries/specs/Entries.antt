@@ -1,5 +1,6 @@
--- Records read back (document 01, 'Records'): what stands at an offset of any bytes. A byte that is no kind, and a body that does not fit, give nothing; sign,
--- fraction digits and exponent come as they are stored, for soundness to judge. Assumes nothing.
+-- Records read back (document 01, 'Records'): what stands at an offset of any bytes. A byte that is no kind, and a
+-- body that does not fit, give nothing; sign, fraction digits and exponent come as they are stored, for soundness to
+-- judge. Assumes nothing.
 use Prim.Native.Nat.{ℕ, _+_, _-_, _*_, _%_}
 use mathlib.Core.Bool.{Bool, cond, _&&_}
 use mathlib.Core.List.{List, [], _∷_}

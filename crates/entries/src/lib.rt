@@ -3,13 +3,15 @@ ghost use mathlib.Core.Path.{_≡_};
 ghost use Prim.Native.Nat.{_+_, _*_, _≤_, _<_};
 ghost use lib.ListN.{length, drop};
 ghost use Rattle.kinds.specs.Kinds.{shapeLength};
-ghost use Rattle.entries.specs.Entries.{de32, de64, tokenOf, partsOf, noParts, noFields, plainFields, partsFields, fieldsOf, entryAt};
+ghost use Rattle.entries.specs.Entries.{de32, de64, tokenOf, partsOf, noParts, noFields, plainFields};
+ghost use Rattle.entries.specs.Entries.{partsFields, fieldsOf, entryAt};
 use kinds::Kind;
 use kinds::Shape;
 use numbers::Decimal;
 use records::Token;
 
-// Decimal parts as they are stored: the sign byte, the fraction digits and the exponent's two's complement are not judged.
+// Decimal parts as they are stored: the sign byte, the fraction digits and the exponent's two's complement are not
+// judged.
 pub struct Parts {
     pub sign: u8,
     pub integer: u32,

@@ -4,17 +4,16 @@ use mathlib.Core.Bool.{Bool, true, false}
 use mathlib.Core.Path.{_≡_, refl}
 use mathlib.Core.List.{List, [], _∷_, map}
 use Rattle.text.specs.Bytes.{isEol, isSpace, is}
-use Rattle.text.proofs.Ranges.{allBelow}
-use Rattle.text.proofs.Shape.{σ, flat, blind}
+use Rattle.text.proofs.Shape.{σ, blind}
 use Rattle.gaps.specs.Gaps.{gapByte, gapThen, gapIn, gap}
 
 pub gapByte-σ : (c : Bool) (b : ℕ) → gapByte c (σ b) ≡ gapByte c b
-unfolding flat allBelow gapByte isSpace is
+unfolding gapByte isSpace is
 gapByte-σ true b = refl
 gapByte-σ false b = blind (gapByte false) refl b
 
 pub gapThen-σ : (c : Bool) (b : ℕ) → gapThen c (σ b) ≡ gapThen c b
-unfolding flat allBelow gapThen isEol is
+unfolding gapThen isEol is
 gapThen-σ true b = blind (gapThen true) refl b
 gapThen-σ false b = blind (gapThen false) refl b
 

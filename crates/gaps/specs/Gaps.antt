@@ -4,17 +4,17 @@ use mathlib.Core.Bool.{Bool, true, false, not, cond, _||_}
 use mathlib.Core.List.{List, [], _∷_}
 use lib.Dec.{leb, ltb}
 use lib.ListN.{length, drop, getD}
-use Rattle.text.specs.Bytes.{is, isEol, isSpace}
+use Rattle.text.specs.Bytes.{is, isEol, isSpace, hash}
 
 -- is the byte skipped; the flag says that it stands in a comment
 unfoldable pub gapByte : Bool → ℕ → Bool
 gapByte true b = true
-gapByte false b = isSpace b || is 35 b
+gapByte false b = isSpace b || is hash b
 
 -- does what follows a skipped byte stand in a comment
 unfoldable pub gapThen : Bool → ℕ → Bool
 gapThen true b = not (isEol b)
-gapThen false b = is 35 b
+gapThen false b = is hash b
 
 -- how many bytes are skipped
 unfoldable pub gapIn : Bool → List ℕ → ℕ
@@ -31,4 +31,4 @@ gapEnd s o = o + gap (drop o s)
 
 -- one look shows that none starts at offset o: the text's end, or a byte above `#`
 unfoldable pub showsNoGap : List ℕ → ℕ → Bool
-showsNoGap s o = leb (length s) o || ltb 35 (getD s o 0)
+showsNoGap s o = leb (length s) o || ltb hash (getD s o 0)

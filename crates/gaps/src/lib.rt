@@ -1,7 +1,7 @@
 // Space and comments: where they end, and the place behind them.
 ghost use mathlib.Core.Path.{_≡_};
 ghost use Prim.Native.Nat.{_+_, _-_, _<_};
-ghost use Rattle.text.specs.Bytes.{is};
+ghost use Rattle.text.specs.Bytes.{is, space};
 ghost use Rattle.text.specs.Runs.{spanEnd};
 ghost use Rattle.gaps.specs.Gaps.{gapEnd, showsNoGap};
 ghost use Rattle.places.specs.Places.{placeAt, IsPlace};
@@ -15,7 +15,7 @@ fn comments_end(s: &[u8], from: usize) -> usize
     let mut at = from;
     while at < s.len() {
         let b = s[at];
-        if b == 35 {
+        if b == b'#' {
             at = places::line_end(s, at);
             continue;
         }
@@ -29,11 +29,11 @@ fn comments_end(s: &[u8], from: usize) -> usize
 
 // Where the run of space bytes at an offset ends.
 pub fn spaces_end(s: &[u8], from: usize) -> usize
-    ensures { λ r. ⌜ r ≡ spanEnd (is 32) (now (s .entry)) from ⌝ }
+    ensures { λ r. ⌜ r ≡ spanEnd (is space) (now (s .entry)) from ⌝ }
 {
     let mut at = from;
     while at < s.len() {
-        if s[at] != 32 {
+        if s[at] != b' ' {
             return at;
         }
         at += 1;
@@ -41,17 +41,19 @@ pub fn spaces_end(s: &[u8], from: usize) -> usize
     at
 }
 
-// Whether one look shows that no space or comment starts at an offset; most bytes that start something else are above `#`.
+// Whether one look shows that no space or comment starts at an offset; most bytes that start something else are above
+// `#`.
 pub fn shows_no_gap(s: &[u8], at: usize) -> bool
     ensures { λ r. ⌜ r ≡ showsNoGap (now (s .entry)) at ⌝ }
 {
     if s.len() <= at {
         return true;
     }
-    35 < s[at]
+    b'#' < s[at]
 }
 
-// The end of the space and comments that start at an offset. Most often there are only space bytes: the loop calls nothing.
+// The end of the space and comments that start at an offset. Most often there are only space bytes: the loop calls
+// nothing.
 pub fn gap_end(s: &[u8], from: usize) -> usize
     ensures { λ r. ⌜ r ≡ gapEnd (now (s .entry)) from ⌝ }
 {
@@ -75,7 +77,7 @@ pub fn trim_comments_and_whitespace(s: &[u8], p: Place) -> Place
     let mut at = p.offset;
     while at < s.len() {
         let b = s[at];
-        if b == 35 {
+        if b == b'#' {
             return places::advance(s, p, comments_end(s, at));
         }
         if !text::is_space(b) {

@@ -21,11 +21,12 @@ use Rattle.keywords.proofs.Keywords.{reserved-none, reserved-low}
 use Rattle.numbers.specs.declared.Number.the-variants.{Not}
 use Rattle.numbers.specs.Parts.{parts}
 use Rattle.numbers.specs.Meaning.{meaning, numberOf}
-use Rattle.numbers.specs.Cuts.{piece, startsNumber}
-use Rattle.numbers.specs.Plain.{wordStops, decimalEnd}
+use Rattle.cuts.specs.Digits.{piece}
+use Rattle.numbers.specs.Pieces.{startsNumber}
+use Rattle.decimals.specs.Plain.{wordStops, decimalEnd}
 use Rattle.numbers.proofs.Facts.{not-number, no-number-by-first-byte}
 use Rattle.numbers.proofs.Made.{all, others}
-use Rattle.numbers.proofs.Plain.{Plain, plain, plain-bytes}
+use Rattle.decimals.proofs.Plain.{Plain, plain, plain-bytes}
 use Rattle.values.specs.declared.Value.{Value}
 use Rattle.values.specs.declared.Value.the-variants.{Token, Number, Over, Missing}
 use Rattle.values.specs.declared.Why.the-variants.{AtEnd, Reserved, NoStart}
@@ -96,7 +97,7 @@ word-found s o h r w f = rw (word-first s o h r w, bare-text (wordEnd s o - o))
 
 module _ (s : List ℕ) (o : ℕ) (h : o < length s) (e : startsBare (getD s o 0) ≡ true) where
   bare-free : reserved (drop o s) ≡ false
-  unfolding allBelow lower startsBare isLetter startsReserved is
+  unfolding lower startsBare isLetter startsReserved is
   bare-free =
       let b = getD s o 0 in
       let no : (c : ℕ) → not (eqb (lower b) c) ≡ true → lower b ≡ c → ⊥ = λ c q. eqb-false (lower b) c (not-true (eqb (lower b) c) q) in
@@ -107,7 +108,7 @@ module _ (s : List ℕ) (o : ℕ) (h : o < length s) (e : startsBare (getD s o 0
       (no 115 (bare-is (λ x. not (eqb (lower x) 115)) refl b e))
 
   pub bare-found : FoundValue 10 (wordEnd s o - o) ≡ foundAt s o
-  unfolding allBelow wordFirst isOrdinary startsNumber isDigit startsBare isLetter startsReserved is
+  unfolding wordFirst isOrdinary startsNumber isDigit startsBare isLetter startsReserved is
   bare-found =
       let b = getD s o 0 in
       word-found s o h bare-free (bare-is wordFirst refl b e) (not-true (startsNumber b) (bare-is (λ x. not (startsNumber x)) refl b e))
@@ -180,7 +181,7 @@ stops-here s e w = by (decLt e (length s))
     by (no l) = span-over inWord s e (omega arith)
 
 plain-word : (s : List ℕ) (o e : ℕ) → o ≤ e → Plain s o e → wordEnd s o ≡ e
-unfolding allBelow all others inWord endsWord
+unfolding all others inWord endsWord
 plain-word s o e h x =
     let z : o + (e - o) ≡ e = omega arith in
     word-run s o
@@ -195,7 +196,7 @@ module _ (s : List ℕ) (o : ℕ) (h : o < length s) where
   decimal-within m = plain s o h m .within
 
   decimal-word : startsDecimal (getD s o 0) ≡ true → valueAt s o ≡ wordAt s o
-  unfolding allBelow wordFirst isOrdinary is
+  unfolding wordFirst isOrdinary is
   decimal-word e =
       let b = getD s o 0 in
       let l : b < 68 = ltb-true b 68 (decimal-is (λ x. ltb x 68) refl refl refl b e) in

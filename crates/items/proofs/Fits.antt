@@ -12,7 +12,7 @@ use lib.ListN.{length, take}
 use Rattle.text.specs.Bytes.{is, isEol, endsWord}
 use Rattle.text.specs.Runs.{span}
 use Rattle.text.proofs.Bools.{and-l, and-r}
-use Rattle.text.proofs.Ranges.{allBelow, passes}
+use Rattle.text.proofs.Ranges.{passes}
 use Rattle.text.proofs.Runs.{span-le}
 use Rattle.keywords.specs.Keywords.{lower, starts, keyData, keyGlobal, keyLoop, keySave, keyStop}
 use Rattle.words.specs.Words.{isOrdinary, inWord, word}
@@ -115,7 +115,7 @@ pos true x y p q = p refl
 pos false x y p q = q refl
 
 starts-inWord : (b : ℕ) → isOrdinary b ≡ true → inWord b ≡ true
-unfolding isOrdinary inWord endsWord allBelow
+unfolding isOrdinary inWord endsWord
 starts-inWord b e =
     let r = and-l (leb 33 b && leb b 126) _ e in
     let lo : 33 ≤ b = leb-true 33 b (and-l (leb 33 b) (leb b 126) r) in

@@ -10,10 +10,10 @@ use lib.Dec.{leb, eqb}
 use lib.ListN.{length, drop, getD, drop-of-length-le}
 use lib.Seq.{drop-cons}
 use Rattle.text.specs.Bytes.{is, endsWord}
-use Rattle.text.specs.Runs.{span}
 use Rattle.text.proofs.Bools.{and-l, and-r}
 use Rattle.text.proofs.Ranges.{allBelow, passes, fails}
 use Rattle.words.specs.Words.{inWord, word}
+use Rattle.words.proofs.Words.{word-next}
 use Rattle.keywords.specs.Keywords.{lower, starts, startsAt, keyData, keyGlobal, keyLoop, keySave, keyStop, reserved}
 
 -- letter by letter: what is left to compare from letter i of k on and from offset o of s on
@@ -52,7 +52,7 @@ starts-fits (c ∷ k) (b ∷ s) e =
 
 -- letter case does not tell the bytes of a word from others
 lower-in-word : (b : ℕ) → inWord (lower b) ≡ inWord b
-unfolding lower inWord endsWord allBelow
+unfolding lower inWord endsWord
 lower-in-word b = by (leb 65 b && leb b 90) refl
   where
     by : (t : Bool) → (leb 65 b && leb b 90) ≡ t → inWord (cond t (b + 32) b) ≡ inWord b
@@ -69,14 +69,14 @@ allWord (c ∷ k) = inWord c && allWord k
 
 -- a keyword lies within the word that it starts, so that none of its bytes ends a line
 pub starts-word : (k s : List ℕ) → allWord k ≡ true → starts k s ≡ true → length k ≤ word s
-unfolding starts allWord word span is
+unfolding starts allWord is
 starts-word [] s a e = omega arith
 starts-word (c ∷ k) [] a e = absurd (true≢false (sym e))
 starts-word (c ∷ k) (b ∷ s) a e =
     let f : lower b ≡ c = eqb-true (lower b) c (and-l (is c (lower b)) (starts k s) e) in
     let w : inWord b ≡ true = sym (lower-in-word b) ∙ ap inWord f ∙ and-l (inWord c) (allWord k) a in
     let h : length k ≤ word s = starts-word k s (and-r (inWord c) (allWord k) a) (and-r (is c (lower b)) (starts k s) e) in
-    rw w (omega arith)
+    omega (arith, word-next b s w)
 
 pub data-word : (s : List ℕ) (o : ℕ) → startsAt keyData s o ≡ true → 5 ≤ word (drop o s)
 unfolding startsAt allWord inWord endsWord keyData
@@ -130,7 +130,7 @@ unfolding reserved starts keyData keyGlobal keyLoop keySave keyStop
 reserved-over s o h = rw (drop-of-length-le s h)
 
 pub reserved-low : (s : List ℕ) (o : ℕ) → o < length s → getD s o 0 < 68 → reserved (drop o s) ≡ false
-unfolding allBelow lower
+unfolding lower
 reserved-low s o h l =
     let b = getD s o 0 in
     let no : (c : ℕ) → allBelow (λ k. not (eqb (lower (0 + k)) c)) 68 ≡ true → eqb (lower b) c ≡ false = λ c t. fails (λ x. eqb (lower x) c) 0 68 t b (omega arith) (omega arith) in

@@ -1,14 +1,15 @@
 -- Keywords (document 01): they match in any letter case, as prefixes. Assumes nothing.
 use Prim.Native.Nat.{ℕ, _+_}
+use Prim.Native.Char.{code}
 use mathlib.Core.Bool.{Bool, true, false, cond, _&&_, _||_}
 use mathlib.Core.List.{List, [], _∷_}
 use lib.Dec.{leb}
 use lib.ListN.{drop}
-use Rattle.text.specs.Bytes.{is}
+use Rattle.text.specs.Bytes.{bytes, is}
 
 -- A to Z taken as a to z
 unfoldable pub lower : ℕ → ℕ
-lower b = cond (leb 65 b && leb b 90) (b + 32) b
+lower b = cond (leb (code "A") b && leb b (code "Z")) (b + 32) b
 
 -- s starts with the keyword k, which is written in lower case, in any letter case
 unfoldable pub starts : List ℕ → List ℕ → Bool
@@ -19,25 +20,21 @@ starts (c ∷ k) (b ∷ s) = is c (lower b) && starts k s
 unfoldable pub startsAt : List ℕ → List ℕ → ℕ → Bool
 startsAt k s o = starts k (drop o s)
 
--- data_
+-- the five keywords
 unfoldable pub keyData : List ℕ
-keyData = 100 ∷ 97 ∷ 116 ∷ 97 ∷ 95 ∷ []
+keyData = bytes "data_"
 
--- global_
 unfoldable pub keyGlobal : List ℕ
-keyGlobal = 103 ∷ 108 ∷ 111 ∷ 98 ∷ 97 ∷ 108 ∷ 95 ∷ []
+keyGlobal = bytes "global_"
 
--- loop_
 unfoldable pub keyLoop : List ℕ
-keyLoop = 108 ∷ 111 ∷ 111 ∷ 112 ∷ 95 ∷ []
+keyLoop = bytes "loop_"
 
--- save_
 unfoldable pub keySave : List ℕ
-keySave = 115 ∷ 97 ∷ 118 ∷ 101 ∷ 95 ∷ []
+keySave = bytes "save_"
 
--- stop_
 unfoldable pub keyStop : List ℕ
-keyStop = 115 ∷ 116 ∷ 111 ∷ 112 ∷ 95 ∷ []
+keyStop = bytes "stop_"
 
 -- no value starts with one of the five
 unfoldable pub reserved : List ℕ → Bool

@@ -4,17 +4,20 @@ ghost use Prim.Native.Nat.{_<_};
 ghost use lib.ListN.{drop};
 ghost use Rattle.keywords.specs.Keywords.{lower, startsAt, keyData, keyLoop, keySave, reserved};
 
+// From a capital letter to its small one.
+const TO_SMALL: u8 = b'a' - b'A';
+
 // A to Z as a to z.
 fn to_lower(b: u8) -> u8
     ensures { λ r. ⌜ r ≡ lower b ⌝ }
 {
-    if b < 65 {
+    if b < b'A' {
         return b;
     }
-    if 90 < b {
+    if b'Z' < b {
         return b;
     }
-    b + 32
+    b + TO_SMALL
 }
 
 // Whether a keyword, written in lower case, stands at an offset in any letter case.
@@ -36,18 +39,21 @@ pub fn start_with(s: &[u8], at: usize, key: &[u8]) -> bool
     true
 }
 
+// Whether `data_` stands at an offset.
 pub fn at_data(s: &[u8], at: usize) -> bool
     ensures { λ r. ⌜ r ≡ startsAt keyData (now (s .entry)) at ⌝ }
 {
     start_with(s, at, b"data_")
 }
 
+// Whether `loop_` does.
 pub fn at_loop(s: &[u8], at: usize) -> bool
     ensures { λ r. ⌜ r ≡ startsAt keyLoop (now (s .entry)) at ⌝ }
 {
     start_with(s, at, b"loop_")
 }
 
+// Whether `save_` does.
 pub fn at_save(s: &[u8], at: usize) -> bool
     ensures { λ r. ⌜ r ≡ startsAt keySave (now (s .entry)) at ⌝ }
 {
@@ -62,20 +68,20 @@ pub fn is_reserved(s: &[u8], at: usize) -> bool
         return false;
     }
     let b = s[at];
-    if b < 68 {
+    if b < b'D' {
         return false;
     }
     let first = to_lower(b);
-    if first == 100 {
+    if first == b'd' {
         return at_data(s, at);
     }
-    if first == 103 {
+    if first == b'g' {
         return start_with(s, at, b"global_");
     }
-    if first == 108 {
+    if first == b'l' {
         return at_loop(s, at);
     }
-    if first != 115 {
+    if first != b's' {
         return false;
     }
     if at_save(s, at) {

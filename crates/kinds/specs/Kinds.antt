@@ -1,10 +1,12 @@
--- The kinds of records (document 01, 'Records'): their numbers, the shapes of their bodies, the lengths of those, and the marks that a token has and its content
--- has not. Assumes nothing.
+-- The kinds of records (document 01, 'Records'): their numbers, the shapes of their bodies, the lengths of those, and
+-- the marks that a token has and its content has not. Assumes nothing.
 use Prim.Native.Nat.{ℕ}
 use mathlib.Core.Bool.{Bool, true, false, cond}
 use lib.Dec.{eqb}
 use Rattle.kinds.specs.declared.Kind.{Kind}
-use Rattle.kinds.specs.declared.Kind.the-variants.{NoKind, Block, FrameOpen, FrameClose, Tag, Loop, LoopTag, LoopEnd, Inapplicable, Unknown, Bare, SingleQuoted, DoubleQuoted, Multiline, Number, Uncertain}
+use Rattle.kinds.specs.declared.Kind.the-variants.{NoKind, Block, FrameOpen, FrameClose, Tag, Loop, LoopTag}
+use Rattle.kinds.specs.declared.Kind.the-variants.{LoopEnd, Inapplicable, Unknown, Bare, SingleQuoted}
+use Rattle.kinds.specs.declared.Kind.the-variants.{DoubleQuoted, Multiline, Number, Uncertain}
 use Rattle.kinds.specs.declared.Shape.{Shape}
 use Rattle.kinds.specs.declared.Shape.the-variants.{Empty, Place, Content, Count, Parts, PartsUncertain}
 

@@ -2,7 +2,8 @@
 ghost use mathlib.Core.Path.{_≡_};
 ghost use Prim.Native.Nat.{_+_};
 ghost use lib.ListN.{length};
-ghost use Rattle.kinds.specs.Kinds.{kindOf, numberOf, shapeOf, shapeLength, marksOf, opening as openingOf, bodyLength, outlineLength};
+ghost use Rattle.kinds.specs.Kinds.{kindOf, numberOf, shapeOf, shapeLength, marksOf, opening as openingOf};
+ghost use Rattle.kinds.specs.Kinds.{bodyLength, outlineLength};
 
 // The kinds of records, as document 01 numbers them; `NoKind` stands for every other number.
 pub enum Kind {
@@ -24,7 +25,8 @@ pub enum Kind {
     Uncertain,
 }
 
-// The shapes of bodies: nothing; a place; a place and an area offset; a place and a count of tags; a place and decimal parts, without and with uncertainty.
+// The shapes of bodies: nothing; a place; a place and an area offset; a place and a count of tags; a place and decimal
+// parts, without and with uncertainty.
 pub enum Shape {
     Empty,
     Place,

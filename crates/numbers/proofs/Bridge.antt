@@ -10,11 +10,14 @@ use native.Mathlib.Omega.{arith}
 use lib.ListN.{length, take, drop, getD, drop-of-length-le}
 use lib.Seq.{drop-cons, drop-drop}
 use Rattle.text.specs.Bytes.{isDigit, is}
-use Rattle.text.specs.Runs.{span, spanEnd}
-use Rattle.text.proofs.Runs.{past-end}
+use Rattle.text.specs.Runs.{span}
+use Rattle.text.proofs.Runs.{span-end, span-none, span-by, past-end}
 use Rattle.numbers.specs.Parts.{Cut, cut, consGot, digits, sign, point, absent, signedDigits, exponent, close, bracket, parts}
-use Rattle.numbers.specs.Cuts.{piece, after, digitsEnd, nowhere, startsExponent, exponentAt, bracketAt, cutsOf, partOf, partsOf}
-use Rattle.numbers.proofs.DigitRuns.{piece-none, rest-empty, digits-end-twice}
+use Rattle.cuts.specs.Cuts.{nowhere, startsExponent, exponentAt, bracketAt, cutsOf}
+use Rattle.cuts.specs.Digits.{piece, after, digitsEnd}
+use Rattle.numbers.specs.Pieces.{partOf, partsOf}
+use Rattle.cuts.proofs.DigitRuns.{piece-none, digits-end-twice}
+use Rattle.numbers.proofs.Pieces.{rest-empty}
 
 -- what stands at i: nothing, or a byte and what follows it
 data Rest (w : List ℕ) (i : ℕ) : Type 0 where
@@ -39,9 +42,9 @@ unfolding between
 between-none w i = rw (piece-none w i)
 
 digits-span : (s : List ℕ) → digits s ≡ cut (take (span isDigit s) s) (drop (span isDigit s) s)
-unfolding digits span consGot cut
-digits-span [] = refl
-digits-span (b ∷ s) = by (isDigit b) (digits-span s)
+unfolding digits consGot cut
+digits-span [] = rw (span-none isDigit)
+digits-span (b ∷ s) = rw (span-by isDigit b s) (by (isDigit b) (digits-span s))
   where
     by : (t : Bool) → digits s ≡ cut (take (span isDigit s) s) (drop (span isDigit s) s) →
         cond t (consGot b (digits s)) (cut [] (b ∷ s)) ≡ cut (take (cond t (suc (span isDigit s)) 0) (b ∷ s)) (drop (cond t (suc (span isDigit s)) 0) (b ∷ s))
@@ -49,11 +52,11 @@ digits-span (b ∷ s) = by (isDigit b) (digits-span s)
     by false h = refl
 
 digits-between : (w : List ℕ) (i : ℕ) → digits (drop i w) ≡ between w i (digitsEnd w i)
-unfolding between digitsEnd spanEnd piece
+unfolding between digitsEnd piece
 digits-between w i =
     let n = span isDigit (drop i w) in
     let e : i + n - i ≡ n = omega arith in
-    digits-span (drop i w) ∙ rw (e, drop-drop n i w)
+    digits-span (drop i w) ∙ rw (span-end isDigit w i, e, drop-drop n i w)
 
 between-one : (w : List ℕ) (i : ℕ) → drop i w ≡ getD w i 0 ∷ drop (i + 1) w → between w i (i + 1) ≡ cut (getD w i 0 ∷ []) (drop (i + 1) w)
 unfolding between piece

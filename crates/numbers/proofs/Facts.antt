@@ -10,13 +10,16 @@ use borrow.Author.Tests.{eqb-false, not-true}
 use Rattle.text.specs.Bytes.{isDigit, is}
 use Rattle.text.proofs.Bools.{and-r, or-l, or-r}
 use Rattle.numbers.specs.declared.Decimal.{Decimal}
-use Rattle.numbers.specs.declared.Cuts.{Cuts}
+use Rattle.cuts.specs.declared.Cuts.{Cuts}
 use Rattle.numbers.specs.declared.Number.the-variants.{Not, Is, Over}
-use Rattle.numbers.specs.Parts.{cut, digits, sign, point, isEmpty, parts, isNumber, within, value, minus}
+use Rattle.numbers.specs.Parts.{cut, digits, sign, point, isEmpty, parts, isNumber, within, minus}
+use Rattle.cuts.specs.Digits.{value, piece}
 use Rattle.numbers.specs.Meaning.{meaning, judged, numberOf}
-use Rattle.numbers.specs.Cuts.{piece, startsNumber, cutsOf, partOf, partsOf, Sound}
-use Rattle.numbers.proofs.DigitRuns.{piece-length, run-below, run-fits}
-use Rattle.numbers.proofs.Bounds.{cuts-sound, Limits, limits}
+use Rattle.cuts.specs.Cuts.{cutsOf, Sound}
+use Rattle.numbers.specs.Pieces.{startsNumber, partOf, partsOf}
+use Rattle.cuts.proofs.DigitRuns.{piece-length, run-below, run-fits}
+use Rattle.cuts.proofs.Bounds.{cuts-sound}
+use Rattle.numbers.proofs.Limits.{Limits, limits}
 use Rattle.numbers.proofs.Bridge.{parts-cuts}
 
 -- the bounds that every meaning keeps

@@ -3,10 +3,8 @@ pub mod Made
 pub mod Spelled
 pub mod Cif
 pub mod CifBack
-pub mod DigitRuns
-pub mod Bounds
+pub mod Pieces
+pub mod Limits
 pub mod Bridge
 pub mod Facts
 pub mod Shape
-pub mod Plain
-pub mod Unscaled

@@ -6,9 +6,8 @@ use mathlib.Core.Path.{_≡_, refl, sym}
 use mathlib.Core.List.{List, [], _∷_, map}
 use lib.ListN.{length-map}
 use Rattle.text.specs.Bytes.{isDigit, is}
-use Rattle.text.proofs.Ranges.{allBelow}
 use Rattle.numbers.specs.Parts.{Cut, cut, consGot, digits, sign, point, Part, absent, signedDigits, isEmpty, exponent, close, bracket, Parts, parts, isNumber, within}
-use Rattle.text.proofs.Shape.{σ, flat, blind, digit-σ}
+use Rattle.text.proofs.Shape.{σ, blind, digit-σ}
 
 -- a function goes into both branches
 pub ap-cond {ℓ ℓ′} : {A : Type ℓ} {B : Type ℓ′} (f : A → B) (t : Bool) (x y : A) → f (cond t x y) ≡ cond t (f x) (f y)
@@ -27,7 +26,7 @@ digits-σ [] = refl
 digits-σ (b ∷ s) = rw (digit-σ b, digits-σ s) (sym (ap-cond mapCut (isDigit b) _ _))
 
 signByte-σ : (b : ℕ) → (is 43 (σ b) || is 45 (σ b)) ≡ (is 43 b || is 45 b)
-unfolding flat allBelow is
+unfolding is
 signByte-σ b = blind (λ b. is 43 b || is 45 b) refl b
 
 sign-σ : (s : List ℕ) → sign (map σ s) ≡ mapCut (sign s)
@@ -36,7 +35,7 @@ sign-σ [] = refl
 sign-σ (b ∷ s) = rw (signByte-σ b) (sym (ap-cond mapCut (is 43 b || is 45 b) _ _))
 
 point-byte : (b : ℕ) → is 46 (σ b) ≡ is 46 b
-unfolding flat allBelow is
+unfolding is
 point-byte b = blind (is 46) refl b
 
 point-σ : (s : List ℕ) → point (map σ s) ≡ mapCut (point s)
@@ -50,7 +49,7 @@ isEmpty-σ [] = refl
 isEmpty-σ (b ∷ s) = refl
 
 exp-byte : (b : ℕ) → (is 101 (σ b) || is 69 (σ b)) ≡ (is 101 b || is 69 b)
-unfolding flat allBelow is
+unfolding is
 exp-byte b = blind (λ b. is 101 b || is 69 b) refl b
 
 signed-σ : (c : Cut) → signedDigits (mapCut c) ≡ mapPart (signedDigits c)
@@ -63,11 +62,11 @@ exponent-σ [] = refl
 exponent-σ (b ∷ s) = rw (exp-byte b, isEmpty-σ s, sign-σ s, signed-σ (sign s)) (sym (ap-cond mapPart ((is 101 b || is 69 b) && not (isEmpty s)) _ _))
 
 open-byte : (b : ℕ) → is 40 (σ b) ≡ is 40 b
-unfolding flat allBelow is
+unfolding is
 open-byte b = blind (is 40) refl b
 
 shut-byte : (b : ℕ) → is 41 (σ b) ≡ is 41 b
-unfolding flat allBelow is
+unfolding is
 shut-byte b = blind (is 41) refl b
 
 close-σ : (s g l : List ℕ) → close (map σ s) (map σ g) (map σ l) ≡ mapPart (close s g l)

@@ -8,12 +8,12 @@ use borrow.Author.Tests.{eqb-true, not-true}
 use lib.Dec.{eqb}
 use Rattle.text.specs.Bytes.{isDigit, is}
 use Rattle.text.proofs.Bools.{and-l, and-r, or-cases}
-use Rattle.text.proofs.Ranges.{allBelow, digit-not}
+use Rattle.text.proofs.Ranges.{digit-not}
 use Rattle.numbers.specs.Parts.{cut, consGot, digits, sign, point, Part, absent, signedDigits, isEmpty, exponent, close, bracket, parts}
 use Rattle.numbers.specs.Cif.{allDigits, Sign, unsigned, plus, minus, exp}
 
 digit-no-sign : (c : ℕ) → isDigit c ≡ true → (is 43 c || is 45 c) ≡ false
-unfolding allBelow is
+unfolding is
 digit-no-sign c d = digit-not (λ b. is 43 b || is 45 b) refl c d
 
 digits-all : (ds r : List ℕ) → allDigits ds ≡ true → digits r ≡ cut [] r → digits (ds ++ r) ≡ cut ds r

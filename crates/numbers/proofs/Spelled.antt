@@ -11,7 +11,8 @@ use lib.ListN.{length, length-append}
 use Rattle.text.specs.Bytes.{isDigit, is}
 use Rattle.text.proofs.Bools.{and-r}
 use Rattle.numbers.specs.declared.Decimal.{Decimal}
-use Rattle.numbers.specs.Parts.{Part, absent, isEmpty, exponent, Parts, parts, isNumber, within, valueFrom, value, minus as isMinus}
+use Rattle.numbers.specs.Parts.{Part, absent, isEmpty, exponent, Parts, parts, isNumber, within, minus as isMinus}
+use Rattle.cuts.specs.Digits.{valueFrom, value}
 use Rattle.numbers.specs.declared.Number.the-variants.{Is}
 use Rattle.numbers.specs.Meaning.{meaning, judged, numberOf}
 use Rattle.numbers.specs.Cif.{allDigits, Sign, unsigned, minus, exp, integer}

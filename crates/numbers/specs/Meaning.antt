@@ -1,13 +1,15 @@
--- What a number means (document 01): sign, integer, fraction, fraction digits, exponent, uncertainty; and the digit limits, judged by counts. Assumes nothing.
+-- What a number means (document 01): sign, integer, fraction, fraction digits, exponent, uncertainty; and the digit
+-- limits, judged by counts. Assumes nothing.
 use Prim.Native.Nat.{ℕ}
-use mathlib.Core.Bool.{Bool, true, false, not, cond, _&&_}
+use mathlib.Core.Bool.{not, cond, _&&_}
 use mathlib.Core.List.{List}
 use lib.Dec.{eqb}
 use lib.ListN.{length}
 use Rattle.numbers.specs.declared.Decimal.{Decimal}
 use Rattle.numbers.specs.declared.Number.{Number}
 use Rattle.numbers.specs.declared.Number.the-variants.{Not, Is, Over}
-use Rattle.numbers.specs.Parts.{Parts, parts, isNumber, within, value, minus}
+use Rattle.numbers.specs.Parts.{Parts, parts, isNumber, within, minus}
+use Rattle.cuts.specs.Digits.{value}
 
 -- absent digits mean 0; an exponent of 0 has no sign
 unfoldable pub meaning : Parts → Decimal

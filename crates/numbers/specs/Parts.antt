@@ -1,12 +1,12 @@
--- Numbers (document 01): a word is cut greedily into its parts; a word whose parts leave nothing over, with a digit before or after the point, is a number.
--- Assumes nothing.
-use Prim.Native.Nat.{ℕ, zero, suc, _+_, _*_, _-_}
+-- Numbers (document 01): a word is cut greedily into its parts; a word whose parts leave nothing over, with a digit
+-- before or after the point, is a number. Assumes nothing.
+use Prim.Native.Nat.{ℕ}
+use Prim.Native.Char.{code}
 use mathlib.Core.Bool.{Bool, true, false, not, cond, _&&_, _||_}
 use mathlib.Core.List.{List, [], _∷_}
-use mathlib.Core.Option.{Option, none, some}
-use lib.Dec.{leb, eqb}
+use lib.Dec.{leb}
 use lib.ListN.{length}
-use Rattle.text.specs.Bytes.{isDigit, is}
+use Rattle.text.specs.Bytes.{isDigit, is, openBracket, closeBracket, plusSign, minusSign, fullStop}
 
 -- what a part took, and what it left
 pub record Cut : Type 0 where
@@ -27,12 +27,12 @@ digits (b ∷ s) = let r = consGot b (digits s) in cond (isDigit b) r (cut [] (b
 -- an optional sign, kept as a byte
 unfoldable pub sign : List ℕ → Cut
 sign [] = cut [] []
-sign (b ∷ s) = cond (is 43 b || is 45 b) (cut (b ∷ []) s) (cut [] (b ∷ s))
+sign (b ∷ s) = cond (is plusSign b || is minusSign b) (cut (b ∷ []) s) (cut [] (b ∷ s))
 
 -- an optional point and its digits
 unfoldable pub point : List ℕ → Cut
 point [] = cut [] []
-point (b ∷ s) = cond (is 46 b) (digits s) (cut [] (b ∷ s))
+point (b ∷ s) = cond (is fullStop b) (digits s) (cut [] (b ∷ s))
 
 -- an optional part that has a sign and digits, or digits: `none` where it is absent
 pub record Part : Type 0 where
@@ -54,16 +54,17 @@ isEmpty (b ∷ s) = false
 -- `e` or `E`, not at the word's end, an optional sign, digits
 unfoldable pub exponent : List ℕ → Part
 exponent [] = absent []
-exponent (b ∷ s) = cond ((is 101 b || is 69 b) && not (isEmpty s)) (signedDigits (sign s)) (absent (b ∷ s))
+exponent (b ∷ s) =
+    cond ((is (code "e") b || is (code "E") b) && not (isEmpty s)) (signedDigits (sign s)) (absent (b ∷ s))
 
 unfoldable pub close : List ℕ → List ℕ → List ℕ → Part
 close s g [] = absent s
-close s g (b ∷ l) = cond (is 41 b) (record { here = true; signed = []; run = g; left = l }) (absent s)
+close s g (b ∷ l) = cond (is closeBracket b) (record { here = true; signed = []; run = g; left = l }) (absent s)
 
 -- `(`, digits, `)`
 unfoldable pub bracket : List ℕ → Part
 bracket [] = absent []
-bracket (b ∷ s) = cond (is 40 b) (close (b ∷ s) ((digits s) .got) ((digits s) .left)) (absent (b ∷ s))
+bracket (b ∷ s) = cond (is openBracket b) (close (b ∷ s) ((digits s) .got) ((digits s) .left)) (absent (b ∷ s))
 
 -- a word's parts
 pub record Parts : Type 0 where
@@ -87,16 +88,11 @@ isNumber p = isEmpty (p .unc .left) && not (isEmpty (p .int) && isEmpty (p .frac
 
 -- the digit limits, by counts
 unfoldable pub within : Parts → Bool
-within p = leb (length (p .int)) 9 && leb (length (p .frac)) 18 && leb (length (p .exp .run)) 9 && leb (length (p .unc .run)) 9
+within p =
+    leb (length (p .int)) 9 && leb (length (p .frac)) 18
+    && leb (length (p .exp .run)) 9 && leb (length (p .unc .run)) 9
 
--- the number that digits write
-unfoldable pub valueFrom : ℕ → List ℕ → ℕ
-valueFrom a [] = a
-valueFrom a (d ∷ ds) = valueFrom (a * 10 + (d - 48)) ds
-
-unfoldable pub value : List ℕ → ℕ
-value ds = valueFrom 0 ds
-
+-- a sign that is a minus
 unfoldable pub minus : List ℕ → Bool
 minus [] = false
-minus (b ∷ s) = is 45 b
+minus (b ∷ s) = is minusSign b

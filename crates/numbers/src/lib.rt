@@ -1,15 +1,17 @@
-// Numbers: a word's parts, whether it is a number, and what it means.
+// Numbers: whether a word is one, and what it means.
 ghost use mathlib.Core.Path.{_≡_};
-ghost use Prim.Native.Nat.{_-_, _≤_, _<_};
+ghost use Prim.Native.Nat.{_-_, _<_};
 ghost use mathlib.Core.Bool.{true, not, _&&_};
 ghost use lib.Dec.{eqb};
-ghost use lib.ListN.{getD};
-ghost use Rattle.numbers.specs.Parts.{parts, isNumber, within, value, minus};
+ghost use Rattle.numbers.specs.Parts.{parts, isNumber, within, minus};
 ghost use Rattle.numbers.specs.Meaning.{meaning, numberOf};
-ghost use Rattle.numbers.specs.Cuts.{piece, startsNumber, after, digitsEnd, digitsAt, nowhere as nowhereOf, startsExponent, exponentAt, bracketAt, cutsOf, partsOf, Run, Sound};
-ghost use Rattle.numbers.specs.Plain.{wordStops, bracketEnd, decimalEnd};
+ghost use Rattle.cuts.specs.Digits.{piece};
+ghost use Rattle.numbers.specs.Pieces.{startsNumber, partsOf};
+ghost use Rattle.cuts.specs.Cuts.{Sound};
+use cuts::Cuts;
 
-// What a number means: its sign, integer, fraction and how many digits that has, sign and size of the exponent, and uncertainty.
+// What a number means: its sign, integer, fraction and how many digits that has, sign and size of the exponent, and
+// uncertainty.
 pub struct Decimal {
     pub minus: bool,
     pub integer: u32,
@@ -28,31 +30,6 @@ pub enum Number {
     Over,
 }
 
-// Where an optional part lies: its sign starts at `sign`, its digits at `digits` and end at `end`, and what follows it starts at `next`.
-struct Extent {
-    here: bool,
-    sign: usize,
-    digits: usize,
-    end: usize,
-    next: usize,
-}
-
-// Digits of a word: where they end, and the number that they write.
-struct Digits {
-    end: usize,
-    value: u64,
-}
-
-// Where a word's parts lie: the ends of sign, integer, point and fraction, then the exponent and the bracket.
-struct Cuts {
-    sign: usize,
-    integer: usize,
-    point: usize,
-    fraction: usize,
-    exponent: Extent,
-    bracket: Extent,
-}
-
 // Whether a number may start with a byte.
 fn starts_number(b: u8) -> bool
     ensures { λ r. ⌜ r ≡ startsNumber b ⌝ }
@@ -60,143 +37,13 @@ fn starts_number(b: u8) -> bool
     if text::is_digit(b) {
         return true;
     }
-    if b == 43 {
+    if b == b'+' {
         return true;
     }
-    if b == 45 {
+    if b == b'-' {
         return true;
     }
-    b == 46
-}
-
-// The byte at an offset, 0 past the end.
-fn byte_at(w: &[u8], at: usize) -> u8
-    ensures { λ r. ⌜ r ≡ getD (now (w .entry)) at 0 ⌝ }
-{
-    if at < w.len() {
-        return w[at];
-    }
-    0
-}
-
-// Behind the byte at an offset, if it is one of two.
-fn after_one(w: &[u8], at: usize, x: u8, y: u8) -> usize
-    requires { ⌜ (0 < x) × (0 < y) ⌝ }
-    ensures { λ r. ⌜ r ≡ after x y (now (w .entry)) at ⌝ }
-{
-    if at < w.len() {
-        if w[at] == x {
-            return at + 1;
-        }
-        if w[at] == y {
-            return at + 1;
-        }
-    }
-    at
-}
-
-// Behind the digits at an offset.
-fn digits_end(w: &[u8], from: usize) -> usize
-    ensures { λ r. ⌜ r ≡ digitsEnd (now (w .entry)) from ⌝ }
-{
-    let mut at = from;
-    while at < w.len() {
-        if !text::is_digit(w[at]) {
-            return at;
-        }
-        at += 1;
-    }
-    at
-}
-
-// A part that is absent at an offset.
-fn nowhere(at: usize) -> Extent
-    ensures { λ r. ⌜ r ≡ nowhereOf at ⌝ }
-{
-    Extent {
-        here: false,
-        sign: at,
-        digits: at,
-        end: at,
-        next: at,
-    }
-}
-
-// Whether an `e` or `E` that isn't the word's last byte stands at an offset.
-fn starts_exponent(w: &[u8], at: usize) -> bool
-    ensures { λ r. ⌜ r ≡ startsExponent (now (w .entry)) at ⌝ }
-{
-    if w.len() <= at {
-        return false;
-    }
-    if w.len() <= at + 1 {
-        return false;
-    }
-    if w[at] == 101 {
-        return true;
-    }
-    w[at] == 69
-}
-
-// The exponent at an offset.
-fn exponent_at(w: &[u8], at: usize) -> Extent
-    ensures { λ r. ⌜ r ≡ exponentAt (now (w .entry)) at ⌝ }
-{
-    if !starts_exponent(w, at) {
-        return nowhere(at);
-    }
-    let sign = at + 1;
-    let digits = after_one(w, sign, 43, 45);
-    let end = digits_end(w, digits);
-    Extent {
-        here: true,
-        sign,
-        digits,
-        end,
-        next: end,
-    }
-}
-
-// The bracket at an offset.
-fn bracket_at(w: &[u8], at: usize) -> Extent
-    ensures { λ r. ⌜ r ≡ bracketAt (now (w .entry)) at ⌝ }
-{
-    if byte_at(w, at) != 40 {
-        return nowhere(at);
-    }
-    let digits = at + 1;
-    let end = digits_end(w, digits);
-    if byte_at(w, end) != 41 {
-        return nowhere(at);
-    }
-    Extent {
-        here: true,
-        sign: digits,
-        digits,
-        end,
-        next: end + 1,
-    }
-}
-
-// Where a word's parts lie.
-fn cut(w: &[u8]) -> Cuts
-    ensures { λ r. ⌜ r ≡ cutsOf (now (w .entry)) ⌝ }
-{
-    let sign = after_one(w, 0, 43, 45);
-    let integer = digits_end(w, sign);
-    let point = after_one(w, integer, 46, 46);
-    let fraction = digits_end(w, point);
-    let exponent = exponent_at(w, fraction);
-    let behind = exponent.next;
-    let bracket = bracket_at(w, behind);
-    Cuts {
-        sign,
-        integer,
-        point,
-        fraction,
-        exponent,
-        bracket,
-    }
+    b == b'.'
 }
 
 // Whether the parts make a number: nothing is left over, and a digit stands before or after the point.
@@ -230,59 +77,14 @@ fn in_limits(w: &[u8], k: Cuts) -> bool
     k.bracket.end - k.bracket.digits <= 9
 }
 
-fn wide(x: u8) -> u64
-    ensures { λ r. ⌜ r ≡ x ⌝ }
-{
-    x as u64
-}
-
-// The number that the digits from one offset to another write.
-fn digits_value(w: &[u8], from: usize, to: usize) -> u64
-    requires { ⌜ Run (now w) from to × (to - from ≤ 18) ⌝ }
-    ensures { λ r. ⌜ r ≡ value (piece (now (w .entry)) from to) ⌝ }
-{
-    let mut v: u64 = 0;
-    let mut at = from;
-    while at < to {
-        v = v * 10 + wide(w[at] - 48);
-        at += 1;
-    }
-    v
-}
-
-// The same, of at most nine digits.
-fn small_value(w: &[u8], from: usize, to: usize) -> u32
-    requires { ⌜ Run (now w) from to × (to - from ≤ 9) ⌝ }
-    ensures { λ r. ⌜ r ≡ value (piece (now (w .entry)) from to) ⌝ }
-{
-    digits_value(w, from, to) as u32
-}
-
-// The digits at an offset, in one pass.
-fn digits_at(w: &[u8], from: usize) -> Digits
-    requires { ⌜ digitsEnd (now w) from - from ≤ 18 ⌝ }
-    ensures { λ r. ⌜ r ≡ digitsAt (now (w .entry)) from ⌝ }
-{
-    let mut v: u64 = 0;
-    let mut at = from;
-    while at < w.len() {
-        if !text::is_digit(w[at]) {
-            return Digits { end: at, value: v };
-        }
-        v = v * 10 + wide(w[at] - 48);
-        at += 1;
-    }
-    Digits { end: at, value: v }
-}
-
 // Whether a sign from one offset to another is a minus.
-fn is_minus(w: &[u8], from: usize, to: usize) -> bool
+pub fn is_minus(w: &[u8], from: usize, to: usize) -> bool
     ensures { λ r. ⌜ r ≡ minus (piece (now (w .entry)) from to) ⌝ }
 {
     if to <= from {
         return false;
     }
-    byte_at(w, from) == 45
+    cuts::byte_at(w, from) == b'-'
 }
 
 // Whether an exponent of a size has a minus: 0 has none.
@@ -301,11 +103,11 @@ fn read(w: &[u8], k: Cuts) -> Decimal
     ensures { λ r. ⌜ r ≡ meaning (partsOf (now (w .entry)) k) ⌝ }
 {
     let minus = is_minus(w, 0, k.sign);
-    let integer = small_value(w, k.sign, k.integer);
-    let fraction = digits_value(w, k.point, k.fraction);
-    let size = small_value(w, k.exponent.digits, k.exponent.end);
+    let integer = cuts::small_value(w, k.sign, k.integer);
+    let fraction = cuts::digits_value(w, k.point, k.fraction);
+    let size = cuts::small_value(w, k.exponent.digits, k.exponent.end);
     let lowers = is_lowering(w, k.exponent.sign, k.exponent.digits, size);
-    let uncertainty = small_value(w, k.bracket.digits, k.bracket.end);
+    let uncertainty = cuts::small_value(w, k.bracket.digits, k.bracket.end);
     Decimal {
         minus,
         integer,
@@ -319,70 +121,22 @@ fn read(w: &[u8], k: Cuts) -> Decimal
 }
 
 // What a word means whose parts keep the limits, by its cuts.
-fn decimal_by_cuts(w: &[u8]) -> Decimal
+pub fn decimal_by_cuts(w: &[u8]) -> Decimal
     requires { ⌜ within (parts (now w)) ≡ true ⌝ }
     ensures { λ r. ⌜ r ≡ meaning (parts (now (w .entry))) ⌝ }
 {
-    let k = cut(w);
+    let k = cuts::cut(w);
     read(w, k)
-}
-
-// What a word means whose parts keep the limits. Most end behind their fraction or a bracket there, and one pass reads those.
-pub fn decimal_of(w: &[u8]) -> Decimal
-    requires { ⌜ within (parts (now w)) ≡ true ⌝ }
-    ensures { λ r. ⌜ r ≡ meaning (parts (now (w .entry))) ⌝ }
-{
-    let sign = after_one(w, 0, 43, 45);
-    let minus = is_minus(w, 0, sign);
-    let whole = digits_at(w, sign);
-    let integer = whole.value as u32;
-    let point = after_one(w, whole.end, 46, 46);
-    let part = digits_at(w, point);
-    let behind = part.end;
-    let places = behind - point;
-    if w.len() <= behind {
-        return Decimal {
-            minus,
-            integer,
-            fraction: part.value,
-            places,
-            lowers: false,
-            exponent: 0,
-            uncertain: false,
-            uncertainty: 0,
-        };
-    }
-    if w[behind] != 40 {
-        return decimal_by_cuts(w);
-    }
-    // A bracket that isn't closed may have digits without limit.
-    if 11 < w.len() - behind {
-        return decimal_by_cuts(w);
-    }
-    let inner = digits_at(w, behind + 1);
-    if byte_at(w, inner.end) != 41 {
-        return decimal_by_cuts(w);
-    }
-    Decimal {
-        minus,
-        integer,
-        fraction: part.value,
-        places,
-        lowers: false,
-        exponent: 0,
-        uncertain: true,
-        uncertainty: inner.value as u32,
-    }
 }
 
 // What a word says as a number. Most words are no numbers and show it by their first byte.
 pub fn parse_numeric(w: &[u8]) -> Number
     ensures { λ r. ⌜ r ≡ numberOf (now (w .entry)) ⌝ }
 {
-    if !starts_number(byte_at(w, 0)) {
+    if !starts_number(cuts::byte_at(w, 0)) {
         return Number::Not;
     }
-    let k = cut(w);
+    let k = cuts::cut(w);
     if !is_number(w, k) {
         return Number::Not;
     }
@@ -390,57 +144,4 @@ pub fn parse_numeric(w: &[u8]) -> Number
         return Number::Over;
     }
     Number::Is(read(w, k))
-}
-
-// Whether a word ends at an offset of a text.
-fn word_stops(s: &[u8], at: usize) -> bool
-    ensures { λ r. ⌜ r ≡ wordStops (now (s .entry)) at ⌝ }
-{
-    if s.len() <= at {
-        return true;
-    }
-    text::ends_word(s[at])
-}
-
-// Behind the bracket at an offset, if it is closed and keeps its limit; else the offset.
-fn bracket_end(s: &[u8], at: usize) -> usize
-    ensures { λ r. ⌜ r ≡ bracketEnd (now (s .entry)) at ⌝ }
-{
-    if byte_at(s, at) != 40 {
-        return at;
-    }
-    let digits = at + 1;
-    let end = digits_end(s, digits);
-    if 9 < end - digits {
-        return at;
-    }
-    if byte_at(s, end) != 41 {
-        return at;
-    }
-    end + 1
-}
-
-// Where the number that starts at an offset of a text ends, if it has no exponent, keeps the limits and is the whole word; else the offset. It makes no
-// decimal: most values are such numbers, and most readers want their kind and length alone.
-pub fn decimal_end(s: &[u8], from: usize) -> usize
-    ensures { λ r. ⌜ r ≡ decimalEnd (now (s .entry)) from ⌝ }
-{
-    let sign = after_one(s, from, 43, 45);
-    let integer = digits_end(s, sign);
-    if 9 < integer - sign {
-        return from;
-    }
-    let point = after_one(s, integer, 46, 46);
-    let fraction = digits_end(s, point);
-    if 18 < fraction - point {
-        return from;
-    }
-    if integer - sign + (fraction - point) < 1 {
-        return from;
-    }
-    let end = bracket_end(s, fraction);
-    if !word_stops(s, end) {
-        return from;
-    }
-    end
 }

@@ -4,7 +4,7 @@ use mathlib.Core.Bool.{Bool, not, cond}
 use mathlib.Core.List.{List}
 use lib.Dec.{eqb}
 use lib.ListN.{getD}
-use Rattle.text.specs.Bytes.{isEol}
+use Rattle.text.specs.Bytes.{isEol, lineFeed, carriageReturn}
 use Rattle.text.specs.Runs.{spanEnd, runs}
 
 -- a byte that ends no line
@@ -17,7 +17,7 @@ lineEnd s o = spanEnd inLine s o
 
 -- 1 for LF, 0 for any other byte
 unfoldable pub feed : ℕ → ℕ
-feed b = cond (eqb b 10) 1 0
+feed b = cond (eqb b lineFeed) 1 0
 
 -- how many of the n bytes at offset o are LF
 unfoldable pub feeds : ℕ → List ℕ → ℕ → ℕ
@@ -26,7 +26,7 @@ feeds (suc n) s o = feeds n s o + feed (getD s (o + n) 0)
 
 -- any byte but CR
 unfoldable pub noCarriage : ℕ → Bool
-noCarriage b = not (eqb b 13)
+noCarriage b = not (eqb b carriageReturn)
 
 -- how many of the n bytes at offset o are LF, or a given number where one of them is CR
 unfoldable pub feedsOr : ℕ → ℕ → List ℕ → ℕ → ℕ
@@ -35,4 +35,4 @@ feedsOr other n s o = cond (runs noCarriage n s o) (feeds n s o) other
 -- where the last line of the n bytes at offset o begins: behind their last LF, or at o
 unfoldable pub lastStart : ℕ → List ℕ → ℕ → ℕ
 lastStart zero s o = o
-lastStart (suc n) s o = let before = lastStart n s o in cond (eqb (getD s (o + n) 0) 10) (o + n + 1) before
+lastStart (suc n) s o = let before = lastStart n s o in cond (eqb (getD s (o + n) 0) lineFeed) (o + n + 1) before

@@ -1,13 +1,13 @@
--- Places (document 01): line is 1 plus the line ends before, column 1 plus the bytes since the last. CR LF and LF CR each make one line end,
--- a lone CR or LF one, taken greedily from the left: a fold over the bytes before, which knows whether the last byte may be the first half of a pair.
--- Assumes nothing.
+-- Places (document 01): line is 1 plus the line ends before, column 1 plus the bytes since the last. CR LF and LF CR
+-- each make one line end, a lone CR or LF one, taken greedily from the left: a fold over the bytes before, which knows
+-- whether the last byte may be the first half of a pair. Assumes nothing.
 use Prim.Native.Nat.{ℕ, _+_, _≤_}
 use mathlib.Core.Path.{_≡_}
 use mathlib.Core.Bool.{Bool, true, false, cond, _&&_, _||_}
 use mathlib.Core.List.{List, [], _∷_}
 use lib.Dec.{eqb}
 use lib.ListN.{length, take, getD}
-use Rattle.text.specs.Bytes.{isEol}
+use Rattle.text.specs.Bytes.{isEol, lineFeed, carriageReturn}
 use Rattle.places.specs.declared.Place.{Place}
 use Rattle.places.specs.declared.Scan.{Scan}
 
@@ -17,7 +17,7 @@ start = record { line = 1; column = 1; half = 0 }
 
 -- b closes the line end that the byte before began: CR LF or LF CR
 abbrev pub closes : ℕ → ℕ → Bool
-closes half b = (eqb half 13 && eqb b 10) || (eqb half 10 && eqb b 13)
+closes half b = (eqb half carriageReturn && eqb b lineFeed) || (eqb half lineFeed && eqb b carriageReturn)
 
 -- over a byte of a line end: one that closes a line end belongs to it, any other begins one
 abbrev pub over : Bool → ℕ → ℕ → Scan
@@ -26,7 +26,9 @@ over false line b = record { line = line + 1; column = 1; half = b }
 
 -- over one byte
 unfoldable pub step : Scan → ℕ → Scan
-step c b = cond (isEol b) (over (closes (c .half) b) (c .line) b) (record { line = c .line; column = c .column + 1; half = 0 })
+step c b =
+    let next : Scan = record { line = c .line; column = c .column + 1; half = 0 } in
+    cond (isEol b) (over (closes (c .half) b) (c .line) b) next
 
 -- over n bytes that end no line
 unfoldable pub along : Scan → ℕ → Scan

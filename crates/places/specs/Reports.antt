@@ -9,7 +9,16 @@ success m k = record { number = 0; offset = 0; line = 0; column = 0; detail = 0;
 
 -- a refusal that has a place
 unfoldable pub refusedAt : ℕ → Place → ℕ → Report
-refusedAt n p d = record { number = n; offset = p .offset; line = p .line; column = p .column; detail = d; first = 0; second = 0 }
+refusedAt n p d =
+    record {
+      number = n;
+      offset = p .offset;
+      line = p .line;
+      column = p .column;
+      detail = d;
+      first = 0;
+      second = 0;
+    }
 
 -- a refusal without a place
 unfoldable pub refusedBare : ℕ → Report

@@ -14,7 +14,8 @@ pub struct Place {
     pub column: usize,
 }
 
-// An answer in document 01's numbers: the refusal number, its place (or two record numbers), its detail, and the two lengths.
+// An answer in document 01's numbers: the refusal number, its place (or two record numbers), its detail, and the two
+// lengths.
 pub struct Report {
     pub number: usize,
     pub offset: usize,
@@ -30,7 +31,7 @@ pub fn line_end(s: &[u8], from: usize) -> usize
     ensures { λ r. ⌜ r ≡ lineEnd (now (s .entry)) from ⌝ }
 {
     let mut at = from;
-    while text::is_clear(s, at, 16, 14, 0) {
+    while text::is_clear(s, at, 16, text::ABOVE_LINE_ENDS, 0) {
         at += 16;
     }
     while at < s.len() {
@@ -42,7 +43,7 @@ pub fn line_end(s: &[u8], from: usize) -> usize
     at
 }
 
-// Line and column so far, and half: 10 or 13 where the last byte is an LF or CR that began a line end, else 0.
+// Line and column so far, and half: the last byte, where it is an LF or CR that began a line end, else 0.
 pub struct Scan {
     pub line: usize,
     pub column: usize,
@@ -55,8 +56,8 @@ pub fn step(c: Scan, b: u8) -> Scan
     ensures { λ r. ⌜ r ≡ stepOf c b ⌝ }
 {
     let half = c.half;
-    if b == 10 {
-        if half == 13 {
+    if b == b'\n' {
+        if half == b'\r' {
             return Scan {
                 line: c.line,
                 column: 1,
@@ -66,11 +67,11 @@ pub fn step(c: Scan, b: u8) -> Scan
         return Scan {
             line: c.line + 1,
             column: 1,
-            half: 10,
+            half: b'\n',
         };
     }
-    if b == 13 {
-        if half == 10 {
+    if b == b'\r' {
+        if half == b'\n' {
             return Scan {
                 line: c.line,
                 column: 1,
@@ -80,7 +81,7 @@ pub fn step(c: Scan, b: u8) -> Scan
         return Scan {
             line: c.line + 1,
             column: 1,
-            half: 13,
+            half: b'\r',
         };
     }
     Scan {
@@ -135,13 +136,16 @@ fn advance_by_line(s: &[u8], p: Place, to: usize) -> Place
 fn feed(b: u8) -> u8
     ensures { λ r. ⌜ r ≡ feedOf b ⌝ }
 {
-    if b == 10 {
+    if b == b'\n' {
         return 1;
     }
     0
 }
 
-// How many of the 32 bytes at an offset are LF, or 255 where one is CR; every byte is looked at here too.
+// The answer of a block that holds a CR.
+const HAS_RETURN: u8 = 255;
+
+// How many of the 32 bytes at an offset are LF, or `HAS_RETURN`; every byte is looked at here too.
 fn feeds_in_block(s: &[u8], at: usize) -> u8
     requires { ⌜ at + 32 ≤ length (now s) ⌝ }
     ensures { λ r. ⌜ r ≡ feedsOr 255 32 (now (s .entry)) at ⌝ }
@@ -151,12 +155,12 @@ fn feeds_in_block(s: &[u8], at: usize) -> u8
     let mut seen = 0;
     while seen < 32 {
         let b = s[at + seen];
-        carriage = carriage | (b == 13);
+        carriage = carriage | (b == b'\r');
         count += feed(b);
         seen += 1;
     }
     if carriage {
-        return 255;
+        return HAS_RETURN;
     }
     count
 }
@@ -170,7 +174,7 @@ fn line_feeds(s: &[u8], from: usize, to: usize) -> usize
     let mut at = from;
     while 32 <= to - at {
         let feeds = feeds_in_block(s, at);
-        if feeds == 255 {
+        if feeds == HAS_RETURN {
             return to - from + 1;
         }
         count += feeds as usize;
@@ -178,7 +182,7 @@ fn line_feeds(s: &[u8], from: usize, to: usize) -> usize
     }
     while at < to {
         let b = s[at];
-        if b == 13 {
+        if b == b'\r' {
             return to - from + 1;
         }
         count += feed(b) as usize;
@@ -194,7 +198,7 @@ fn last_start(s: &[u8], from: usize, to: usize) -> usize
 {
     let mut at = to;
     while from < at {
-        if s[at - 1] == 10 {
+        if s[at - 1] == b'\n' {
             return at;
         }
         at -= 1;
@@ -202,7 +206,8 @@ fn last_start(s: &[u8], from: usize, to: usize) -> usize
     at
 }
 
-// The place of a later offset, from the place of an earlier one. Where no CR stands between, each LF is a line end by itself.
+// The place of a later offset, from the place of an earlier one. Where no CR stands between, each LF is a line end by
+// itself.
 pub fn advance(s: &[u8], p: Place, to: usize) -> Place
     requires { ⌜ IsPlace (now s) p × (p .offset ≤ to) × (to ≤ length (now s)) ⌝ }
     ensures { λ r. ⌜ r ≡ placeAt (now (s .entry)) to ⌝ }

@@ -11,7 +11,6 @@ use lib.ListN.{length, take, drop, length-append, length-take, length-drop}
 use Rattle.text.specs.Bytes.{is, isAscii, isDigit, endsWord}
 use Rattle.text.specs.Runs.{span}
 use Rattle.text.proofs.Bools.{and-l, and-r, or-cases}
-use Rattle.text.proofs.Ranges.{allBelow}
 use Rattle.words.specs.Words.{inWord, word}
 use Rattle.keywords.specs.Keywords.{lower, starts, keyData, keyLoop, keySave, keyGlobal, keyStop, reserved}
 use Rattle.numbers.specs.declared.Decimal.{Decimal}
@@ -217,7 +216,7 @@ span-all p (b ∷ w) e = by (p b) e (span-all p w)
     by false q r = absurd (omega arith)
 
 number-ascii : (d : Decimal) → all isAscii (renderNumber d) ≡ true
-unfolding allBelow all others isAscii
+unfolding all others isAscii
 number-ascii d = number-made isAscii refl refl (renderNumber d) (number-is d)
 
 module _ (ar : List ℕ) (f : Fields) where

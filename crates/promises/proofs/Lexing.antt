@@ -13,7 +13,7 @@ use Rattle.text.specs.Bytes.{is}
 use Rattle.text.specs.Bytes.{endsWord}
 use Rattle.text.specs.Runs.{span}
 use Rattle.text.proofs.Bools.{and-l, and-r}
-use Rattle.text.proofs.Ranges.{allBelow, passes}
+use Rattle.text.proofs.Ranges.{passes}
 use Rattle.words.specs.Words.{inWord, word, isOrdinary}
 use Rattle.keywords.specs.Keywords.{lower, starts, keyData, keyGlobal, keyLoop, keySave, keyStop, reserved}
 use Rattle.quotes.specs.Quotes.{quoted, field}
@@ -176,7 +176,7 @@ lower-in-word b = by (leb 65 b && leb b 90) refl
   where
     by : (t : Bool) → (leb 65 b && leb b 90) ≡ t → inWord (cond t (b + 32) b) ≡ true → inWord b ≡ true
     by true q e =
-        passes inWord 65 26 (unfold allBelow inWord endsWord in refl) b (leb-true 65 b (and-l (leb 65 b) (leb b 90) q)) (omega (arith, leb-true b 90 (and-r (leb 65 b) (leb b 90) q)))
+        passes inWord 65 26 (unfold inWord endsWord in refl) b (leb-true 65 b (and-l (leb 65 b) (leb b 90) q)) (omega (arith, leb-true b 90 (and-r (leb 65 b) (leb b 90) q)))
     by false q e = e
 
 pub key-word : (k s : List ℕ) → plainKey k ≡ true → starts k s ≡ true → word s ≡ length k + word (drop (length k) s)

@@ -11,7 +11,6 @@ use lib.Seq.{take-length}
 use Rattle.text.specs.Bytes.{isDigit, is, endsWord}
 use Rattle.text.specs.Runs.{span}
 use Rattle.text.proofs.Bools.{and-l, and-r}
-use Rattle.text.proofs.Ranges.{allBelow}
 use Rattle.words.specs.Words.{isOrdinary, word, inWord}
 use Rattle.keywords.specs.Keywords.{lower, starts, keyData, keyGlobal, keyLoop, keySave, keyStop}
 use Rattle.numbers.specs.Parts.{isEmpty}
@@ -47,7 +46,7 @@ digit-cases P a b e =
     subst P q (all-below (λ k. P (48 + k)) 10 a (b - 48) (omega arith))
 
 rendered-inWord : (d : Decimal) → all inWord (renderNumber d) ≡ true
-unfolding allBelow all others inWord endsWord
+unfolding all others inWord endsWord
 rendered-inWord d = number-made inWord refl refl (renderNumber d) (number-is d)
 
 word-all : (w : List ℕ) → all inWord w ≡ true → word w ≡ length w

@@ -8,7 +8,6 @@ use lib.ListN.{take, length-map}
 use Rattle.text.specs.Bytes.{isDigit, is, isAscii}
 use Rattle.gaps.specs.Gaps.{gap}
 use Rattle.places.specs.Places.{placeAt}
-use Rattle.text.proofs.Ranges.{allBelow}
 use Rattle.words.specs.Words.{word}
 use Rattle.keywords.specs.Keywords.{lower, starts, keyData, keyGlobal, keyLoop, keySave, keyStop}
 use Rattle.numbers.specs.Parts.{parts}
@@ -16,7 +15,7 @@ use Rattle.values.specs.Values.{Lexed, numberOr, wordOr, lexValue}
 use Rattle.items.specs.Tokens.{Mode, before, inBlock, inFrame, saveSize, lexIn, lex, step, tokensFrom, tokens}
 use Rattle.items.specs.Reading.{decided, outline}
 use Rattle.promises.proofs.Places.{take-map, placeAt-w}
-use Rattle.text.proofs.Shape.{σ, flat, blind, is-σ, span-σ}
+use Rattle.text.proofs.Shape.{σ, blind, is-σ, span-σ}
 use Rattle.gaps.proofs.Shape.{gap-σ}
 use Rattle.words.proofs.Shape.{word-σ, ordinary-σ}
 use Rattle.keywords.proofs.Shape.{starts-σ, noDigit}
@@ -32,7 +31,7 @@ unfolding wordOr
 wordOr-σ x s = rw (word-σ s, take-map σ (word s) s, numberOr-σ x (take (word s) s) (word s))
 
 lexValue-σ : (b : ℕ) (s : List ℕ) → lexValue (σ b) (map σ s) ≡ lexValue b s
-unfolding lexValue flat allBelow is
+unfolding lexValue is
 lexValue-σ b s =
     rw (word-σ (b ∷ s), wordOr-σ _ (b ∷ s), wordOr-σ _ (b ∷ s), quoted-σ 39 refl s, quoted-σ 34 refl s, field-σ s)
     (rw (is-σ 46 refl b, is-σ 63 refl b, is-σ 39 refl b, is-σ 34 refl b, is-σ 59 refl b, ordinary-σ b))
@@ -44,27 +43,27 @@ saveSize-σ inBlock s = word-σ s
 saveSize-σ inFrame s = refl
 
 pub data-σ : (s : List ℕ) → starts keyData (map σ s) ≡ starts keyData s
-unfolding keyData noDigit flat allBelow is lower
+unfolding keyData noDigit is lower
 data-σ s = starts-σ keyData s refl
 
 pub global-σ : (s : List ℕ) → starts keyGlobal (map σ s) ≡ starts keyGlobal s
-unfolding keyGlobal noDigit flat allBelow is lower
+unfolding keyGlobal noDigit is lower
 global-σ s = starts-σ keyGlobal s refl
 
 pub stop-σ : (s : List ℕ) → starts keyStop (map σ s) ≡ starts keyStop s
-unfolding keyStop noDigit flat allBelow is lower
+unfolding keyStop noDigit is lower
 stop-σ s = starts-σ keyStop s refl
 
 pub loop-σ : (s : List ℕ) → starts keyLoop (map σ s) ≡ starts keyLoop s
-unfolding keyLoop noDigit flat allBelow is lower
+unfolding keyLoop noDigit is lower
 loop-σ s = starts-σ keyLoop s refl
 
 pub save-σ : (s : List ℕ) → starts keySave (map σ s) ≡ starts keySave s
-unfolding keySave noDigit flat allBelow is lower
+unfolding keySave noDigit is lower
 save-σ s = starts-σ keySave s refl
 
 pub underscore-σ : (b : ℕ) → is 95 (σ b) ≡ is 95 b
-unfolding flat allBelow is
+unfolding is
 underscore-σ b = is-σ 95 refl b
 
 pub lexIn-σ : (m : Mode) (s : List ℕ) → lexIn m (map σ s) ≡ lexIn m s
@@ -92,7 +91,7 @@ unfolding tokens
 tokens-σ s = tokensFrom-σ s 0 before 0
 
 ascii-σ : (b : ℕ) → isAscii (σ b) ≡ isAscii b
-unfolding flat allBelow isAscii
+unfolding isAscii
 ascii-σ b = blind isAscii refl b
 
 pub outline-σ : (s : List ℕ) → outline (map σ s) ≡ outline s
@@ -100,5 +99,5 @@ unfolding outline decided
 outline-σ s = rw (length-map s σ, span-σ isAscii ascii-σ s, tokens-σ s)
 
 pub placeAt-σ : (s : List ℕ) (n : ℕ) → placeAt (map σ s) n ≡ placeAt s n
-unfolding flat allBelow is
+unfolding is
 placeAt-σ s n = placeAt-w σ (is-σ 10 refl) (is-σ 13 refl) s n

@@ -8,7 +8,7 @@ use native.Mathlib.Omega.{arith}
 use lib.ListN.{length, getD}
 use Rattle.text.specs.Bytes.{isAscii, isDigit}
 use Rattle.text.specs.Runs.{span}
-use Rattle.text.proofs.Ranges.{allBelow, digit-is}
+use Rattle.text.proofs.Ranges.{digit-is}
 use Rattle.promises.specs.Differences.{isMark, Swap, same, digits, inside, Differ}
 use Rattle.text.proofs.Shape.{σ}
 use Rattle.promises.proofs.Veil.{μ}
@@ -25,7 +25,7 @@ unfolding Rest
 rest-of d j l = close-of (d .bytes j l)
 
 swap-ascii : {I : Type 0} {a b : ℕ} → Swap I a b → isAscii a ≡ true → isAscii b ≡ true
-unfolding isAscii allBelow
+unfolding isAscii
 swap-ascii same e = e
 swap-ascii {b = b} (digits p q) e = digit-is isAscii refl b q
 swap-ascii (inside i p q r) e = r

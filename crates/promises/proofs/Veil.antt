@@ -13,7 +13,6 @@ use lib.Seq.{length-take-le, take-take}
 use Rattle.text.specs.Bytes.{isDigit, is, isEol, endsWord}
 use Rattle.text.specs.Runs.{span}
 use Rattle.gaps.specs.Gaps.{gapByte, gapThen, gapIn, gap}
-use Rattle.text.proofs.Ranges.{allBelow}
 use Rattle.text.proofs.Runs.{span-le}
 use Rattle.text.proofs.Bools.{and-l, and-r, or-l, or-r}
 use Rattle.words.specs.Words.{isOrdinary, inWord, word}
@@ -254,7 +253,7 @@ all-no-mark [] e = refl
 all-no-mark (b ∷ w) e = rw (not-true (opens b) (and-l (not (opens b)) _ e), all-no-mark w (and-r (not (opens b)) _ e))
 
 number-no-mark : (w : List ℕ) → isNumber (parts w) ≡ true → hasMark w ≡ false
-unfolding allBelow all others opens is
+unfolding all others opens is
 number-no-mark w h = all-no-mark w (number-made (λ b. not (opens b)) refl refl w h)
 
 mark-no-number : (w : List ℕ) → hasMark w ≡ true → isNumber (parts w) ≡ false
@@ -275,7 +274,7 @@ grow h (alike e) = alike (ap₂ {C = List ℕ} (λ x r. x ∷ r) h e)
 grow {b} {b′} h (marked p q) = marked (rw p (or-true (opens b))) (rw q (or-true (opens b′)))
 
 opens₂ : (b b′ : ℕ) → σ b ≡ σ b′ → opens b ≡ opens b′
-unfolding flat allBelow opens is
+unfolding opens is
 opens₂ b b′ h = blind₂ opens refl b b′ h
 
 inWord₂ : (b b′ : ℕ) → σ b ≡ σ b′ → inWord b ≡ inWord b′
@@ -372,15 +371,15 @@ clear-byte f c true a b h = sym (c .by-μ a) ∙ ap f h ∙ c .by-μ b
 clear-byte f c false a b h = sym (c .by-σ a) ∙ ap f h ∙ c .by-σ b
 
 clear-39 : Clear (is 39)
-unfolding flat allBelow is
+unfolding is
 clear-39 = record { by-σ = blind (is 39) refl; by-μ = μ-39 }
 
 clear-34 : Clear (is 34)
-unfolding flat allBelow is
+unfolding is
 clear-34 = record { by-σ = blind (is 34) refl; by-μ = μ-34 }
 
 clear-59 : Clear (is 59)
-unfolding flat allBelow is
+unfolding is
 clear-59 = record { by-σ = blind (is 59) refl; by-μ = μ-59 }
 
 clear-eol : Clear isEol
@@ -459,7 +458,7 @@ byte₂ : (c : ℕ) → flat (is c) ≡ true → (b b′ : ℕ) → σ b ≡ σ 
 byte₂ c e b b′ h = sym (blind₂ (is c) e b b′ h)
 
 isOrdinary₂ : (b b′ : ℕ) → σ b ≡ σ b′ → isOrdinary b′ ≡ isOrdinary b
-unfolding flat allBelow isOrdinary
+unfolding isOrdinary
 isOrdinary₂ b b′ h = sym (blind₂ isOrdinary refl b b′ h)
 
 bare-same : (s s′ : List ℕ) (x : Lexed) → x ≡ wordOr (lexed (value 10) (word s)) s → Pre (x .size) s s′ → wordOr (lexed (value 10) (word s)) s ≡ wordOr (lexed (value 10) (word s′)) s′
@@ -468,7 +467,7 @@ bare-same s s′ x e p =
     wordOr-alike _ _ s s′ (alike-pre s s′ p′) (ap (lexed (value 10)) (word-pre s s′ p′))
 
 value-same : (b b′ : ℕ) (s s′ : List ℕ) → σ b ≡ σ b′ → opens b ≡ false → Near (b ∷ s) (b′ ∷ s′) → Pre ((lexValue b s) .size) (b ∷ s) (b′ ∷ s′) → lexValue b s ≡ lexValue b′ s′
-unfolding lexValue flat allBelow is opens
+unfolding lexValue is opens
 value-same b b′ s s′ h o n p =
     let a = or-l (is 39 b) (is 34 b) (or-l (is 39 b || is 34 b) (is 59 b) o) in
     let c = or-r (is 39 b) (is 34 b) (or-l (is 39 b || is 34 b) (is 59 b) o) in
@@ -479,23 +478,23 @@ value-same b b′ s s′ h o n p =
     (λ f. cond-ext (isOrdinary b) (λ g. bare-same (b ∷ s) (b′ ∷ s′) (lexValue b s) (rw (e, f, a, c, d, g)) p) (λ g. refl))))
 
 key₂ : (s s′ : List ℕ) → Near s s′ → (starts keyData s′ || starts keyGlobal s′ || starts keyStop s′) ≡ (starts keyData s || starts keyGlobal s || starts keyStop s)
-unfolding keyData keyGlobal keyStop keyBytes keyByte flat allBelow is lower
+unfolding keyData keyGlobal keyStop keyBytes keyByte is lower
 key₂ s s′ n = rw (starts₂ keyData refl n, starts₂ keyGlobal refl n, starts₂ keyStop refl n)
 
 data₂ : (s s′ : List ℕ) → Near s s′ → starts keyData s′ ≡ starts keyData s
-unfolding keyData keyBytes keyByte flat allBelow is lower
+unfolding keyData keyBytes keyByte is lower
 data₂ s s′ n = starts₂ keyData refl n
 
 loop₂ : (s s′ : List ℕ) → Near s s′ → starts keyLoop s′ ≡ starts keyLoop s
-unfolding keyLoop keyBytes keyByte flat allBelow is lower
+unfolding keyLoop keyBytes keyByte is lower
 loop₂ s s′ n = starts₂ keyLoop refl n
 
 save₂ : (s s′ : List ℕ) → Near s s′ → starts keySave s′ ≡ starts keySave s
-unfolding keySave keyBytes keyByte flat allBelow is lower
+unfolding keySave keyBytes keyByte is lower
 save₂ s s′ n = starts₂ keySave refl n
 
 tag₂ : (b b′ : ℕ) → σ b ≡ σ b′ → is 95 b′ ≡ is 95 b
-unfolding flat allBelow is
+unfolding is
 tag₂ b b′ h = byte₂ 95 refl b b′ h
 
 save-same : (m : Mode) (s s′ : List ℕ) → Pre (saveSize m s) s s′ → saveSize m s ≡ saveSize m s′
@@ -570,7 +569,7 @@ closed-same k y m s s′ f v z = go (f s) refl
     go (some n) e r = ap (closed k y) (sym (v n _ _ e r))
 
 mark-lexIn : (m : Mode) (b : ℕ) (s s′ : List ℕ) → opens b ≡ true → relEmit ((lexIn m (b ∷ s)) .size) ((lexIn m (b ∷ s)) .class) m (λ k m′ q′. Rel s s′ k m′ q′) (map σ s ≡ map σ s′) → lexIn m (b ∷ s) ≡ lexIn m (b ∷ s′)
-unfolding lexIn starts keyData keyGlobal keyStop keyLoop keySave lower is lexValue isOrdinary flat allBelow field
+unfolding lexIn starts keyData keyGlobal keyStop keyLoop keySave lower is lexValue isOrdinary field
 mark-lexIn m b s s′ o =
     opens-cases (λ b. relEmit ((lexIn m (b ∷ s)) .size) ((lexIn m (b ∷ s)) .class) m (λ k m′ q′. Rel s s′ k m′ q′) (map σ s ≡ map σ s′) → lexIn m (b ∷ s) ≡ lexIn m (b ∷ s′))
     (closed-same 11 openQuote m s s′ (quoted 39) (λ n q m′ e r. quoted-veil 39 clear-39 s s′ n m′ q e r) (λ e. sym (quoted-σ 39 refl s) ∙ ap (quoted 39) e ∙ quoted-σ 39 refl s′))

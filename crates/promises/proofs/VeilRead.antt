@@ -9,12 +9,12 @@ use lib.Dec.{ltb}
 use lib.ListN.{length, getD}
 use Rattle.gaps.specs.Gaps.{gap}
 use Rattle.text.specs.Bytes.{is, isEol, isDigit}
-use Rattle.text.proofs.Ranges.{allBelow, digit-not}
+use Rattle.text.proofs.Ranges.{digit-not}
 use Rattle.text.proofs.Bools.{and-l, and-r}
 use Rattle.values.specs.Values.{Class, Lexed}
 use Rattle.items.specs.Tokens.{Mode, lex, after, Tok, tok, emit, step, tokensFrom}
 use Rattle.promises.specs.Differences.{isMark}
-use Rattle.text.proofs.Shape.{σ, flat, blind}
+use Rattle.text.proofs.Shape.{σ, blind}
 use Rattle.promises.proofs.Veil.{μ, veiled, Byte, isZero, relEmit, relStep, Rel}
 
 -- place i is inside the token, if that is a quoted value or a text field
@@ -74,7 +74,7 @@ map-close f (same h) = same h
 map-close f (washed x h) = washed (f x) h
 
 mark₂ : (a b : ℕ) → σ a ≡ σ b → isMark a ≡ isMark b
-unfolding flat allBelow isMark is isEol
+unfolding isMark is isEol
 mark₂ a b h = sym (blind isMark refl a) ∙ ap isMark h ∙ blind isMark refl b
 
 mark-σ : (a : ℕ) → isMark a ≡ true → σ a ≡ a
@@ -83,7 +83,7 @@ mark-σ a p = go (isDigit a) refl
   where
     go : (t : Bool) → isDigit a ≡ t → cond t 48 a ≡ a
     go false q = refl
-    go true q = absurd (true≢false (sym p ∙ digit-not isMark (unfold allBelow in refl) a q))
+    go true q = absurd (true≢false (sym p ∙ digit-not isMark refl a q))
 
 mark-same : (a b : ℕ) → isMark a ≡ true → isMark b ≡ true → σ a ≡ σ b → a ≡ b
 mark-same a b p q h = sym (mark-σ a p) ∙ h ∙ mark-σ b q

@@ -11,7 +11,7 @@ use lib.Dec.{eqb}
 use lib.ListN.{length, drop, length-append}
 use Rattle.places.specs.Places.{placeAt}
 use Rattle.places.proofs.Places.{line-bound, column-bound}
-use Rattle.text.proofs.Ranges.{allBelow, passes}
+use Rattle.text.proofs.Ranges.{passes}
 use Rattle.numbers.specs.declared.Decimal.{Decimal}
 use Rattle.numbers.specs.declared.Number.the-variants.{Is}
 use Rattle.numbers.specs.Meaning.{meaning, judged, numberOf as numberIn}
@@ -86,7 +86,7 @@ only Uncertain h = refl
 
 -- a kind's number is its own
 pub kind-back : (k : ℕ) → 1 ≤ k → k ≤ 15 → numberOf (kindOf k) ≡ k
-unfolding kindOf allBelow
+unfolding kindOf
 kind-back k l h = eqb-true (numberOf (kindOf k)) k (passes (λ n. eqb (numberOf (kindOf n)) n) 1 15 refl k l (omega arith))
 
 pub only-kind : (s : List ℕ) (r : Rec) → Facts s r → Only (shapeOf (kindOf (r .kind))) (r .kind)

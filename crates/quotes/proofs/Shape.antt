@@ -4,7 +4,6 @@ use mathlib.Core.Bool.{Bool, true, false}
 use mathlib.Core.Path.{_≡_, refl}
 use mathlib.Core.List.{List, [], _∷_, map}
 use Rattle.text.specs.Bytes.{isEol, is}
-use Rattle.text.proofs.Ranges.{allBelow}
 use Rattle.text.proofs.Shape.{σ, flat, eol-σ, is-σ}
 use Rattle.quotes.specs.Quotes.{quoted, fieldIn, field}
 
@@ -14,7 +13,7 @@ quoted-σ m e [] = refl
 quoted-σ m e (b ∷ s) = rw (is-σ m e b, eol-σ b, quoted-σ m e s)
 
 fieldIn-σ : (e : Bool) (s : List ℕ) → fieldIn e (map σ s) ≡ fieldIn e s
-unfolding fieldIn flat allBelow is
+unfolding fieldIn is
 fieldIn-σ e [] = refl
 fieldIn-σ e (b ∷ s) = rw (is-σ 59 refl b, eol-σ b, fieldIn-σ (isEol b) s)
 

@@ -1,7 +1,7 @@
 // Quoted values and text fields: where they close.
 ghost use mathlib.Core.Path.{_≡_};
 ghost use Prim.Native.Nat.{_<_};
-ghost use Rattle.text.specs.Bytes.{is};
+ghost use Rattle.text.specs.Bytes.{is, semicolon};
 ghost use Rattle.text.specs.Runs.{spanEnd};
 ghost use Rattle.text.specs.Blocks.{clear};
 ghost use Rattle.quotes.specs.Answers.{quoteEnd, fieldEnd};
@@ -17,7 +17,7 @@ pub fn parse_enclosed(s: &[u8], from: usize, mark: u8) -> Closing
     ensures { λ r. ⌜ r ≡ quoteEnd mark (now (s .entry)) from ⌝ }
 {
     let mut at = from;
-    while text::is_clear(s, at, 8, 14, mark) {
+    while text::is_clear(s, at, 8, text::ABOVE_LINE_ENDS, mark) {
         at += 8;
     }
     while at < s.len() {
@@ -35,14 +35,14 @@ pub fn parse_enclosed(s: &[u8], from: usize, mark: u8) -> Closing
 
 // Where the next `;` stands at an offset or behind it, or the text's end.
 fn next_semicolon(s: &[u8], from: usize) -> usize
-    ensures { λ r. ⌜ r ≡ spanEnd (clear 0 59) (now (s .entry)) from ⌝ }
+    ensures { λ r. ⌜ r ≡ spanEnd (clear 0 semicolon) (now (s .entry)) from ⌝ }
 {
     let mut at = from;
-    while text::is_clear(s, at, 16, 0, 59) {
+    while text::is_clear(s, at, 16, 0, b';') {
         at += 16;
     }
     while at < s.len() {
-        if s[at] == 59 {
+        if s[at] == b';' {
             return at;
         }
         at += 1;
@@ -50,7 +50,9 @@ fn next_semicolon(s: &[u8], from: usize) -> usize
     at
 }
 
-// Behind the `;` that closes a text field; `from` is behind the `;` that opens it. Only a `;` is looked at, and the byte before it.
+// Behind the `;` that closes a text field; `from` is behind the `;` that opens it. Only a `;` is looked at, and the
+// byte
+// before it.
 pub fn parse_multiline_string(s: &[u8], from: usize) -> Closing
     ensures { λ r. ⌜ r ≡ fieldEnd (now (s .entry)) from ⌝ }
 {

@@ -5,7 +5,8 @@ ghost use mathlib.Core.List.{[], _∷_};
 ghost use lib.ListN.{length};
 ghost use Rattle.records.specs.Bytes.{le32, le64, signed32, flag};
 ghost use Rattle.records.specs.Put.{front, put};
-ghost use Rattle.records.specs.Records.{tokenBytes, decimalBytes, endRecord, placeRecord, contentRecord, loopRecord, numberRecord, uncertainRecord};
+ghost use Rattle.records.specs.Records.{tokenBytes, decimalBytes, endRecord, placeRecord, contentRecord};
+ghost use Rattle.records.specs.Records.{loopRecord, numberRecord, uncertainRecord};
 use kinds::Kind;
 use numbers::Decimal;
 
@@ -101,7 +102,7 @@ pub fn write_end(rest: &mut [u8])
     requires { ⌜ 1 ≤ length (now rest) ⌝ }
     ensures { λ r. ⌜ now (rest .exit) ≡ front endRecord (now (rest .entry)) ⌝ }
 {
-    put_u8(rest, 0, 7);
+    put_u8(rest, 0, Kind::LOOP_END);
 }
 
 // A record of P alone: kinds 3, 8 and 9, and in the outline all but kind 7.
@@ -127,7 +128,7 @@ pub fn write_loop(rest: &mut [u8], t: Token, tags: u32)
     requires { ⌜ 21 ≤ length (now rest) ⌝ }
     ensures { λ r. ⌜ now (rest .exit) ≡ front (loopRecord t tags) (now (rest .entry)) ⌝ }
 {
-    write_content(rest, 5, t, tags);
+    write_content(rest, Kind::LOOP, t, tags);
 }
 
 // A number: P and decimal parts.
@@ -135,7 +136,7 @@ pub fn write_number(rest: &mut [u8], t: Token, d: Decimal)
     requires { ⌜ (35 ≤ length (now rest)) × (d .places < 256) ⌝ }
     ensures { λ r. ⌜ now (rest .exit) ≡ front (numberRecord t d) (now (rest .entry)) ⌝ }
 {
-    write_place(rest, 14, t);
+    write_place(rest, Kind::NUMBER, t);
     put_decimal(rest, BEHIND_PLACE, d);
 }
 
@@ -144,7 +145,7 @@ pub fn write_uncertain(rest: &mut [u8], t: Token, d: Decimal)
     requires { ⌜ (39 ≤ length (now rest)) × (d .places < 256) ⌝ }
     ensures { λ r. ⌜ now (rest .exit) ≡ front (uncertainRecord t d) (now (rest .entry)) ⌝ }
 {
-    write_place(rest, 15, t);
+    write_place(rest, Kind::UNCERTAIN, t);
     put_decimal(rest, BEHIND_PLACE, d);
     put_u32(rest, BEHIND_PARTS, d.uncertainty);
 }

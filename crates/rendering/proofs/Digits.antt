@@ -10,7 +10,7 @@ use lib.ListN.{length, drop, set, length-append, drop-of-length-le}
 use lib.Seq.{drop-at, drop-append-le, drop-length}
 use Rattle.text.specs.Bytes.{is}
 use Rattle.text.proofs.Bools.{and-l, and-r}
-use Rattle.numbers.specs.Parts.{value, valueFrom}
+use Rattle.cuts.specs.Digits.{value, valueFrom}
 use Rattle.numbers.specs.Spelling.{padded, trim, plain}
 use Rattle.numbers.proofs.Spelled.{value-padded, length-padded, length-trim}
 use Rattle.records.specs.Put.{put}

@@ -9,12 +9,11 @@ use Rattle.text.specs.Bytes.{isAscii, isDigit}
 use Rattle.text.proofs.Bools.{and-l, and-r}
 
 -- all numbers below n pass
-unfoldable pub allBelow : (ℕ → Bool) → ℕ → Bool
+abbrev pub allBelow : (ℕ → Bool) → ℕ → Bool
 allBelow f zero = true
 allBelow f (suc n) = f n && allBelow f n
 
 pub below : (f : ℕ → Bool) (n : ℕ) → allBelow f n ≡ true → (k : ℕ) → k < n → f k ≡ true
-unfolding allBelow
 below f zero e k h = absurd (omega arith)
 below f (suc n) e k h = by (eqb k n) refl (below f n (and-r (f n) (allBelow f n) e) k)
   where

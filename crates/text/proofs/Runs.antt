@@ -5,6 +5,7 @@ use mathlib.Core.Bool.{Bool, true, false, cond, not, _&&_, _||_}
 use mathlib.Core.List.{List, [], _∷_}
 use native.Mathlib.Numerals.{add-one}
 use native.Mathlib.Nat.{add-suc, add-zero, suc-add, zero-add}
+use native.Mathlib.Decide.{decLt}
 use native.Mathlib.Omega.{arith}
 use borrow.Author.Tests.{lt-leb, le-leb, leb-true, leb-false}
 use lib.Dec.{leb, leb·zero, leb·suc-zero, leb·suc-suc}
@@ -30,6 +31,28 @@ module _ (p : ℕ → Bool) (s : List ℕ) (o : ℕ) where
   pub span-from : o ≤ spanEnd p s o
   unfolding spanEnd
   span-from = omega arith
+
+-- a run's end is its start and its length
+pub span-end : (p : ℕ → Bool) (s : List ℕ) (o : ℕ) → spanEnd p s o ≡ o + span p (drop o s)
+unfolding spanEnd
+span-end p s o = refl
+
+-- the run by the first byte: none, one of the class, another
+pub span-none : (p : ℕ → Bool) → span p [] ≡ 0
+unfolding span
+span-none p = refl
+
+pub span-by : (p : ℕ → Bool) (b : ℕ) (s : List ℕ) → span p (b ∷ s) ≡ cond (p b) (suc (span p s)) 0
+unfolding span
+span-by p b s = refl
+
+pub span-next : (p : ℕ → Bool) (b : ℕ) (s : List ℕ) → p b ≡ true → span p (b ∷ s) ≡ suc (span p s)
+unfolding span
+span-next p b s e = rw e
+
+pub span-other : (p : ℕ → Bool) (b : ℕ) (s : List ℕ) → p b ≡ false → span p (b ∷ s) ≡ 0
+unfolding span
+span-other p b s e = rw e
 
 pub span-le : (p : ℕ → Bool) (s : List ℕ) → span p s ≤ length s
 unfolding span
@@ -78,6 +101,14 @@ span-rest p (b ∷ s) h = by (p b) refl h (span-rest p s)
 pub span-ends : (p : ℕ → Bool) (s : List ℕ) (o : ℕ) → spanEnd p s o < length s → p (getD s (spanEnd p s o) 0) ≡ false
 unfolding spanEnd
 span-ends p s o h = rw (← getD-drop o s (span p (drop o s)) 0) (span-rest p (drop o s) (omega (arith, length-drop o s)))
+
+-- so behind a run there is no more of it
+pub span-twice : (p : ℕ → Bool) (s : List ℕ) (o : ℕ) → spanEnd p s (spanEnd p s o) ≡ spanEnd p s o
+span-twice p s o = by (decLt (spanEnd p s o) (length s))
+  where
+    by : Dec (spanEnd p s o < length s) → spanEnd p s (spanEnd p s o) ≡ spanEnd p s o
+    by (yes l) = span-stop p s (spanEnd p s o) l (span-ends p s o l)
+    by (no l) = span-over p s (spanEnd p s o) (omega arith)
 
 -- blocks: one byte more, and over n bytes of the class at once
 

@@ -17,7 +17,7 @@ unfoldable pub σ : ℕ → ℕ
 σ b = cond (isDigit b) 48 b
 
 -- a test that does not tell digits apart
-unfoldable pub flat : (ℕ → Bool) → Bool
+abbrev pub flat : (ℕ → Bool) → Bool
 flat f = allBelow (λ k. Bool·beq (f (48 + k)) (f 48)) 10
 
 beq-eq : (a b : Bool) → Bool·beq a b ≡ true → a ≡ b
@@ -28,7 +28,7 @@ beq-eq false false e = refl
 
 -- it takes a byte and its shape for one
 pub blind : (f : ℕ → Bool) → flat f ≡ true → (b : ℕ) → f (σ b) ≡ f b
-unfolding σ flat isDigit
+unfolding σ isDigit
 blind f e b = go (isDigit b) refl
   where
     go : (t : Bool) → isDigit b ≡ t → f (cond (isDigit b) 48 b) ≡ f b
@@ -42,19 +42,19 @@ blind f e b = go (isDigit b) refl
 
 -- the classes
 pub digit-σ : (b : ℕ) → isDigit (σ b) ≡ isDigit b
-unfolding flat allBelow isDigit
+unfolding isDigit
 digit-σ = blind isDigit refl
 
 pub eol-σ : (b : ℕ) → isEol (σ b) ≡ isEol b
-unfolding flat allBelow isEol
+unfolding isEol
 eol-σ = blind isEol refl
 
 pub ends-σ : (b : ℕ) → endsWord (σ b) ≡ endsWord b
-unfolding flat allBelow endsWord
+unfolding endsWord
 ends-σ = blind endsWord refl
 
 pub space-σ : (b : ℕ) → isSpace (σ b) ≡ isSpace b
-unfolding flat allBelow isSpace
+unfolding isSpace
 space-σ = blind isSpace refl
 
 -- one byte that is no digit

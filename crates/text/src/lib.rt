@@ -5,58 +5,72 @@ ghost use Rattle.text.specs.Bytes.{is, isAscii, isDigit, isEol, isSpace,
 ghost use Rattle.text.specs.Runs.{span, runs};
 ghost use Rattle.text.specs.Blocks.{clear};
 
+// Ends a word, and is no space.
+pub const FORM_FEED: u8 = b'\x0c';
+
+// Every byte of a line end is below it.
+pub const ABOVE_LINE_ENDS: u8 = b'\r' + 1;
+
+// Every byte that ends a word is below it.
+pub const ABOVE_SPACE: u8 = b' ' + 1;
+
+// 0 to 9.
 pub fn is_digit(b: u8) -> bool
     ensures { λ r. ⌜ r ≡ isDigit b ⌝ }
 {
-    if b < 48 {
+    if b < b'0' {
         return false;
     }
-    b <= 57
+    b <= b'9'
 }
 
+// A byte of a line end.
 pub fn is_eol(b: u8) -> bool
     ensures { λ r. ⌜ r ≡ isEol b ⌝ }
 {
-    if b == 10 {
+    if b == b'\n' {
         return true;
     }
-    b == 13
+    b == b'\r'
 }
 
+// Space between tokens.
 pub fn is_space(b: u8) -> bool
     ensures { λ r. ⌜ r ≡ isSpace b ⌝ }
 {
-    if b == 32 {
+    if b == b' ' {
         return true;
     }
-    if b == 9 {
+    if b == b'\t' {
         return true;
     }
-    if b == 10 {
+    if b == b'\n' {
         return true;
     }
-    b == 13
+    b == b'\r'
 }
 
+// What a word runs to.
 pub fn ends_word(b: u8) -> bool
     ensures { λ r. ⌜ r ≡ endsWord b ⌝ }
 {
-    if b == 32 {
+    if b == b' ' {
         return true;
     }
-    if b == 9 {
+    if b == b'\t' {
         return true;
     }
-    if b == 10 {
+    if b == b'\n' {
         return true;
     }
-    if b == 13 {
+    if b == b'\r' {
         return true;
     }
-    b == 12
+    b == FORM_FEED
 }
 
-// Whether so many bytes stand at an offset, none of them the mark and none below `least`. Every byte is looked at, so that they are compared many at once.
+// Whether so many bytes stand at an offset, none of them the mark and none below `least`. Every byte is looked at, so
+// that they are compared many at once.
 pub fn is_clear(s: &[u8], at: usize, width: usize, least: u8, mark: u8) -> bool
     requires { ⌜ 0 < width ⌝ }
     ensures { λ r. ⌜ r ≡ runs (clear least mark) width (now (s .entry)) at ⌝ }

@@ -3,16 +3,15 @@ use Prim.Native.Nat.{ℕ}
 use mathlib.Core.Path.{_≡_, refl}
 use mathlib.Core.List.{List, map}
 use Rattle.text.specs.Bytes.{endsWord}
-use Rattle.text.proofs.Ranges.{allBelow}
-use Rattle.text.proofs.Shape.{σ, flat, blind, span-σ}
+use Rattle.text.proofs.Shape.{σ, blind, span-σ}
 use Rattle.words.specs.Words.{isOrdinary, inWord, word}
 
 pub inWord-σ : (b : ℕ) → inWord (σ b) ≡ inWord b
-unfolding flat allBelow inWord endsWord
+unfolding inWord endsWord
 inWord-σ = blind inWord refl
 
 pub ordinary-σ : (b : ℕ) → isOrdinary (σ b) ≡ isOrdinary b
-unfolding flat allBelow isOrdinary
+unfolding isOrdinary
 ordinary-σ = blind isOrdinary refl
 
 pub word-σ : (s : List ℕ) → word (map σ s) ≡ word s

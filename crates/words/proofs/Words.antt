@@ -1,25 +1,25 @@
 -- Laws of words and ordinary bytes. Assumes nothing.
-use Prim.Native.Nat.{ℕ, _+_, _-_, _≤_, _<_}
+use Prim.Native.Nat.{ℕ, suc, _+_, _-_, _≤_, _<_}
 use mathlib.Core.Path.{_≡_, refl, sym, ap, _∙_}
-use mathlib.Core.Bool.{Bool, true, false, _&&_, true≢false}
-use mathlib.Core.List.{List, _∷_}
+use mathlib.Core.Bool.{Bool, true, false, cond, _&&_, true≢false}
+use mathlib.Core.List.{List, [], _∷_}
 use native.Mathlib.Omega.{arith}
 use borrow.Author.Tests.{eqb-true, leb-true, ne-eqb}
 use lib.Dec.{leb, eqb}
 use lib.ListN.{length, drop, getD}
 use Rattle.text.specs.Bytes.{isEol, endsWord}
-use Rattle.text.specs.Runs.{span, spanEnd, runs}
+use Rattle.text.specs.Runs.{spanEnd, runs}
 use Rattle.text.proofs.Bools.{and-l, and-r, or-cases}
-use Rattle.text.proofs.Ranges.{allBelow, passes}
-use Rattle.text.proofs.Runs.{span-from, span-within, span-all, span-over, span-go}
+use Rattle.text.proofs.Ranges.{passes}
+use Rattle.text.proofs.Runs.{span-end, span-none, span-by, span-next, span-other, span-from, span-within, span-all, span-over, span-go}
 use Rattle.text.specs.Blocks.{clear}
 use Rattle.words.specs.Words.{inWord, word, wordEnd, isOrdinary}
 use Rattle.text.proofs.Blocks.{clear-least, block-keeps}
 
 -- a word is the run of its bytes
 pub word-run : (s : List ℕ) (o : ℕ) → wordEnd s o ≡ spanEnd inWord s o
-unfolding wordEnd word spanEnd
-word-run s o = refl
+unfolding wordEnd word
+word-run s o = sym (span-end inWord s o)
 
 -- a byte of at least 33 ends no word, so that a block of such bytes may be skipped
 high-in-word : (b : ℕ) → 33 ≤ b → inWord b ≡ true
@@ -65,13 +65,29 @@ in-word-plain b e = by (isEol b) refl
 pub word-plain : (s : List ℕ) (o k : ℕ) → o ≤ k → k < wordEnd s o → isEol (getD s k 0) ≡ false
 word-plain s o k h l = in-word-plain (getD s k 0) (span-all inWord s o k h (rw (word-run s o) at l))
 
+-- the word by the first byte: none, one of a word, one that ends it
+pub word-none : word [] ≡ 0
+unfolding word
+word-none = span-none inWord
+
+pub word-by : (b : ℕ) (s : List ℕ) → word (b ∷ s) ≡ cond (inWord b) (suc (word s)) 0
+unfolding word
+word-by b s = span-by inWord b s
+
+pub word-next : (b : ℕ) (s : List ℕ) → inWord b ≡ true → word (b ∷ s) ≡ suc (word s)
+unfolding word
+word-next b s e = span-next inWord b s e
+
+pub word-other : (b : ℕ) (s : List ℕ) → inWord b ≡ false → word (b ∷ s) ≡ 0
+unfolding word
+word-other b s e = span-other inWord b s e
+
 -- a word has a byte where one of its bytes stands, and an ordinary byte is one
 pub word-pos : (b : ℕ) (s : List ℕ) → inWord b ≡ true → 0 < word (b ∷ s)
-unfolding word span
-word-pos b s e = rw e (omega arith)
+word-pos b s e = omega (arith, word-next b s e)
 
 pub ordinary-in-word : (b : ℕ) → isOrdinary b ≡ true → inWord b ≡ true
-unfolding isOrdinary inWord endsWord allBelow
+unfolding isOrdinary inWord endsWord
 ordinary-in-word b e =
     let r = and-l (leb 33 b && leb b 126) _ e in
     let low : 33 ≤ b = leb-true 33 b (and-l (leb 33 b) (leb b 126) r) in

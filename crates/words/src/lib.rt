@@ -3,6 +3,7 @@ ghost use mathlib.Core.Path.{_≡_};
 ghost use Prim.Native.Nat.{_<_};
 ghost use Rattle.words.specs.Words.{inWord, wordEnd, isOrdinary};
 
+// Whether a byte goes on a word.
 fn in_word(b: u8) -> bool
     ensures { λ r. ⌜ r ≡ inWord b ⌝ }
 {
@@ -28,7 +29,7 @@ pub fn long_word_end(s: &[u8], from: usize) -> usize
     ensures { λ r. ⌜ r ≡ wordEnd (now (s .entry)) from ⌝ }
 {
     let mut at = from;
-    while text::is_clear(s, at, 8, 33, 0) {
+    while text::is_clear(s, at, 8, text::ABOVE_SPACE, 0) {
         at += 8;
     }
     while at < s.len() {
@@ -40,36 +41,36 @@ pub fn long_word_end(s: &[u8], from: usize) -> usize
     at
 }
 
-// Whether a bare value may start with this byte.
+// Whether a bare value may start with this byte: a printable one, `!` to `~`, but for those that start something else.
 pub fn is_ordinary(b: u8) -> bool
     ensures { λ r. ⌜ r ≡ isOrdinary b ⌝ }
 {
-    if b < 33 {
+    if b < b'!' {
         return false;
     }
-    if 126 < b {
+    if b'~' < b {
         return false;
     }
-    if b == 35 {
+    if b == b'#' {
         return false;
     }
-    if b == 36 {
+    if b == b'$' {
         return false;
     }
-    if b == 39 {
+    if b == b'\'' {
         return false;
     }
-    if b == 34 {
+    if b == b'"' {
         return false;
     }
-    if b == 95 {
+    if b == b'_' {
         return false;
     }
-    if b == 91 {
+    if b == b'[' {
         return false;
     }
-    if b == 93 {
+    if b == b']' {
         return false;
     }
-    b != 59
+    b != b';'
 }

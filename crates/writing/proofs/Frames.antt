@@ -14,7 +14,7 @@ use Rattle.gaps.proofs.Gaps.{gap-from, gap-none}
 use Rattle.places.proofs.Places.{place-offset, place-own}
 use Rattle.gaps.proofs.Gaps.{gap-whole}
 use Rattle.places.specs.declared.Place.{Place}
-use Rattle.text.proofs.Ranges.{allBelow, fails}
+use Rattle.text.proofs.Ranges.{fails}
 use Rattle.words.specs.Words.{word, wordEnd}
 use Rattle.keywords.specs.Keywords.{startsAt, keyLoop, keySave}
 use Rattle.keywords.proofs.Keywords.{save-word}
@@ -70,7 +70,7 @@ shut-store full s a xs ys h = rw (h .same) (shut-append full s a (h .init) (h .l
 
 -- an item's records are such
 value-last : (k : ℕ) → 8 ≤ k → k ≤ 15 → (eqb k 6 ≡ false) × (isCount (shapeOf (kindOf k)) ≡ false)
-unfolding isCount kindOf shapeOf allBelow
+unfolding isCount kindOf shapeOf
 value-last k l h = (ne-eqb k 6 (λ e. omega arith), fails (λ j. isCount (shapeOf (kindOf j))) 8 8 refl k l (omega arith))
 
 item-shut : (s : List ℕ) (o : ℕ) → o ≤ length s → gap (drop o s) ≡ 0 → isTaken (itemOf s o) ≡ true → Shut (itemRecs (itemOf s o))

@@ -8,7 +8,7 @@ use lib.ListN.{length, drop}
 use Rattle.gaps.specs.Gaps.{gap, gapEnd}
 use Rattle.gaps.proofs.Gaps.{gap-from, gap-none}
 use Rattle.places.proofs.Places.{place-offset}
-use Rattle.text.proofs.Ranges.{allBelow, fails}
+use Rattle.text.proofs.Ranges.{fails}
 use Rattle.words.specs.Words.{wordEnd}
 use Rattle.kinds.specs.Kinds.{kindOf, shapeOf}
 use Rattle.items.specs.declared.Found.the-variants.{Value}
@@ -40,7 +40,7 @@ behindValues s o = afterValues (tokensAt inBlock s o)
 
 -- values count nothing
 value-free : (k : ℕ) → 8 ≤ k → k ≤ 15 → isCount (shapeOf (kindOf k)) ≡ false
-unfolding isCount kindOf shapeOf allBelow
+unfolding isCount kindOf shapeOf
 value-free k l h = fails (λ j. isCount (shapeOf (kindOf j))) 8 8 refl k l (omega arith)
 
 module _ (full : Bool) (s : List ℕ) (d₀ : Desk) where

@@ -1,7 +1,7 @@
 -- `items::pack_decimal`: a plain number is what it is found to be. Assumes nothing.
 use Prim.Native.Nat.{_<_}
 use native.Mathlib.Omega.{arith}
-use Rattle.numbers.specs.Plain.{decimalEnd}
+use Rattle.decimals.specs.Plain.{decimalEnd}
 use Rattle.items.proofs.First.{decimal-within, decimal-found}
 use borrow.Author.Needs.{needs}
 use Rattle.items.proofs.pack_decimal.Statement.{statement}

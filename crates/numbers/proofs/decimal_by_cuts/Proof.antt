@@ -1,7 +1,7 @@
 -- `numbers::decimal_by_cuts`: the word's parts are the pieces between its cuts. Assumes nothing.
 use mathlib.Core.Path.{sym, _∙_, ap}
 use Rattle.numbers.specs.Parts.{within}
-use Rattle.numbers.proofs.Bounds.{cuts-sound}
+use Rattle.cuts.proofs.Bounds.{cuts-sound}
 use Rattle.numbers.proofs.Bridge.{parts-cuts}
 use borrow.Author.Needs.{needs}
 use Rattle.numbers.proofs.decimal_by_cuts.Statement.{statement}

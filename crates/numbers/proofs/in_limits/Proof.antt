@@ -1,7 +1,7 @@
 -- `numbers::in_limits`: the digits of a part are as many as lie between its cuts. Assumes nothing.
 use borrow.Author.Needs.{needs}
 use borrow.Author.Tests.{le-leb, lt-leb}
-use Rattle.numbers.proofs.Bounds.{within-cuts}
+use Rattle.numbers.proofs.Limits.{within-cuts}
 use Rattle.numbers.proofs.in_limits.Statement.{statement}
 use Rattle.numbers.proofs.in_limits.Tie as tie
 

@@ -1,5 +1,6 @@
 -- `numbers::is_minus`: a sign's first byte says whether it is a minus. Assumes nothing.
-use Rattle.numbers.proofs.DigitRuns.{piece-minus, piece-over}
+use Rattle.cuts.proofs.DigitRuns.{piece-over}
+use Rattle.numbers.proofs.Pieces.{piece-minus}
 use Rattle.numbers.specs.Parts.{minus}
 use borrow.Author.Needs.{needs}
 use Rattle.numbers.proofs.is_minus.Statement.{statement}

@@ -1,7 +1,7 @@
 -- `numbers::is_number`: what lies between two cuts is empty where they are equal. Assumes nothing.
 use mathlib.Core.Bool.{Bool·not-not}
 use borrow.Author.Tests.{lt-ltb, le-ltb}
-use Rattle.numbers.proofs.Bounds.{number-cuts}
+use Rattle.numbers.proofs.Limits.{number-cuts}
 use Rattle.numbers.proofs.is_number.Statement.{statement}
 use Rattle.numbers.proofs.is_number.Tie as tie
 

@@ -2,8 +2,8 @@
 use mathlib.Core.Path.{sym, _∙_, ap}
 use borrow.Author.Tests.{not-true, not-false}
 use Rattle.numbers.specs.Meaning.{judged, numberOf}
-use Rattle.numbers.specs.Cuts.{startsNumber}
-use Rattle.numbers.proofs.Bounds.{cuts-sound}
+use Rattle.numbers.specs.Pieces.{startsNumber}
+use Rattle.cuts.proofs.Bounds.{cuts-sound}
 use Rattle.numbers.proofs.Bridge.{parts-cuts}
 use Rattle.numbers.proofs.Facts.{not-number, no-number-by-first-byte}
 use borrow.Author.Needs.{needs}

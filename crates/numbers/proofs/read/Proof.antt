@@ -1,8 +1,8 @@
 -- `numbers::read`: each value is that of a run of digits within its limit. Assumes nothing.
 use Rattle.numbers.specs.Meaning.{meaning}
-use Rattle.numbers.specs.Cuts.{partOf, partsOf}
-use Rattle.numbers.proofs.DigitRuns.{piece-length}
-use Rattle.numbers.proofs.Bounds.{limits}
+use Rattle.numbers.specs.Pieces.{partOf, partsOf}
+use Rattle.cuts.proofs.DigitRuns.{piece-length}
+use Rattle.numbers.proofs.Limits.{limits}
 use borrow.Author.Needs.{needs}
 use Rattle.numbers.proofs.read.Statement.{statement}
 use Rattle.numbers.proofs.read.Tie as tie

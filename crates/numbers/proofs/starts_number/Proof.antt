@@ -1,7 +1,7 @@
 -- `numbers::starts_number`: each `return` goes by the tests that led there. Assumes nothing.
 use borrow.Author.Tests.{eq-eqb, ne-eqb}
 use Rattle.text.specs.Bytes.{is}
-use Rattle.numbers.specs.Cuts.{startsNumber}
+use Rattle.numbers.specs.Pieces.{startsNumber}
 use borrow.Author.Needs.{needs}
 use Rattle.numbers.proofs.starts_number.Statement.{statement}
 use Rattle.numbers.proofs.starts_number.Tie as tie

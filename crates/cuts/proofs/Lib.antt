@@ -1,0 +1,2 @@
+pub mod DigitRuns
+pub mod Bounds
