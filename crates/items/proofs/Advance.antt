@@ -9,15 +9,18 @@ use borrow.Author.Tests.{eqb-true}
 use lib.Dec.{eqb}
 use lib.ListN.{length}
 use Rattle.text.specs.Bytes.{is, isSpace}
-use Rattle.gaps.specs.Gaps.{gap, gapIn, gapByte, gapThen}
 use Rattle.text.proofs.Bools.{or-cases}
-use Rattle.words.specs.Words.{isOrdinary}
-use Rattle.keywords.specs.Keywords.{lower, starts, keyData, keyGlobal, keyLoop, keySave, keyStop}
-use Rattle.quotes.specs.Quotes.{field}
-use Rattle.values.specs.Values.{nothing, noStart, Lexed, lexed, closed, lexValue}
+use Rattle.gaps.specs.Gaps.{gap}
+use Rattle.gaps.proofs.Starts.{gap-space-first, gap-no-first}
+use Rattle.keywords.specs.Keywords.{lower}
+use Rattle.keywords.proofs.Starts.{no-keyword}
+use Rattle.values.specs.Values.{nothing, noStart, Lexed, lexed, lexValue}
+use Rattle.values.proofs.Tokens.{value-no-start}
+use Rattle.values.proofs.Ended.{Shut, value-shut}
 use Rattle.items.specs.Tokens.{Mode, lexIn, lex, after, Tok, tok, emit, step, tokensFrom}
 use Rattle.items.proofs.Steps.{gap-skip}
-use Rattle.items.proofs.Ended.{Shut, lexIn-ended}
+use Rattle.items.proofs.Ended.{lexIn-ended}
+use Rattle.items.proofs.Lexes.{lex-no-key}
 
 -- bytes that belong to what was read before are passed over
 cover : (w t : List ℕ) (m : Mode) (o : ℕ) → tokensFrom (w ++ t) (length w) m o ≡ tokensFrom t 0 m (o + length w)
@@ -28,17 +31,28 @@ cover (b ∷ w) t m o =
     rw e (cover w t m (suc o))
 
 lf-skip : (t : List ℕ) (m : Mode) (o : ℕ) → tokensFrom (10 ∷ t) 0 m o ≡ tokensFrom t 0 m (suc o)
-unfolding tokensFrom step gap gapIn gapByte gapThen isSpace is
-lf-skip t m o = gap-skip t m (suc o)
+unfolding tokensFrom step isSpace
+lf-skip t m o = rw (gap-space-first 10 t refl) (gap-skip t m (suc o))
 
 -- where space or a comment starts, no token does
-gap-no-token : (m : Mode) (b : ℕ) (s : List ℕ) → gapByte false b ≡ true → lexIn m (b ∷ s) ≡ lexed (nothing noStart) 0
-unfolding gapByte isSpace is lexIn starts keyData keyGlobal keyStop keyLoop keySave lower lexValue isOrdinary
-gap-no-token m b s =
-    or-cases _ _ (or-cases _ _ (or-cases _ _ (or-cases _ _ (at 32 refl) (at 9 refl)) (at 10 refl)) (at 13 refl)) (at 35 refl)
+gap-no-token : (m : Mode) (b : ℕ) (s : List ℕ) → (isSpace b || is 35 b) ≡ true → lexIn m (b ∷ s) ≡ lexed (nothing noStart) 0
+unfolding isSpace is lower
+gap-no-token m b s h = by h ∙ value-no-start b s h
   where
-    at : (c : ℕ) → lexIn m (c ∷ s) ≡ lexed (nothing noStart) 0 → eqb b c ≡ true → lexIn m (b ∷ s) ≡ lexed (nothing noStart) 0
+    at : (c : ℕ) → lexIn m (c ∷ s) ≡ lexValue c s → eqb b c ≡ true → lexIn m (b ∷ s) ≡ lexValue b s
     at c h e = rw (eqb-true b c e) h
+
+    bare : (c : ℕ) → is 100 (lower c) ≡ false → is 103 (lower c) ≡ false → is 108 (lower c) ≡ false → is 115 (lower c) ≡ false → is 95 c ≡ false → lexIn m (c ∷ s) ≡ lexValue c s
+    bare c d g l p u = lex-no-key m c s (no-keyword c s d g l p) u
+
+    by : (isSpace b || is 35 b) ≡ true → lexIn m (b ∷ s) ≡ lexValue b s
+    by =
+        or-cases _ _
+        (or-cases _ _
+        (or-cases _ _
+        (or-cases _ _ (at 32 (bare 32 refl refl refl refl refl)) (at 9 (bare 9 refl refl refl refl refl)))
+        (at 10 (bare 10 refl refl refl refl refl))) (at 13 (bare 13 refl refl refl refl refl)))
+        (at 35 (bare 35 refl refl refl refl refl))
 
 -- the token w, alone, is read whole as x
 pub record Whole (m : Mode) (w : List ℕ) (x : Lexed) : Type 0 where
@@ -46,23 +60,22 @@ pub record Whole (m : Mode) (w : List ℕ) (x : Lexed) : Type 0 where
   pub fills : x .size ≡ length w
   pub some-bytes : 0 < length w
 
-gap-go : (m : Mode) (b : ℕ) (s : List ℕ) (n : ℕ) (c : Bool) → gapByte false b ≡ c → (lexIn m (b ∷ s)) .size ≡ suc n → c ≡ false
+gap-go : (m : Mode) (b : ℕ) (s : List ℕ) (n : ℕ) (c : Bool) → (isSpace b || is 35 b) ≡ c → (lexIn m (b ∷ s)) .size ≡ suc n → c ≡ false
 unfolding lexed
 gap-go m b s n true e h = let z : _≡_ {A = ℕ} 0 (suc n) = sym (ap (λ x. x .size) (gap-no-token m b s e)) ∙ h in absurd (omega arith)
 gap-go m b s n false e h = refl
 
 gap-none : (m : Mode) (b : ℕ) (s t : List ℕ) (n : ℕ) → (lexIn m (b ∷ s)) .size ≡ suc n → gap (b ∷ t) ≡ 0
-unfolding gap gapIn
-gap-none m b s t n h = rw (gap-go m b s n (gapByte false b) refl h)
+gap-none m b s t n h = gap-no-first b t (gap-go m b s n (isSpace b || is 35 b) refl h)
+
+-- where `;` stands a value is read
+semicolon-value : (m : Mode) (b : ℕ) (s : List ℕ) → is 59 b ≡ true → lexIn m (b ∷ s) ≡ lexValue b s
+unfolding is lower
+semicolon-value m b s e = rw (eqb-true b 59 e) (lex-no-key m 59 s (no-keyword 59 s refl refl refl refl) refl)
 
 -- a token that is whole has its field closed
 shut : (m : Mode) (b : ℕ) (s : List ℕ) (n : ℕ) → (lexIn m (b ∷ s)) .size ≡ suc n → Shut b s
-unfolding Shut is lexIn starts keyData keyGlobal keyStop keyLoop keySave lower lexValue closed lexed
-shut m b s n h e = go (field s) refl (rw (eqb-true b 59 e) at h)
-  where
-    go : (r : Option ℕ) → field s ≡ r → (lexIn m (59 ∷ s)) .size ≡ suc n → (n : ℕ) × (field s ≡ some n)
-    go none q k = let z : _≡_ {A = ℕ} 0 (suc n) = rw q at k in absurd (omega arith)
-    go (some n) q k = (n, q)
+shut m b s n h = value-shut b s n (λ e. ap (λ x. x .size) (sym (semicolon-value m b s e)) ∙ h)
 
 behind : {a : Tok} {r r′ : List Tok} → r ≡ r′ → a ∷ r ≡ a ∷ r′
 behind {a} e = ap {B = List Tok} (λ r. a ∷ r) e

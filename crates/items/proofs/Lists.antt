@@ -13,6 +13,7 @@ use Rattle.text.specs.Bytes.{is}
 use Rattle.gaps.specs.Gaps.{gap, gapEnd}
 use Rattle.gaps.proofs.Gaps.{gap-from, gap-within, gap-none}
 use Rattle.words.specs.Words.{word, wordEnd}
+use Rattle.words.proofs.Words.{word-end}
 use Rattle.values.specs.Values.{Class, block, loop, save, tag, value, overLimit, nothing, lexed}
 use Rattle.values.specs.declared.Why.{Why}
 use Rattle.items.specs.declared.Sizes.{Sizes}
@@ -79,14 +80,14 @@ unfolding namesAt lexed after tok
 names-turn s o w n z m = rw (tokens-gap inBlock s (o + w), m .next) (names-cons n z (tok (lexed tag w) o) (tokensAt inBlock s (o + w)) refl)
 
 pub name-step : (s : List ℕ) (o : ℕ) → gap (drop o s) ≡ 0 → tagAt s o ≡ true → NameStep s o
-unfolding wordEnd lexed
+unfolding lexed
 name-step s o g e =
     let m = met-tag s o g e in
     let d : o + word (drop o s) - o ≡ word (drop o s) = omega arith in
     record {
-      onward = omega (arith, m .some-bytes);
-      within = m .within;
-      turn = λ n z. rw d (names-turn s o (word (drop o s)) n z m);
+      onward = rw (word-end s o) (omega (arith, m .some-bytes));
+      within = rw (word-end s o) (m .within);
+      turn = λ n z. rw (word-end s o, d) (names-turn s o (word (drop o s)) n z m);
     }
 
 -- where no tag stands the names end

@@ -2,7 +2,7 @@
 -- In the block and in a frame the tokens are the same up to a `save_` (Both). Assumes nothing.
 use Prim.Native.Nat.{ℕ, zero, suc, _+_, _-_, _≤_, _<_}
 use mathlib.Core.Path.{_≡_, refl, sym, _∙_}
-use mathlib.Core.Bool.{Bool, true, false, false≢true}
+use mathlib.Core.Bool.{Bool, true, false, true≢false, false≢true}
 use mathlib.Core.List.{List, [], _∷_}
 use mathlib.Core.Logic.{_⊎_, inl, inr}
 use native.Mathlib.Omega.{arith}
@@ -10,21 +10,23 @@ use lib.ListN.{length, drop, length-drop}
 use lib.Seq.{drop-drop}
 use Rattle.gaps.specs.Gaps.{gap, gapEnd}
 use Rattle.gaps.proofs.Gaps.{gap-from, gap-within, gap-none}
+use Rattle.gaps.proofs.Starts.{gap-end}
 use Rattle.words.specs.Words.{word}
 use Rattle.keywords.specs.Keywords.{starts, startsAt, keyLoop, keySave, keyData}
+use Rattle.keywords.proofs.Starts.{starts-at, no-keyword-end, data-in-word, save-in-word}
 use Rattle.values.specs.Values.{Reason, block, loop, save, tag, nothing, atEnd, noStart, Lexed, lexed}
 use Rattle.items.specs.Tokens.{Mode, before, inBlock, inFrame, saveSize, lexIn, lex, after, Tok, tok, emit, step, tokensFrom}
 use Rattle.items.specs.Decisions.{tokensAt, headAt}
 use Rattle.items.specs.Answers.{tagFirst, tagAt}
 use Rattle.items.proofs.Steps.{skip-step, token-step, last-step, first-step}
-use Rattle.items.proofs.Fits.{lex-fits}
-use Rattle.items.proofs.Lexes.{pick, lex-loop, lex-save, lex-tag, lex-sized, lex-same, lex-stays, save-word, data-word, tag-word}
+use Rattle.items.proofs.Fits.{lex-fits, lex-sized, tag-word}
+use Rattle.items.proofs.Lexes.{pick, lex-loop, lex-save, lex-tag, lex-same, lex-stays}
 use Rattle.items.proofs.Descent.{Ends, last, more}
 
 -- the tokens behind space and comments are those before them
 pub tokens-gap : (m : Mode) (s : List ℕ) (o : ℕ) → tokensAt m s (gapEnd s o) ≡ tokensAt m s o
-unfolding tokensAt gapEnd
-tokens-gap m s o = sym (skip-step (drop o s) m o ∙ rw (drop-drop (gap (drop o s)) o s))
+unfolding tokensAt
+tokens-gap m s o = sym (skip-step (drop o s) m o ∙ rw (gap-end s o, drop-drop (gap (drop o s)) o s))
 
 -- a token that is met at o: its bytes lie in the text, and the tokens go on behind it
 pub record Met (m : Mode) (s : List ℕ) (o : ℕ) (x : Lexed) : Type 0 where
@@ -49,8 +51,7 @@ met m s o x g l p = by (x .size) refl p fits
 
 -- the code's tests at the start of a text
 at-loop : (m : Mode) (u : List ℕ) → starts keyLoop u ≡ true → lexIn m u ≡ lexed loop 5
-unfolding starts keyLoop
-at-loop m [] e = absurd (false≢true e)
+at-loop m [] e = absurd (true≢false (sym e ∙ no-keyword-end .no-loop))
 at-loop m (b ∷ s) e = lex-loop m b s e
 
 at-tag : (m : Mode) (u : List ℕ) → tagFirst u ≡ true → (lexIn m u ≡ lexed tag (word u)) × (0 < word u)
@@ -58,21 +59,18 @@ unfolding tagFirst
 at-tag m [] e = absurd (false≢true e)
 at-tag m (b ∷ s) e = (lex-tag m b s e, tag-word b s e)
 
-at-save : (m : Mode) (u : List ℕ) → starts keySave u ≡ true → (lexIn m u ≡ lexed save (saveSize m u)) × (0 < word u)
-unfolding starts keySave
-at-save m [] e = absurd (false≢true e)
-at-save m (b ∷ s) e = (lex-save m b s e, save-word b s e)
-
-at-data : (u : List ℕ) → starts keyData u ≡ true → 0 < word u
-unfolding starts keyData
-at-data [] e = absurd (false≢true e)
-at-data (b ∷ s) e = data-word b s e
+at-save : (m : Mode) (u : List ℕ) → starts keySave u ≡ true → lexIn m u ≡ lexed save (saveSize m u)
+at-save m [] e = absurd (true≢false (sym e ∙ no-keyword-end .no-save))
+at-save m (b ∷ s) e = lex-save m b s e
 
 -- what the tests say of the token at an offset
 module _ (s : List ℕ) (o : ℕ) (g : gap (drop o s) ≡ 0) where
+  here-starts : (k : List ℕ) → startsAt k s o ≡ true → starts k (drop o s) ≡ true
+  here-starts k e = sym (starts-at k s o) ∙ e
+
   pub met-loop : startsAt keyLoop s o ≡ true → Met inBlock s o (lexed loop 5)
-  unfolding startsAt lex lexed
-  met-loop e = met inBlock s o (lexed loop 5) g (at-loop inBlock (drop o s) e) (omega arith)
+  unfolding lex lexed
+  met-loop e = met inBlock s o (lexed loop 5) g (at-loop inBlock (drop o s) (here-starts keyLoop e)) (omega arith)
 
   pub met-tag : tagAt s o ≡ true → Met inBlock s o (lexed tag (word (drop o s)))
   unfolding tagAt lex lexed
@@ -80,16 +78,20 @@ module _ (s : List ℕ) (o : ℕ) (g : gap (drop o s) ≡ 0) where
 
   -- `save_` opens a frame with its word, and closes one without
   pub met-open : startsAt keySave s o ≡ true → Met inBlock s o (lexed save (word (drop o s)))
-  unfolding startsAt lex lexed saveSize
-  met-open e = met inBlock s o (lexed save (word (drop o s))) g (at-save inBlock (drop o s) e .0) (at-save inBlock (drop o s) e .1)
+  unfolding lex lexed saveSize
+  met-open e =
+      let h = here-starts keySave e in
+      met inBlock s o (lexed save (word (drop o s))) g (at-save inBlock (drop o s) h) (omega (arith, save-in-word (drop o s) h))
 
   pub met-close : startsAt keySave s o ≡ true → Met inFrame s o (lexed save 5)
-  unfolding startsAt lex lexed saveSize
-  met-close e = met inFrame s o (lexed save 5) g (at-save inFrame (drop o s) e .0) (omega arith)
+  unfolding lex lexed saveSize
+  met-close e = met inFrame s o (lexed save 5) g (at-save inFrame (drop o s) (here-starts keySave e)) (omega arith)
 
   pub met-data : startsAt keyData s o ≡ true → Met before s o (lexed block (word (drop o s)))
-  unfolding startsAt lex lexed
-  met-data e = met before s o (lexed block (word (drop o s))) g (rw e) (at-data (drop o s) e)
+  unfolding lex lexed
+  met-data e =
+      let h = here-starts keyData e in
+      met before s o (lexed block (word (drop o s))) g (rw h) (omega (arith, data-in-word (drop o s) h))
 
   -- the first token is the one that stands there
   pub first : (m : Mode) → (ts : List Tok) × (tokensAt m s o ≡ tok (lex m (drop o s)) o ∷ ts)
@@ -99,13 +101,13 @@ module _ (s : List ℕ) (o : ℕ) (g : gap (drop o s) ≡ 0) where
 -- the tokens of a text end in one that is no part of an item
 sized : (m : Mode) (b : ℕ) (s : List ℕ) → (0 < lex m (b ∷ s) .size) ⊎ ((w : Reason) × (lex m (b ∷ s) .class ≡ nothing w))
 unfolding lex lexed
-sized before b s = pick (λ x. (0 < x .size) ⊎ ((w : Reason) × (x .class ≡ nothing w))) (starts keyData (b ∷ s)) _ _ (λ e. inl (data-word b s e)) (λ e. inr (noStart, refl))
-sized inBlock b s = lex-sized inBlock b s
-sized inFrame b s = lex-sized inFrame b s
+sized before b s = pick (λ x. (0 < x .size) ⊎ ((w : Reason) × (x .class ≡ nothing w))) (starts keyData (b ∷ s)) _ _ (λ e. inl (omega (arith, data-in-word (b ∷ s) e))) (λ e. inr (noStart, refl))
+sized inBlock b s = lex-sized inBlock (b ∷ s)
+sized inFrame b s = lex-sized inFrame (b ∷ s)
 
 none-ends : (m : Mode) (o : ℕ) → Ends (tok (lex m []) o ∷ [])
-unfolding tok lex lexIn lexed starts keyData
-none-ends before o = last noStart refl
+unfolding tok lex lexIn lexed
+none-ends before o = rw (no-keyword-end .no-data) (last noStart refl)
 none-ends inBlock o = last atEnd refl
 none-ends inFrame o = last atEnd refl
 
@@ -205,8 +207,8 @@ module _ (s : List ℕ) (j : ℕ) (g : gap (drop j s) ≡ 0) (h : j ≤ length s
       sized′ b r e f zero z (inr h) = here-last (lexIn inBlock (b ∷ r)) (h .0) (rw e) (rw (e, lex-same b r f)) z (h .1)
 
       split : (b : ℕ) (r : List ℕ) → drop j s ≡ b ∷ r → (t : Bool) → starts keySave (b ∷ r) ≡ t → Here
-      split b r e true f = here-save (unfold startsAt in rw e f)
-      split b r e false f = sized′ b r e f (lexIn inBlock (b ∷ r) .size) refl (lex-sized inBlock b r)
+      split b r e true f = here-save (starts-at keySave s j ∙ rw e f)
+      split b r e false f = sized′ b r e f (lexIn inBlock (b ∷ r) .size) refl (lex-sized inBlock (b ∷ r))
 
       by : (u : List ℕ) → drop j s ≡ u → Here
       by [] e = here-last (lexed (nothing atEnd) 0) atEnd (unfold lexIn in rw e) (unfold lexIn in rw e) (unfold lexed in refl) (unfold lexed in refl)

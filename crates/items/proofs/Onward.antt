@@ -9,7 +9,9 @@ use lib.ListN.{length, drop, length-drop, drop-of-length-le}
 use Rattle.gaps.specs.Gaps.{gap, gapEnd}
 use Rattle.gaps.proofs.Gaps.{gap-from, gap-within, gap-none}
 use Rattle.words.specs.Words.{word, wordEnd}
+use Rattle.words.proofs.Words.{word-end}
 use Rattle.keywords.specs.Keywords.{starts, startsAt, keyData, keySave}
+use Rattle.keywords.proofs.Starts.{starts-at}
 use Rattle.values.specs.Values.{Class, block, loop, save, tag, value, overLimit, nothing, lexed}
 use Rattle.items.specs.declared.Sizes.{Sizes}
 use Rattle.items.specs.declared.Decision.{Decision}
@@ -136,9 +138,9 @@ plain [] h e = absurd (omega arith)
 plain (b ∷ s) h e = lex-plain inBlock b s e
 
 pub item-stepped : (s : List ℕ) (o : ℕ) → o < length s → gap (drop o s) ≡ 0 → startsAt keySave s o ≡ false → Stepped s o (inBlockOf (itemAt s o))
-unfolding itemAt startsAt
+unfolding itemAt
 item-stepped s o h g e =
-    let p = plain (drop o s) (omega (arith, length-drop o s)) e in
+    let p = plain (drop o s) (omega (arith, length-drop o s)) (sym (starts-at keySave s o) ∙ e) in
     stepped (item-alike (both s o (omega arith))) (λ out. block-item s o out g p)
 
 -- one part after another
@@ -167,14 +169,14 @@ one-fits : (k w n : ℕ) → 0 < w → w ≤ n → Upto n (added noSizes k w)
 one-fits k w n z h = upto-added 0 k w n noSizes (upto-none 0) (omega arith) (omega arith)
 
 pub frame-opens : (s : List ℕ) (o : ℕ) → gap (drop o s) ≡ 0 → startsAt keySave s o ≡ true → Passed s none o (some o) (gapEnd s (wordEnd s o)) (added noSizes 2 (wordEnd s o - o))
-unfolding wordEnd lexed tok rec
+unfolding lexed tok rec
 frame-opens s o g e =
     let w = word (drop o s) in
     let m = met-open s o g e in
     let d : o + w - o ≡ w = omega arith in
     let l : o + w ≤ gapEnd s (o + w) = gap-from s (o + w) in
     let t = tok (lexed save w) o in
-    rw d
+    rw (word-end s o, d)
     (record {
       kept = rec 2 t ∷ [];
       sizes = sym (sizes-one (rec 2 t));
@@ -220,11 +222,11 @@ no-save [] e = unfold lexIn lexed isSave in refl
 no-save (b ∷ s) e = plain-save (lexIn inFrame (b ∷ s) .class) (lex-plain inFrame b s e)
 
 pub open-answer : (s : List ℕ) (a p : ℕ) (out : List Rec) → gap (drop p s) ≡ 0 → startsAt keySave s p ≡ false → closing a out (tokensAt inFrame s p) ≡ refused 4 a 0
-unfolding closing failedRun fails follow startsAt tok lex
+unfolding closing failedRun fails follow tok lex
 open-answer s a p out g e =
     let x = lexIn inFrame (drop p s) in
     let f = first s p g inFrame in
-    rw (f .1, no-close (x .class) a out (tok x p) (no-save (drop p s) e))
+    rw (f .1, no-close (x .class) a out (tok x p) (no-save (drop p s) (sym (starts-at keySave s p) ∙ e)))
 
 pub close-answer : (s : List ℕ) (a p : ℕ) (out : List Rec) → Met inFrame s p (lexed save 5) → closing a out (tokensAt inFrame s p) ≡ left none s (p + 5) (out ++ (rec 3 (tok (lexed save 5) p) ∷ []))
 unfolding closing failedRun fails closes follow left modeOf lexed tok after
@@ -287,14 +289,14 @@ unfolding blockAt left modeOf run move config atStart follow lexed tok after
 begin-reads s o w m = rw (m .next)
 
 pub block-begins : (s : List ℕ) (o : ℕ) → gap (drop o s) ≡ 0 → startsAt keyData s o ≡ true → Begun s o (gapEnd s (wordEnd s o)) (added noSizes 1 (wordEnd s o - o))
-unfolding wordEnd lexed tok rec
+unfolding lexed tok rec
 block-begins s o g e =
     let w = word (drop o s) in
     let m = met-data s o g e in
     let d : o + w - o ≡ w = omega arith in
     let l : o + w ≤ gapEnd s (o + w) = gap-from s (o + w) in
     let t = tok (lexed block w) o in
-    rw d
+    rw (word-end s o, d)
     (record {
       kept = rec 1 t ∷ [];
       sizes = sym (sizes-one (rec 1 t));
@@ -329,8 +331,11 @@ block-refused s o p z d b r = rw (b .reads) (r (b .kept))
 
 -- no `data_`
 pub no-data : (s : List ℕ) (o : ℕ) → gap (drop o s) ≡ 0 → startsAt keyData s o ≡ false → told (NoData o) ≡ tells (blockAt s o)
-unfolding blockAt startsAt run move config atStart follow told tells lex lexed tok
-no-data s o g e = let f = first s o g before in rw (f .1, e)
+unfolding blockAt run move config atStart follow told tells lex lexed tok
+no-data s o g e =
+    let f = first s o g before in
+    let h : starts keyData (drop o s) ≡ false = sym (starts-at keyData s o) ∙ e in
+    rw (f .1, h)
 
 -- the text is read from behind its leading space and comments on
 pub decided-from : (s : List ℕ) → decided s ≡ blockAt s (gapEnd s 0)
@@ -339,12 +344,12 @@ decided-from s = rw (tokens-gap before s 0) (unfold tokensAt in refl)
 
 -- a heading's word lies in the text
 pub save-within : (s : List ℕ) (o : ℕ) → gap (drop o s) ≡ 0 → startsAt keySave s o ≡ true → (o < wordEnd s o) × (wordEnd s o ≤ length s)
-unfolding wordEnd lexed
-save-within s o g e = let m = met-open s o g e in (omega (arith, m .some-bytes), m .within)
+unfolding lexed
+save-within s o g e = let m = met-open s o g e in rw (word-end s o) (omega (arith, m .some-bytes), m .within)
 
 pub data-within : (s : List ℕ) (o : ℕ) → gap (drop o s) ≡ 0 → startsAt keyData s o ≡ true → (o < wordEnd s o) × (wordEnd s o ≤ length s)
-unfolding wordEnd lexed
-data-within s o g e = let m = met-data s o g e in (omega (arith, m .some-bytes), m .within)
+unfolding lexed
+data-within s o g e = let m = met-data s o g e in rw (word-end s o) (omega (arith, m .some-bytes), m .within)
 
 -- what a frame's item is, once it is known
 pub inside-known :

@@ -31,7 +31,8 @@ use Rattle.items.specs.Tokens.{before, inBlock, lex, after, tok, tokensFrom, to
 use Rattle.items.specs.Machine.{Rec, done, start, config, go, rec, loopEnd, atStart, move, follow, run}
 use Rattle.items.specs.Reading.{limit, decided, outline}
 use Rattle.items.specs.Sizes.{storeSize, areaSize}
-use Rattle.items.proofs.Ended.{word-ended, starts-ended, noLf}
+use Rattle.words.proofs.Ended.{word-ended}
+use Rattle.keywords.proofs.Ended.{starts-ended, noLf}
 use Rattle.items.proofs.Advance.{advance₀}
 use Rattle.writing.specs.Writing.{storeOf, areaOf}
 use Rattle.reading.specs.Services.{readAnswer}
