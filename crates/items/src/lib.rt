@@ -140,8 +140,8 @@ impl Sizes {
         ensures { λ r. ⌜ r ≡ added self kind size ⌝ }
     {
         Sizes {
-            store: self.store + 1 + kinds::Kind::body_length(kind),
-            outline: self.outline + 1 + kinds::Kind::outline_length(kind),
+            store: self.store + 1 + Kind::body_length(kind),
+            outline: self.outline + 1 + Kind::outline_length(kind),
             area: self.area + content_length(kind, size),
         }
     }
@@ -163,16 +163,16 @@ impl Sizes {
         requires { ⌜ Upto (limit * limit) self × (size ≤ limit) × (8 ≤ kind) × (kind ≤ 15) × (11 ≤ kind → kind ≤ 13 → 2 ≤ size) ⌝ }
         ensures { λ r. ⌜ r ≡ added self kind size ⌝ }
     {
-        if kind == 10 {
+        if kind == Kind::BARE {
             return self.plus(Shape::Content, size);
         }
-        if kind == 14 {
+        if kind == Kind::NUMBER {
             return self.plus(Shape::Parts, 0);
         }
-        if kind == 15 {
+        if kind == Kind::UNCERTAIN {
             return self.plus(Shape::PartsUncertain, 0);
         }
-        if kind < 10 {
+        if kind < Kind::BARE {
             return self.plus(Shape::Place, 0);
         }
         self.plus(Shape::Content, size - Kind::QUOTE_MARKS)
@@ -198,7 +198,7 @@ pub fn at_tag(s: &[u8], at: usize) -> bool
     if s.len() <= at {
         return false;
     }
-    s[at] == 95
+    s[at] == b'_'
 }
 
 // Kind 14, or 15 with uncertainty.
@@ -485,7 +485,7 @@ fn count_names(s: &[u8], from: usize) -> Names
             };
         }
         let end = words::long_word_end(s, at);
-        sizes = sizes.add(6, end - at);
+        sizes = sizes.add(Kind::LOOP_TAG, end - at);
         count += 1;
         at = gaps::gap_end(s, end);
     }
@@ -532,7 +532,11 @@ fn rows(at: usize, names: Names, values: Values) -> Item
     let named = names.sizes;
     let valued = values.sizes;
     let why = values.why;
-    let sizes = Sizes::none().add(5, 5).join(named).join(valued).add(7, 0);
+    let sizes = Sizes::none()
+        .add(Kind::LOOP, 5)
+        .join(named)
+        .join(valued)
+        .add(Kind::LOOP_END, 0);
     Item::Loop {
         next: values.next,
         sizes,
@@ -566,7 +570,7 @@ fn parse_tag(s: &[u8], at: usize) -> Item
     let stop = gaps::gap_end(s, end);
     let found = find_value(s, stop);
     if let Found::Value { kind, size } = found {
-        let sizes = Sizes::none().add(4, end - at).add_value(kind, size);
+        let sizes = Sizes::none().add(Kind::TAG, end - at).add_value(kind, size);
         return Item::Single {
             next: gaps::gap_end(s, stop + size),
             sizes,
@@ -652,7 +656,7 @@ fn close_frame(s: &[u8], start: usize, sizes: Sizes, stop: usize) -> Step
     }
     Step::Read {
         next: gaps::gap_end(s, stop + 5),
-        sizes: sizes.add(3, 5),
+        sizes: sizes.add(Kind::FRAME_CLOSE, 5),
     }
 }
 
@@ -662,7 +666,7 @@ fn parse_save_frame(s: &[u8], start: usize) -> Step
     ensures { λ r. ⌜ Stepped (now (s .entry)) start r ⌝ }
 {
     let end = words::parse_identifier(s, start);
-    let mut sizes = Sizes::none().add(2, end - start);
+    let mut sizes = Sizes::none().add(Kind::FRAME_OPEN, end - start);
     let mut at = gaps::gap_end(s, end);
     loop {
         let inside = in_frame(parse_data_item(s, at));
@@ -694,7 +698,7 @@ fn parse_data_block(s: &[u8], start: usize) -> Decision
     ensures { λ r. ⌜ told r ≡ tells (blockAt (now (s .entry)) start) ⌝ }
 {
     let end = words::parse_identifier(s, start);
-    let mut sizes = Sizes::none().add(1, end - start);
+    let mut sizes = Sizes::none().add(Kind::BLOCK, end - start);
     let mut at = gaps::gap_end(s, end);
     while at < s.len() {
         let step = parse_data_item_or_save_frame(s, at);
