@@ -211,7 +211,7 @@ fn pack_decimal(s: &[u8], at: usize) -> usize
     requires { ⌜ (length (now s) ≤ limit) × (at < length (now s)) × (startsDecimal (getD (now s) at 0) ≡ true) ⌝ }
     ensures { λ r. ⌜ r ≡ packedAt (now (s .entry)) at ⌝ }
 {
-    let end = numbers::decimal_end(s, at);
+    let end = decimals::decimal_end(s, at);
     if end <= at {
         return pack_other(s, at);
     }

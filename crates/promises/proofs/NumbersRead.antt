@@ -17,8 +17,9 @@ use Rattle.keywords.specs.Keywords.{reserved}
 use Rattle.quotes.specs.Quotes.{quoted, field}
 use Rattle.numbers.specs.declared.Decimal.{Decimal}
 use Rattle.numbers.specs.declared.Number.the-variants.{Is}
-use Rattle.numbers.specs.Parts.{parts, isNumber, within, value as valueOf, valueFrom}
-use Rattle.numbers.specs.Cuts.{startsNumber}
+use Rattle.numbers.specs.Parts.{parts, isNumber, within}
+use Rattle.cuts.specs.Digits.{value as valueOf, valueFrom}
+use Rattle.numbers.specs.Pieces.{startsNumber}
 use Rattle.numbers.specs.Meaning.{meaning, judged, numberOf as numberIn}
 use Rattle.numbers.specs.Cif.{CifNumeric, exact, uncertain, cifMeaning, cifWithin}
 use Rattle.numbers.proofs.Facts.{Bounded, no-number-by-first-byte, dot-alone}

@@ -9,7 +9,8 @@ use Rattle.places.specs.Reports.{success, refusedAt, refusedBare, noRoom}
 use Rattle.words.specs.Words.{inWord, word, isOrdinary}
 use Rattle.keywords.specs.Keywords.{lower, starts, keyData, keyGlobal, keyLoop, keySave, keyStop, reserved}
 use Rattle.quotes.specs.Quotes.{more, quoted, fieldIn, field}
-use Rattle.numbers.specs.Parts.{cut, consGot, digits, sign, point, absent, signedDigits, isEmpty, exponent, close, bracket, parts, isNumber, within, valueFrom, value, minus}
+use Rattle.numbers.specs.Parts.{cut, consGot, digits, sign, point, absent, signedDigits, isEmpty, exponent, close, bracket, parts, isNumber, within, minus}
+use Rattle.cuts.specs.Digits.{valueFrom, value}
 use Rattle.numbers.specs.Meaning.{meaning}
 use Rattle.kinds.specs.Kinds.{kindOf, shapeOf, shapeLength, marksOf, opening, bodyLength, isContent, hasContent}
 use Rattle.values.specs.Values.{lexed, numberOr, wordOr, closed, lexValue, lexAsValue}

@@ -151,7 +151,7 @@ fn put_number(s: &[u8], full: bool, store: &mut [u8], c: Cursor, kind: u8, size:
     }
     let offset = place.offset;
     let end = offset + size;
-    put_decimal(store, at, token, numbers::decimal_of(&s[offset..end]));
+    put_decimal(store, at, token, decimals::decimal_of(&s[offset..end]));
 }
 
 // A token that has content.
