@@ -10,27 +10,28 @@ use lib.ListN.{length, drop}
 use Rattle.gaps.specs.Gaps.{gap, gapEnd}
 use Rattle.gaps.proofs.Gaps.{gap-none}
 use Rattle.words.specs.Words.{word, wordEnd}
+use Rattle.words.proofs.Words.{word-end}
 use Rattle.keywords.specs.Keywords.{starts, startsAt, keyLoop}
+use Rattle.keywords.proofs.Starts.{starts-at}
 use Rattle.values.specs.Values.{Class, block, loop, save, tag, value, overLimit, nothing, lexed}
-use Rattle.items.specs.declared.Sizes.{Sizes}
+use Rattle.sizes.specs.declared.Sizes.{Sizes}
 use Rattle.items.specs.declared.Names.{Names}
 use Rattle.items.specs.declared.Values.{Values}
 use Rattle.items.specs.declared.Found.{Found}
 use Rattle.items.specs.declared.Found.the-variants.{Value}
 use Rattle.items.specs.declared.Item.{Item as Answered}
 use Rattle.items.specs.declared.Item.the-variants.{Loop, Single, Ragged, NoValue as TagAlone, NoItem, NoNames, Over}
-use Rattle.items.specs.Tokens.{Mode, inBlock, lexIn, lex, after, Tok, tok}
-use Rattle.items.specs.Machine.{Rec, rec, loopEnd}
-use Rattle.items.specs.Sizes.{sizesOf, noSizes, added, joined, Upto}
-use Rattle.items.specs.Descent.{nameRecs, afterNames, valueRecs, afterValues, taken, failed, broken, isOver, rows, loopBy, loopItem, single, tagItem, itemBy, item}
-use Rattle.items.specs.Decisions.{tokensAt, headAt, headWhy, whyNot}
-use Rattle.items.specs.Answers.{tagFirst, tagAt, foundAt, isOverFound, whyFound, namesOf, namesAt, headOver, valuesOf, valuesAt, rowsOf, itemAnswer, itemAt}
-use Rattle.items.proofs.Descent.{Ends, names-ends, values-ends}
-use Rattle.items.proofs.Lexes.{lex-other, startsItem}
+use Rattle.grammar.specs.Tokens.{Mode, inBlock, lexIn, lex, after, Tok, tok, tokensAt, headAt, tagFirst, tagAt}
+use Rattle.grammar.specs.Machine.{Rec, rec, loopEnd}
+use Rattle.sizes.specs.Sizes.{sizesOf, noSizes, added, joined, Upto}
+use Rattle.grammar.specs.Descent.{nameRecs, afterNames, valueRecs, afterValues, taken, failed, broken, isOver, rows, loopBy, loopItem, single, tagItem, itemBy, item}
+use Rattle.items.specs.Answers.{headWhy, whyNot, foundAt, isOverFound, whyFound, namesOf, namesAt, headOver, valuesOf, valuesAt, rowsOf, itemAnswer, itemAt}
+use Rattle.grammar.proofs.Descent.{Ends, names-ends, values-ends}
+use Rattle.grammar.proofs.Lexes.{lex-other, startsItem}
 use Rattle.items.proofs.Lists.{met-value, name-step, value-step}
-use Rattle.items.proofs.Offsets.{tokens-gap, tokens-ends, Met, met-loop, met-tag, first, both, both-spot}
+use Rattle.grammar.proofs.Offsets.{tokens-gap, tokens-ends, Met, met-loop, met-tag, first, both, both-spot}
 use Rattle.items.proofs.Passes.{names-alike, values-alike}
-use Rattle.items.proofs.Room.{sizes-cons, sizes-one, sizes-snoc, sizes-append, joined-assoc, added-none, upto-more}
+use Rattle.sizes.proofs.Room.{sizes-cons, sizes-one, sizes-snoc, sizes-append, joined-assoc, added-none, upto-more}
 use Rattle.items.proofs.Wanted.{wanted, found-wanted}
 
 -- the first token stands behind space and comments
@@ -166,12 +167,14 @@ value-answer t s p k w m = rw (m .next, head-at inBlock s (p + w), single-size t
 
 pub item-value : (s : List ℕ) (o k w : ℕ) → gap (drop o s) ≡ 0 → tagAt s o ≡ true → foundAt s (gapEnd s (wordEnd s o)) ≡ Value k w
     → itemAt s o ≡ Single (gapEnd s (gapEnd s (wordEnd s o) + w)) (added (added noSizes 4 (wordEnd s o - o)) k w)
-unfolding wordEnd lexed tok
+unfolding lexed tok
 item-value s o k w g e f =
     let n = word (drop o s) in
     let p = gapEnd s (o + n) in
     let d : o + n - o ≡ n = omega arith in
-    tag-item s o n (met-tag s o g e) ∙ value-answer (tok (lexed tag n) o) s p k w (met-value s p k w (gap-none s (o + n)) f) ∙ rw d
+    let f′ : foundAt s p ≡ Value k w = rw (word-end s o) at f in
+    rw (word-end s o)
+    (tag-item s o n (met-tag s o g e) ∙ value-answer (tok (lexed tag n) o) s p k w (met-value s p k w (gap-none s (o + n)) f′) ∙ rw d)
 
 alone-answer : (t : Tok) (s : List ℕ) (p : ℕ) → gap (drop p s) ≡ 0 → ((k w : ℕ) → foundAt s p ≡ Value k w → ⊥)
     → itemAnswer (tagItem t (tokensAt inBlock s p)) ≡ cond (isOverFound (foundAt s p)) (Over p) (TagAlone (t .at) p (whyFound (foundAt s p)))
@@ -184,10 +187,12 @@ alone-answer t s p g h =
 
 pub item-alone : (s : List ℕ) (o : ℕ) → gap (drop o s) ≡ 0 → tagAt s o ≡ true → ((k w : ℕ) → foundAt s (gapEnd s (wordEnd s o)) ≡ Value k w → ⊥)
     → let p = gapEnd s (wordEnd s o) in itemAt s o ≡ cond (isOverFound (foundAt s p)) (Over p) (TagAlone o p (whyFound (foundAt s p)))
-unfolding wordEnd lexed tok
+unfolding lexed tok
 item-alone s o g e h =
     let n = word (drop o s) in
-    tag-item s o n (met-tag s o g e) ∙ alone-answer (tok (lexed tag n) o) s (gapEnd s (o + n)) (gap-none s (o + n)) h
+    let h′ : (k w : ℕ) → foundAt s (gapEnd s (o + n)) ≡ Value k w → ⊥ = λ k w q. h k w (rw (word-end s o) q) in
+    rw (word-end s o)
+    (tag-item s o n (met-tag s o g e) ∙ alone-answer (tok (lexed tag n) o) s (gapEnd s (o + n)) (gap-none s (o + n)) h′)
 
 -- NO ITEM AT AN OFFSET
 none-answer : (c : Class) (t : Tok) (ts : List Tok) → startsItem c ≡ false → itemAnswer (itemBy c t ts) ≡ NoItem (t .at)
@@ -206,11 +211,11 @@ no-item [] e f = unfold lexIn lexed startsItem in refl
 no-item (b ∷ s) e f = lex-other inBlock b s e f
 
 pub item-none : (s : List ℕ) (o : ℕ) → gap (drop o s) ≡ 0 → startsAt keyLoop s o ≡ false → tagAt s o ≡ false → itemAt s o ≡ NoItem o
-unfolding itemAt item startsAt tagAt lex tok
+unfolding itemAt item tagAt lex tok
 item-none s o g e f =
     let x = lexIn inBlock (drop o s) in
     let n = first s o g inBlock in
-    rw (n .1) (none-answer (x .class) (tok x o) (n .0) (no-item (drop o s) e f))
+    rw (n .1) (none-answer (x .class) (tok x o) (n .0) (no-item (drop o s) (sym (starts-at keyLoop s o) ∙ e) f))
 
 -- rows as the code counts them
 pub rows-ragged : (o : ℕ) (names : Names) (values : Values) → (values .count % names .count ≡ 0 → ⊥) → Ragged o (values .count % names .count) (values .next) ≡ rowsOf o names values

@@ -1,16 +1,7 @@
-pub mod Steps
-pub mod Fits
-pub mod Ended
-pub mod Advance
-pub mod Descent
-pub mod Room
-pub mod Lexes
 pub mod Wanted
-pub mod Offsets
 pub mod Lists
 pub mod Passes
 pub mod Items
-pub mod Onward
 pub mod Choices
 pub mod First
 pub mod Packs

@@ -13,24 +13,24 @@ use Rattle.text.specs.Bytes.{is}
 use Rattle.gaps.specs.Gaps.{gap, gapEnd}
 use Rattle.gaps.proofs.Gaps.{gap-from, gap-within, gap-none}
 use Rattle.words.specs.Words.{word, wordEnd}
+use Rattle.words.proofs.Words.{word-end}
 use Rattle.values.specs.Values.{Class, block, loop, save, tag, value, overLimit, nothing, lexed}
 use Rattle.values.specs.declared.Why.{Why}
-use Rattle.items.specs.declared.Sizes.{Sizes}
+use Rattle.sizes.specs.declared.Sizes.{Sizes}
 use Rattle.items.specs.declared.Names.{Names}
 use Rattle.items.specs.declared.Values.{Values}
 use Rattle.items.specs.declared.Found.{Found}
 use Rattle.items.specs.declared.Found.the-variants.{Value}
-use Rattle.items.specs.Tokens.{inBlock, lexIn, lex, after, Tok, tok}
-use Rattle.items.specs.Machine.{rec}
-use Rattle.items.specs.Sizes.{sizesOf, noSizes, added, joined, Upto}
-use Rattle.items.specs.Descent.{nameRecs, valueRecs, isOver}
-use Rattle.items.specs.Decisions.{tokensAt, headAt, headWhy, whyNot}
-use Rattle.items.specs.Answers.{tagFirst, tagAt, foundAt, isOverFound, whyFound, namesOf, namesAt, headOver, valuesOf, valuesAt}
-use Rattle.items.proofs.Descent.{NoName, NoValue, value-or-not, names-more, names-none, values-more, values-none}
-use Rattle.items.proofs.Fits.{isValue, lexIn-pos}
-use Rattle.items.proofs.Lexes.{no-name}
-use Rattle.items.proofs.Offsets.{tokens-gap, Met, met, met-tag, first}
-use Rattle.items.proofs.Room.{sizes-cons, added-joined, sizes-none, none-joined, joined-none, upto-none, upto-added}
+use Rattle.grammar.specs.Tokens.{inBlock, lexIn, lex, after, Tok, tok, tokensAt, headAt, tagFirst, tagAt}
+use Rattle.grammar.specs.Machine.{rec}
+use Rattle.sizes.specs.Sizes.{sizesOf, noSizes, added, joined, Upto}
+use Rattle.grammar.specs.Descent.{nameRecs, valueRecs, isOver}
+use Rattle.items.specs.Answers.{headWhy, whyNot, foundAt, isOverFound, whyFound, namesOf, namesAt, headOver, valuesOf, valuesAt}
+use Rattle.grammar.proofs.Descent.{NoName, NoValue, value-or-not, names-more, names-none, values-more, values-none}
+use Rattle.grammar.proofs.Fits.{isValue, lexIn-pos}
+use Rattle.grammar.proofs.Lexes.{no-name}
+use Rattle.grammar.proofs.Offsets.{tokens-gap, Met, met, met-tag, first}
+use Rattle.sizes.proofs.Room.{sizes-cons, added-joined, sizes-none, none-joined, joined-none, upto-none, upto-added}
 use Rattle.items.proofs.Wanted.{wanted, found-wanted}
 
 -- names counted so far, and those from here on
@@ -79,14 +79,14 @@ unfolding namesAt lexed after tok
 names-turn s o w n z m = rw (tokens-gap inBlock s (o + w), m .next) (names-cons n z (tok (lexed tag w) o) (tokensAt inBlock s (o + w)) refl)
 
 pub name-step : (s : List ℕ) (o : ℕ) → gap (drop o s) ≡ 0 → tagAt s o ≡ true → NameStep s o
-unfolding wordEnd lexed
+unfolding lexed
 name-step s o g e =
     let m = met-tag s o g e in
     let d : o + word (drop o s) - o ≡ word (drop o s) = omega arith in
     record {
-      onward = omega (arith, m .some-bytes);
-      within = m .within;
-      turn = λ n z. rw d (names-turn s o (word (drop o s)) n z m);
+      onward = rw (word-end s o) (omega (arith, m .some-bytes));
+      within = rw (word-end s o) (m .within);
+      turn = λ n z. rw (word-end s o, d) (names-turn s o (word (drop o s)) n z m);
     }
 
 -- where no tag stands the names end

@@ -9,15 +9,14 @@ use native.Mathlib.Omega.{arith}
 use lib.Dec.{eqb}
 use lib.ListN.{length}
 use Rattle.values.specs.Values.{Class, Reason, block, loop, save, tag, value, overLimit, nothing}
-use Rattle.items.specs.Tokens.{Tok}
-use Rattle.items.specs.Machine.{Rec, rec, loopEnd}
+use Rattle.grammar.specs.Tokens.{Tok, headAt}
+use Rattle.grammar.specs.Machine.{Rec, rec, loopEnd}
 use Rattle.kinds.specs.Kinds.{kindOf, shapeOf, shapeLength, outlineShape, bodyLength, outlineLength, isContent, hasContent}
-use Rattle.items.specs.Sizes.{contentSize, sizesOf, noSizes, added, joined, Upto}
-use Rattle.items.specs.Descent.{nameRecs, afterNames, valueRecs, afterValues, Item, taken, failed, broken, isOver, rows, loopBy, loopItem, single, tagItem, itemBy, item}
-use Rattle.items.specs.Decisions.{headAt}
-use Rattle.items.proofs.Descent.{NoName, name-or-not, NoValue, value-or-not, names-more, names-none, values-more, values-none, nothing-name, nothing-value, save-name, save-value}
-use Rattle.items.proofs.Offsets.{Both, both-last, both-save, both-more, both-from}
-use Rattle.items.proofs.Room.{sizes-cons, sizes-none, sizes-one, sizes-append, upto-none, upto-added, upto-joined}
+use Rattle.sizes.specs.Sizes.{contentSize, sizesOf, noSizes, added, joined, Upto}
+use Rattle.grammar.specs.Descent.{nameRecs, afterNames, valueRecs, afterValues, Item, taken, failed, broken, isOver, rows, loopBy, loopItem, single, tagItem, itemBy, item}
+use Rattle.grammar.proofs.Descent.{NoName, name-or-not, NoValue, value-or-not, names-more, names-none, values-more, values-none, nothing-name, nothing-value, save-name, save-value}
+use Rattle.grammar.proofs.Offsets.{Both, both-last, both-save, both-more, both-from}
+use Rattle.sizes.proofs.Room.{sizes-cons, sizes-none, sizes-one, sizes-append, upto-none, upto-added, upto-joined}
 
 -- records of tokens from o to p, the same in both lists, and what follows them
 pub record Alike (s : List ℕ) (o : ℕ) (rs qs : List Rec) (ts us : List Tok) : Type 0 where

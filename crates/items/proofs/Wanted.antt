@@ -18,9 +18,9 @@ use Rattle.values.specs.Answers.{whyOf, answer, valueAnswer, valueAt}
 use Rattle.values.specs.declared.Why.the-variants.{Reserved, NoStart}
 use Rattle.items.specs.declared.Found.{Found}
 use Rattle.items.specs.declared.Found.the-variants.{Value, Over, Missing}
-use Rattle.items.specs.Tokens.{Mode, saveSize, lexIn}
+use Rattle.grammar.specs.Tokens.{Mode, saveSize, lexIn}
 use Rattle.items.specs.Answers.{foundOf, foundAt}
-use Rattle.items.proofs.Lexes.{pick}
+use Rattle.grammar.proofs.Lexes.{pick}
 
 -- a token where a value is wanted
 unfoldable pub wanted : Class → ℕ → Found

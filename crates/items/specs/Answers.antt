@@ -5,12 +5,12 @@ use mathlib.Core.Bool.{Bool, true, false, cond}
 use mathlib.Core.List.{List, [], _∷_}
 use lib.Dec.{eqb}
 use lib.ListN.{length, drop}
-use Rattle.text.specs.Bytes.{is}
 use Rattle.gaps.specs.Gaps.{gap}
 use Rattle.numbers.specs.declared.Decimal.{Decimal}
-use Rattle.values.specs.Answers.{valueAt}
+use Rattle.values.specs.Values.{Class, block, loop, save, tag, value, overLimit, nothing}
+use Rattle.values.specs.Answers.{whyOf, valueAt}
 use Rattle.values.specs.declared.Why.{Why}
-use Rattle.values.specs.declared.Why.the-variants.{AtEnd}
+use Rattle.values.specs.declared.Why.the-variants.{AtEnd, Reserved, NoStart}
 use Rattle.values.specs.declared.Value.{Value as ValueAnswer}
 use Rattle.values.specs.declared.Value.the-variants.{Token, Number, Over as OverAnswer, Missing as MissingAnswer}
 use Rattle.items.specs.declared.Found.{Found}
@@ -19,11 +19,24 @@ use Rattle.items.specs.declared.Names.{Names}
 use Rattle.items.specs.declared.Values.{Values}
 use Rattle.items.specs.declared.Item.{Item as Answered}
 use Rattle.items.specs.declared.Item.the-variants.{Loop, Single, Ragged, NoValue, NoItem, NoNames, Over}
-use Rattle.items.specs.Tokens.{Tok, inBlock}
-use Rattle.items.specs.Reading.{limit}
-use Rattle.items.specs.Sizes.{sizesOf, noSizes, added, joined}
-use Rattle.items.specs.Descent.{Item, taken, failed, broken, item, nameRecs, afterNames, valueRecs, afterValues, isOver}
-use Rattle.items.specs.Decisions.{tokensAt, headAt, headWhy}
+use Rattle.grammar.specs.Tokens.{Tok, inBlock, tokensAt, headAt}
+use Rattle.grammar.specs.Reading.{limit}
+use Rattle.sizes.specs.Sizes.{sizesOf, noSizes, added, joined}
+use Rattle.grammar.specs.Descent.{Item, taken, failed, broken, item, nameRecs, afterNames, valueRecs, afterValues, isOver}
+
+-- why no value stands where this token does
+unfoldable pub whyNot : Class → Why
+whyNot (nothing w) = whyOf w
+whyNot tag = NoStart
+whyNot block = Reserved
+whyNot loop = Reserved
+whyNot save = Reserved
+whyNot (value k) = AtEnd
+whyNot overLimit = AtEnd
+
+unfoldable pub headWhy : List Tok → Why
+headWhy [] = AtEnd
+headWhy (t ∷ ts) = whyNot (t .class)
 
 -- o is an offset of a text within limit 1
 pub record Ready (s : List ℕ) (o : ℕ) : Type 0 where
@@ -35,14 +48,6 @@ pub record Here (s : List ℕ) (o : ℕ) : Type 0 where
   pub within : o ≤ length s
   pub small : length s ≤ limit
   pub none : gap (drop o s) ≡ 0
-
--- a tag starts with `_`
-unfoldable pub tagFirst : List ℕ → Bool
-tagFirst [] = false
-tagFirst (b ∷ s) = is 95 b
-
-unfoldable pub tagAt : List ℕ → ℕ → Bool
-tagAt s o = tagFirst (drop o s)
 
 -- kind 14, or 15 with uncertainty
 abbrev pub kindOfNumber : Decimal → ℕ
@@ -118,6 +123,7 @@ itemAnswer (failed n o d rest) =
     cond (eqb n 5) (Ragged o d (headAt rest)) (cond (eqb n 6) (NoValue o (headAt rest) (headWhy rest)) (NoItem o))
 itemAnswer (broken n o) = cond (eqb n 8) (NoNames o) (Over o)
 
--- the item at offset o, behind space and comments. It is the same in the block and in a frame: no item reaches over a `save_`
+-- the item at offset o, behind space and comments. It is the same in the block and in a frame: no item reaches over a
+-- `save_`
 unfoldable pub itemAt : List ℕ → ℕ → Answered
 itemAt s o = itemAnswer (item (tokensAt inBlock s o))

@@ -1,9 +1,2 @@
-pub mod Tokens
-pub mod Machine
-pub mod Reading
-pub mod Sizes
-pub mod Descent
-pub mod Decisions
 pub mod Answers
-pub mod Frames
 pub mod First

@@ -1,33 +1,25 @@
-// Items, frames and the block: what a text is refused for, or how much room its records take.
+// Items: a tag and its value, or a loop of names and values; what they fail by, or how much room their records take.
 ghost use mathlib.Core.Path.{_≡_};
 ghost use mathlib.Core.Bool.{true};
-ghost use Prim.Native.Nat.{ℕ, _+_, _*_, _≤_, _<_};
+ghost use Prim.Native.Nat.{_+_, _*_, _≤_, _<_};
 ghost use lib.ListN.{length, getD};
 ghost use Rattle.values.specs.Answers.{valueAt};
 ghost use Rattle.values.specs.Pieces.{quoteAt, fieldAt};
-ghost use Rattle.keywords.specs.Keywords.{startsAt, keyData, keyLoop, keySave};
-ghost use Rattle.items.specs.Sizes.{contentSize, noSizes, grown, added, joined, Upto};
+ghost use Rattle.keywords.specs.Keywords.{startsAt, keyLoop};
+ghost use Rattle.sizes.specs.Sizes.{Upto};
 ghost use Rattle.items.specs.First.{isLetter, startsReserved, startsBare, startsDecimal, plainKind};
-ghost use Rattle.items.specs.Decisions.{told, tells};
-ghost use Rattle.items.specs.Reading.{decided, limit};
-ghost use Rattle.items.specs.Answers.{Ready, Here, tagAt, kindOfNumber, foundAt, pack, packedAt, isOverFound, whyFound, namesAt, valuesAt, rowsOf, itemAt};
-ghost use Rattle.items.specs.Frames.{inBlockOf, inFrameOf, frameEnd, Stepped, blockAt};
+ghost use Rattle.grammar.specs.Reading.{limit};
+ghost use Rattle.items.specs.Answers.{Ready, Here, kindOfNumber, foundAt, pack, packedAt, isOverFound, whyFound, namesAt, valuesAt, rowsOf, itemAt};
+ghost use Rattle.grammar.specs.Tokens.{tagAt};
 use kinds::Kind;
-use kinds::Shape;
 use numbers::Decimal;
 use quotes::Closing;
+use sizes::Sizes;
 use values::Value;
 use values::Why;
 
-// The room that records take.
-pub struct Sizes {
-    pub store: usize,
-    pub outline: usize,
-    pub area: usize,
-}
-
-// What reading an item comes to, one case for each: read, with the offset behind it and the space and comments there; failed by 5, 6 or 7, with the
-// offset where it stopped; or failed by 8 or 9.
+// What reading an item comes to, one case for each: read, with the offset behind it and the space and comments there;
+// failed by 5, 6 or 7, with the offset where it stopped; or failed by 8 or 9.
 pub enum Item {
     Loop {
         next: usize,
@@ -59,18 +51,6 @@ pub enum Item {
     },
 }
 
-// What a text comes to: the room for its records, or a refusal, 3 to 9, with its offset.
-pub enum Decision {
-    Fits { sizes: Sizes },
-    NoData { at: usize },
-    OpenFrame { at: usize },
-    Ragged { at: usize, remainder: usize },
-    NoValue { at: usize },
-    NoItem { at: usize },
-    NoNames { at: usize },
-    Over { at: usize },
-}
-
 // What stands where a value may: one, by its kind and length; a number over a digit limit; none.
 pub enum Found {
     Value { kind: u8, size: usize },
@@ -94,103 +74,6 @@ struct Values {
     why: Why,
 }
 
-// What an item, or a frame, is in the block: read, or the reading's end.
-enum Step {
-    Read { next: usize, sizes: Sizes },
-    Refused { decision: Decision },
-}
-
-// What an item is in a frame: read; dropped, with the offset where it stopped; or the reading's end.
-enum Inside {
-    Read { next: usize, sizes: Sizes },
-    Dropped { stop: usize },
-    Refused { decision: Decision },
-}
-
-// What a token of a kind and of so many bytes puts into the area: its bytes less the marks, if the kind has content.
-fn content_length(kind: u8, size: usize) -> usize
-    ensures { λ r. ⌜ r ≡ contentSize kind size ⌝ }
-{
-    let kind = Kind::of(kind);
-    let shape = kind.shape();
-    let Shape::Content = shape else {
-        return 0;
-    };
-    let marks = kind.marks();
-    if size < marks {
-        return 0;
-    }
-    size - marks
-}
-
-impl Sizes {
-    fn none() -> Sizes
-        ensures { λ r. ⌜ r ≡ noSizes ⌝ }
-    {
-        Sizes {
-            store: 0,
-            outline: 0,
-            area: 0,
-        }
-    }
-
-    // One record more, of a kind and of a token with so many bytes.
-    fn add(self, kind: u8, size: usize) -> Sizes
-        requires { ⌜ Upto (limit * limit) self × (size ≤ limit) ⌝ }
-        ensures { λ r. ⌜ r ≡ added self kind size ⌝ }
-    {
-        Sizes {
-            store: self.store + 1 + kinds::Kind::body_length(kind),
-            outline: self.outline + 1 + kinds::Kind::outline_length(kind),
-            area: self.area + content_length(kind, size),
-        }
-    }
-
-    // One record more, of a shape that is not empty, and so many bytes of content.
-    fn plus(self, shape: Shape, content: usize) -> Sizes
-        requires { ⌜ Upto (limit * limit) self × (content ≤ limit) ⌝ }
-        ensures { λ r. ⌜ r ≡ grown self shape content ⌝ }
-    {
-        Sizes {
-            store: self.store + 1 + shape.length(),
-            outline: self.outline + 1 + Kind::PLACE,
-            area: self.area + content,
-        }
-    }
-
-    // One value more: as `add`, without its tables, since values are most of a text.
-    fn add_value(self, kind: u8, size: usize) -> Sizes
-        requires { ⌜ Upto (limit * limit) self × (size ≤ limit) × (8 ≤ kind) × (kind ≤ 15) × (11 ≤ kind → kind ≤ 13 → 2 ≤ size) ⌝ }
-        ensures { λ r. ⌜ r ≡ added self kind size ⌝ }
-    {
-        if kind == 10 {
-            return self.plus(Shape::Content, size);
-        }
-        if kind == 14 {
-            return self.plus(Shape::Parts, 0);
-        }
-        if kind == 15 {
-            return self.plus(Shape::PartsUncertain, 0);
-        }
-        if kind < 10 {
-            return self.plus(Shape::Place, 0);
-        }
-        self.plus(Shape::Content, size - Kind::QUOTE_MARKS)
-    }
-
-    // The records of both.
-    fn join(self, other: Sizes) -> Sizes
-        requires { ⌜ Upto (limit * limit) self × Upto (limit * limit) other ⌝ }
-        ensures { λ r. ⌜ r ≡ joined self other ⌝ }
-    {
-        Sizes {
-            store: self.store + other.store,
-            outline: self.outline + other.outline,
-            area: self.area + other.area,
-        }
-    }
-}
-
 // Whether a tag stands at an offset.
 pub fn at_tag(s: &[u8], at: usize) -> bool
     ensures { λ r. ⌜ r ≡ tagAt (now (s .entry)) at ⌝ }
@@ -198,7 +81,7 @@ pub fn at_tag(s: &[u8], at: usize) -> bool
     if s.len() <= at {
         return false;
     }
-    s[at] == 95
+    s[at] == b'_'
 }
 
 // Kind 14, or 15 with uncertainty.
@@ -485,7 +368,7 @@ fn count_names(s: &[u8], from: usize) -> Names
             };
         }
         let end = words::long_word_end(s, at);
-        sizes = sizes.add(6, end - at);
+        sizes = sizes.add(Kind::LOOP_TAG, end - at);
         count += 1;
         at = gaps::gap_end(s, end);
     }
@@ -532,7 +415,11 @@ fn rows(at: usize, names: Names, values: Values) -> Item
     let named = names.sizes;
     let valued = values.sizes;
     let why = values.why;
-    let sizes = Sizes::none().add(5, 5).join(named).join(valued).add(7, 0);
+    let sizes = Sizes::none()
+        .add(Kind::LOOP, 5)
+        .join(named)
+        .join(valued)
+        .add(Kind::LOOP_END, 0);
     Item::Loop {
         next: values.next,
         sizes,
@@ -566,7 +453,7 @@ fn parse_tag(s: &[u8], at: usize) -> Item
     let stop = gaps::gap_end(s, end);
     let found = find_value(s, stop);
     if let Found::Value { kind, size } = found {
-        let sizes = Sizes::none().add(4, end - at).add_value(kind, size);
+        let sizes = Sizes::none().add(Kind::TAG, end - at).add_value(kind, size);
         return Item::Single {
             next: gaps::gap_end(s, stop + size),
             sizes,
@@ -594,129 +481,4 @@ pub fn parse_data_item(s: &[u8], at: usize) -> Item
         return parse_tag(s, at);
     }
     Item::NoItem { at }
-}
-
-// What an item comes to in the block: 5 to 9 end the reading.
-fn in_block(item: Item) -> Step
-    ensures { λ r. ⌜ r ≡ inBlockOf item ⌝ }
-{
-    match item {
-        Item::Loop { next, sizes, .. } => Step::Read { next, sizes },
-        Item::Single { next, sizes } => Step::Read { next, sizes },
-        Item::Ragged { at, remainder, .. } => Step::Refused {
-            decision: Decision::Ragged { at, remainder },
-        },
-        Item::NoValue { at, .. } => Step::Refused {
-            decision: Decision::NoValue { at },
-        },
-        Item::NoItem { at } => Step::Refused {
-            decision: Decision::NoItem { at },
-        },
-        Item::NoNames { at } => Step::Refused {
-            decision: Decision::NoNames { at },
-        },
-        Item::Over { at } => Step::Refused {
-            decision: Decision::Over { at },
-        },
-    }
-}
-
-// What an item comes to in a frame: 5, 6 and 7 drop it, 8 and 9 end the reading.
-fn in_frame(item: Item) -> Inside
-    ensures { λ r. ⌜ r ≡ inFrameOf item ⌝ }
-{
-    match item {
-        Item::Loop { next, sizes, .. } => Inside::Read { next, sizes },
-        Item::Single { next, sizes } => Inside::Read { next, sizes },
-        Item::Ragged { stop, .. } => Inside::Dropped { stop },
-        Item::NoValue { stop, .. } => Inside::Dropped { stop },
-        Item::NoItem { at } => Inside::Dropped { stop: at },
-        Item::NoNames { at } => Inside::Refused {
-            decision: Decision::NoNames { at },
-        },
-        Item::Over { at } => Inside::Refused {
-            decision: Decision::Over { at },
-        },
-    }
-}
-
-// A frame's items have ended: `save_` must stand where the last one stopped.
-fn close_frame(s: &[u8], start: usize, sizes: Sizes, stop: usize) -> Step
-    requires { ⌜ Ready (now s) stop × Upto limit sizes ⌝ }
-    ensures { λ r. ⌜ r ≡ frameEnd (now (s .entry)) start sizes stop ⌝ }
-{
-    if !keywords::at_save(s, stop) {
-        return Step::Refused {
-            decision: Decision::OpenFrame { at: start },
-        };
-    }
-    Step::Read {
-        next: gaps::gap_end(s, stop + 5),
-        sizes: sizes.add(3, 5),
-    }
-}
-
-// The frame whose `save_` stands at an offset.
-fn parse_save_frame(s: &[u8], start: usize) -> Step
-    requires { ⌜ Here (now s) start × (startsAt keySave (now s) start ≡ true) ⌝ }
-    ensures { λ r. ⌜ Stepped (now (s .entry)) start r ⌝ }
-{
-    let end = words::parse_identifier(s, start);
-    let mut sizes = Sizes::none().add(2, end - start);
-    let mut at = gaps::gap_end(s, end);
-    loop {
-        let inside = in_frame(parse_data_item(s, at));
-        match inside {
-            Inside::Read { next, sizes: more } => {
-                sizes = sizes.join(more);
-                at = next;
-            }
-            Inside::Dropped { stop } => return close_frame(s, start, sizes, stop),
-            Inside::Refused { decision } => return Step::Refused { decision },
-        }
-    }
-}
-
-// The item or the frame at an offset of the block.
-fn parse_data_item_or_save_frame(s: &[u8], at: usize) -> Step
-    requires { ⌜ Here (now s) at × (at < length (now s)) ⌝ }
-    ensures { λ r. ⌜ Stepped (now (s .entry)) at r ⌝ }
-{
-    if keywords::at_save(s, at) {
-        return parse_save_frame(s, at);
-    }
-    in_block(parse_data_item(s, at))
-}
-
-// The block whose `data_` stands at an offset.
-fn parse_data_block(s: &[u8], start: usize) -> Decision
-    requires { ⌜ Here (now s) start × (startsAt keyData (now s) start ≡ true) ⌝ }
-    ensures { λ r. ⌜ told r ≡ tells (blockAt (now (s .entry)) start) ⌝ }
-{
-    let end = words::parse_identifier(s, start);
-    let mut sizes = Sizes::none().add(1, end - start);
-    let mut at = gaps::gap_end(s, end);
-    while at < s.len() {
-        let step = parse_data_item_or_save_frame(s, at);
-        match step {
-            Step::Read { next, sizes: more } => {
-                sizes = sizes.join(more);
-                at = next;
-            }
-            Step::Refused { decision } => return decision,
-        }
-    }
-    Decision::Fits { sizes }
-}
-
-// What a text of at most 16,777,216 bytes comes to.
-pub fn lex_cif(s: &[u8]) -> Decision
-    requires { ⌜ length (now s) ≤ limit ⌝ }
-    ensures { λ r. ⌜ told r ≡ tells (decided (now (s .entry))) ⌝ }
-{
-    let at = gaps::gap_end(s, 0);
-    if !keywords::at_data(s, at) {
-        return Decision::NoData { at };
-    }
-    parse_data_block(s, at)
 }

@@ -1,2 +1,4 @@
 pub mod Keywords
 pub mod Shape
+pub mod Ended
+pub mod Starts

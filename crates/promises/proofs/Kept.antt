@@ -8,8 +8,8 @@ use mathlib.Core.Option.{Option, none, some}
 use native.Mathlib.Omega.{arith}
 use lib.Dec.{leb, ltb, eqb}
 use Rattle.values.specs.Values.{Class, block, loop, save, tag, value, overLimit, nothing, atEnd, reservedWord, noStart, openQuote, openField}
-use Rattle.items.specs.Tokens.{Tok}
-use Rattle.items.specs.Machine.{Rec, refused, done, State, start, items, names, values, wants, Config, config, Outcome, go, stop, rec, loopEnd, closes, fails, atItem, loopEnds, atValue, noMoreNames, atName, atWant, atStart, move, follow, run}
+use Rattle.grammar.specs.Tokens.{Tok}
+use Rattle.grammar.specs.Machine.{Rec, refused, done, State, start, items, names, values, wants, Config, config, Outcome, go, stop, rec, loopEnd, closes, fails, atItem, loopEnds, atValue, noMoreNames, atName, atWant, atStart, move, follow, run}
 use Rattle.promises.specs.Differences.{isQuoted, insideRec, insideRecs}
 use Rattle.promises.proofs.Veil.{veiled}
 use Rattle.promises.proofs.VeilRead.{insideTok, insideAny, Either, left, right, either, or-split}

@@ -19,9 +19,9 @@ use Rattle.keywords.specs.Keywords.{lower, starts, keyData, keyGlobal, keyLoop,
 use Rattle.quotes.specs.Quotes.{quoted, field}
 use Rattle.numbers.specs.Parts.{parts, isNumber, within}
 use Rattle.values.specs.Values.{Class, Reason, block, loop, save, tag, value, overLimit, nothing, atEnd, reservedWord, noStart, openQuote, openField, Lexed, lexed, numberOr, wordOr, closed, lexValue, lexAsValue}
-use Rattle.items.specs.Tokens.{Mode, before, inBlock, inFrame, saveSize, lexIn, lex}
-use Rattle.items.proofs.Lexes.{pick, lex-tag, lex-loop, lex-save, startsItem, lex-other, lex-plain}
-use Rattle.items.proofs.Descent.{isPlain}
+use Rattle.grammar.specs.Tokens.{Mode, before, inBlock, inFrame, saveSize, lexIn, lex}
+use Rattle.grammar.proofs.Lexes.{pick, lex-tag, lex-loop, lex-save, startsItem, lex-other, lex-plain}
+use Rattle.grammar.proofs.Descent.{isPlain}
 
 pub never : {A : Type 0} → _≡_ {A = ℕ} 0 1 → A
 never e = absurd (omega arith)

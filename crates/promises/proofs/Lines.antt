@@ -4,8 +4,8 @@ use Prim.Native.Nat.{ℕ, suc, _+_}
 use mathlib.Core.Bool.{Bool, true, false}
 use mathlib.Core.List.{List, [], _∷_, _++_}
 use lib.ListN.{length}
-use Rattle.items.specs.Tokens.{Mode, inBlock, inFrame}
-use Rattle.items.specs.Machine.{Rec, loopEnd}
+use Rattle.grammar.specs.Tokens.{Mode, inBlock, inFrame}
+use Rattle.grammar.specs.Machine.{Rec, loopEnd}
 
 pub data Line : Type 0 where
   line : (kind : ℕ) → (bytes : List ℕ) → Line

@@ -20,8 +20,8 @@ use Rattle.numbers.specs.Spelling.{plain, signBytes, renderNumber, Kept}
 use Rattle.numbers.proofs.Made.{all, others, number-made}
 use Rattle.numbers.proofs.Spelled.{digits-plain, some-plain, number-is, number-within, number-here}
 use Rattle.values.specs.Values.{value, lexed, numberOr, wordOr, lexValue}
-use Rattle.items.specs.Tokens.{Mode, lexIn}
-use Rattle.items.proofs.Advance.{Whole}
+use Rattle.grammar.specs.Tokens.{Mode, lexIn}
+use Rattle.grammar.proofs.Advance.{Whole}
 
 -- what holds of each number below n
 abbrev pub All : (ℕ → Type 0) → ℕ → Type 0

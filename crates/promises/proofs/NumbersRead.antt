@@ -36,8 +36,8 @@ use Rattle.records.specs.Bytes.{flag}
 use Rattle.kinds.specs.Kinds.{kindOf, numberOf, shapeOf}
 use Rattle.entries.specs.Entries.{stored}
 use Rattle.values.specs.Values.{Class, Reason, value, overLimit, nothing, openQuote, openField, Lexed, lexed, numberOr, wordOr, closed, lexValue, lexAsValue}
-use Rattle.items.specs.Machine.{Rec, loopEnd}
-use Rattle.items.proofs.Lexes.{pick}
+use Rattle.grammar.specs.Machine.{Rec, loopEnd}
+use Rattle.grammar.proofs.Lexes.{pick}
 use Rattle.writing.specs.Writing.{tokenOf, tokenText, tagsOf, decimalOf as readDecimal}
 use Rattle.reading.specs.Services.{readAnswer}
 use Rattle.stores.specs.Walk.{entries}

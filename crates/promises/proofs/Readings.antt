@@ -15,10 +15,10 @@ use Rattle.numbers.specs.Meaning.{meaning}
 use Rattle.kinds.specs.Kinds.{kindOf, shapeOf, shapeLength, marksOf, opening, bodyLength, isContent, hasContent}
 use Rattle.values.specs.Values.{lexed, numberOr, wordOr, closed, lexValue, lexAsValue}
 use Rattle.values.specs.Answers.{whyOf, answer, valueAnswer}
-use Rattle.items.specs.Tokens.{saveSize, lexIn, lex, after, tok, emit, step, tokensFrom, tokens}
-use Rattle.items.specs.Machine.{config, rec, loopEnd, closes, fails, atItem, loopEnds, atValue, noMoreNames, atName, atWant, atStart, move, follow, run}
-use Rattle.items.specs.Sizes.{contentSize, storeSize, areaSize}
-use Rattle.items.specs.Reading.{limit, decided, outline}
+use Rattle.grammar.specs.Tokens.{saveSize, lexIn, lex, after, tok, emit, step, tokensFrom, tokens}
+use Rattle.grammar.specs.Machine.{config, rec, loopEnd, closes, fails, atItem, loopEnds, atValue, noMoreNames, atName, atWant, atStart, move, follow, run}
+use Rattle.sizes.specs.Sizes.{contentSize, storeSize, areaSize}
+use Rattle.grammar.specs.Reading.{limit, decided, outline}
 use Rattle.writing.specs.Writing.{contentOf, areaOf}
 use Rattle.reading.specs.Services.{refusal, readRoom, readBy, readAnswer}
 use Rattle.promises.specs.Readings.{bytes, rowOf, seen, asked, reads, means, done-with, decimal, whole, readings, ReadingsHold}

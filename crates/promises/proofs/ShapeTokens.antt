@@ -12,8 +12,8 @@ use Rattle.words.specs.Words.{word}
 use Rattle.keywords.specs.Keywords.{lower, starts, keyData, keyGlobal, keyLoop, keySave, keyStop}
 use Rattle.numbers.specs.Parts.{parts}
 use Rattle.values.specs.Values.{Lexed, numberOr, wordOr, lexValue}
-use Rattle.items.specs.Tokens.{Mode, before, inBlock, inFrame, saveSize, lexIn, lex, step, tokensFrom, tokens}
-use Rattle.items.specs.Reading.{decided, outline}
+use Rattle.grammar.specs.Tokens.{Mode, before, inBlock, inFrame, saveSize, lexIn, lex, step, tokensFrom, tokens}
+use Rattle.grammar.specs.Reading.{decided, outline}
 use Rattle.promises.proofs.Places.{take-map, placeAt-w}
 use Rattle.text.proofs.Shape.{σ, blind, is-σ, span-σ}
 use Rattle.gaps.proofs.Shape.{gap-σ}

@@ -10,9 +10,9 @@ use Rattle.text.specs.Bytes.{endsWord}
 use Rattle.words.specs.Words.{inWord}
 use Rattle.values.specs.Values.{Class, block, loop, save, tag, value, Lexed, lexed, lexAsValue}
 use Rattle.values.proofs.Laws.{Lies, value-lies}
-use Rattle.items.specs.Tokens.{Mode, before, inBlock, inFrame, lexIn, lex}
-use Rattle.items.specs.Machine.{Rec, loopEnd}
-use Rattle.items.proofs.Fits.{lex-fits}
+use Rattle.grammar.specs.Tokens.{Mode, before, inBlock, inFrame, lexIn, lex}
+use Rattle.grammar.specs.Machine.{Rec, loopEnd}
+use Rattle.grammar.proofs.Fits.{lex-fits}
 use Rattle.promises.proofs.Lines.{modeOf}
 use Rattle.promises.proofs.Lexing.{as-value, NumberWord, number-word, Worded, keyTag, tag-word, plainKey, key-word}
 use Rattle.promises.proofs.Taken.{Took, Tags, opens, named, Rows, first, next, Taken, heading, single, rows, no-rows, opened, shut}

@@ -9,9 +9,9 @@ use borrow.Author.Tests.{eq-eqb}
 use native.Mathlib.Nat.{zero-mod}
 use lib.ListN.{length}
 use Rattle.values.specs.Values.{Class, loop, save, tag, value, nothing, atEnd, lexed}
-use Rattle.items.specs.Tokens.{inBlock, inFrame, lexIn, lex, after, Tok, tok, tokensFrom}
-use Rattle.items.specs.Machine.{Rec, done, State, items, names, values, wants, config, rec, loopEnd, atItem, loopEnds, atValue, noMoreNames, atName, atWant, move, follow, run}
-use Rattle.items.proofs.Advance.{Whole, advance}
+use Rattle.grammar.specs.Tokens.{inBlock, inFrame, lexIn, lex, after, Tok, tok, tokensFrom}
+use Rattle.grammar.specs.Machine.{Rec, done, State, items, names, values, wants, config, rec, loopEnd, atItem, loopEnds, atValue, noMoreNames, atName, atWant, move, follow, run}
+use Rattle.grammar.proofs.Advance.{Whole, advance}
 use Rattle.promises.proofs.Lines.{Line, line, ending, render, recsAt, modeOf, Where, at-items, at-names, at-values, at-value}
 
 -- w alone is read whole, as a token of this class

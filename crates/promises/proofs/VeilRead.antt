@@ -12,7 +12,7 @@ use Rattle.text.specs.Bytes.{is, isEol, isDigit}
 use Rattle.text.proofs.Ranges.{digit-not}
 use Rattle.text.proofs.Bools.{and-l, and-r}
 use Rattle.values.specs.Values.{Class, Lexed}
-use Rattle.items.specs.Tokens.{Mode, lex, after, Tok, tok, emit, step, tokensFrom}
+use Rattle.grammar.specs.Tokens.{Mode, lex, after, Tok, tok, emit, step, tokensFrom}
 use Rattle.promises.specs.Differences.{isMark}
 use Rattle.text.proofs.Shape.{σ, blind}
 use Rattle.promises.proofs.Veil.{μ, veiled, Byte, isZero, relEmit, relStep, Rel}

@@ -7,7 +7,7 @@ use mathlib.Core.List.{List, [], _∷_}
 use lib.Dec.{leb, ltb}
 use lib.ListN.{length, getD}
 use Rattle.text.specs.Bytes.{is, isAscii, isDigit, isEol}
-use Rattle.items.specs.Machine.{Rec}
+use Rattle.grammar.specs.Machine.{Rec}
 
 -- the bytes that open and close values, and line ends: `'`, `"`, `;`, LF, CR
 unfoldable pub isMark : ℕ → Bool

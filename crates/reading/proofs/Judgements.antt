@@ -2,9 +2,9 @@
 use Prim.Native.Nat.{ℕ}
 use mathlib.Core.Path.{_≡_, refl}
 use mathlib.Core.List.{List}
-use Rattle.items.specs.Machine.{Answer, refused, done}
-use Rattle.items.specs.Decisions.{tells, refusal, room}
-use Rattle.items.specs.Sizes.{sizesOf}
+use Rattle.grammar.specs.Machine.{Answer, refused, done}
+use Rattle.deciding.specs.Decisions.{tells, refusal, room}
+use Rattle.sizes.specs.Sizes.{sizesOf}
 use Rattle.reading.specs.Judging.{judgement, declined}
 
 pub declined-judgement : (s : List ℕ) (a : Answer) → declined s (tells a) ≡ judgement s a

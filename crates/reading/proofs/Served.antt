@@ -11,10 +11,10 @@ use Rattle.text.specs.Bytes.{isAscii}
 use Rattle.text.specs.Runs.{span}
 use Rattle.places.specs.Reports.{success, noRoom}
 use Rattle.records.specs.Put.{front}
-use Rattle.items.specs.declared.Sizes.{Sizes}
-use Rattle.items.specs.Machine.{Rec, Answer, refused, done}
-use Rattle.items.specs.Reading.{outline, decided, limit}
-use Rattle.items.specs.Sizes.{sizesOf, storeSize, outlineSize, areaSize}
+use Rattle.sizes.specs.declared.Sizes.{Sizes}
+use Rattle.grammar.specs.Machine.{Rec, Answer, refused, done}
+use Rattle.grammar.specs.Reading.{outline, decided, limit}
+use Rattle.sizes.specs.Sizes.{sizesOf, storeSize, outlineSize, areaSize}
 use Rattle.writing.specs.Writing.{storeOf, areaOf, areaIn}
 use Rattle.reading.specs.declared.Refusal.{Refusal}
 use Rattle.reading.specs.declared.Judged.{Judged}

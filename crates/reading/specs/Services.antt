@@ -9,9 +9,9 @@ use Rattle.places.specs.Places.{placeAt}
 use Rattle.places.specs.Reports.{success, refusedAt, refusedBare, noRoom}
 use Rattle.places.specs.declared.Report.{Report}
 use Rattle.records.specs.Put.{front}
-use Rattle.items.specs.Machine.{Rec, Answer, refused, done}
-use Rattle.items.specs.Reading.{outline}
-use Rattle.items.specs.Sizes.{storeSize, outlineSize, areaSize}
+use Rattle.grammar.specs.Machine.{Rec, Answer, refused, done}
+use Rattle.grammar.specs.Reading.{outline}
+use Rattle.sizes.specs.Sizes.{storeSize, outlineSize, areaSize}
 use Rattle.writing.specs.Writing.{storeOf, areaOf}
 use Rattle.reading.specs.declared.Refusal.{Refusal}
 use Rattle.reading.specs.declared.Refusal.the-variants.{TooLong, NotAscii, NoData, OpenFrame, Ragged, NoValue, NoItem, NoNames, OverLimit}

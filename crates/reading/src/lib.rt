@@ -2,14 +2,14 @@
 ghost use mathlib.Core.Path.{_≡_};
 ghost use lib.ListN.{length};
 ghost use Rattle.places.specs.Reports.{refusedAt, noRoom};
-ghost use Rattle.items.specs.Reading.{outline as outlineOf};
-ghost use Rattle.items.specs.Decisions.{told};
+ghost use Rattle.grammar.specs.Reading.{outline as outlineOf};
+ghost use Rattle.deciding.specs.Decisions.{told};
 ghost use Rattle.reading.specs.Services.{readAnswer, readStore, readArea, outlineAnswer, outlineStore, refusalReport, readingReport, outlinedReport};
 ghost use Rattle.reading.specs.Judging.{judgement, judgedAs, declined, IsRead};
-use items::Decision;
-use items::Sizes;
+use deciding::Decision;
 use places::Place;
 use places::Report;
+use sizes::Sizes;
 
 // What a text is refused for, 1 to 9.
 pub enum Refusal {
@@ -180,7 +180,7 @@ fn judge(s: &[u8]) -> Judged
             },
         };
     }
-    placed(s, items::lex_cif(s))
+    placed(s, deciding::lex_cif(s))
 }
 
 // Read of a text that is read: room, then the records.

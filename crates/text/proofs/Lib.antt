@@ -3,3 +3,4 @@ pub mod Ranges
 pub mod Runs
 pub mod Blocks
 pub mod Shape
+pub mod Ended

@@ -2,3 +2,5 @@ pub mod Points
 pub mod Pieces
 pub mod Views
 pub mod Laws
+pub mod Tokens
+pub mod Ended

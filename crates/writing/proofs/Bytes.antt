@@ -13,8 +13,8 @@ use Rattle.kinds.specs.declared.Shape.the-variants.{Empty, Place, Content, Coun
 use Rattle.records.specs.Bytes.{le32, le64, signed32}
 use Rattle.kinds.specs.Kinds.{kindOf, shapeOf, shapeLength, outlineShape, bodyLength, outlineLength, marksOf, opening, hasContent}
 use Rattle.records.specs.Records.{tokenBytes, decimalBytes, placeRecord, contentRecord, loopRecord, numberRecord, uncertainRecord}
-use Rattle.items.specs.Machine.{Rec}
-use Rattle.items.specs.Sizes.{contentSize, storeSize, outlineSize, areaSize}
+use Rattle.grammar.specs.Machine.{Rec}
+use Rattle.sizes.specs.Sizes.{contentSize, storeSize, outlineSize, areaSize}
 use Rattle.writing.specs.Writing.{shaped, shapeIn, recordBytes, tagsOf, storeOf, contentOf, areaOf}
 use Rattle.writing.specs.Walk.{storeLength, recordLength}
 

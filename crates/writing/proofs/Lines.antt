@@ -19,8 +19,8 @@ use Rattle.numbers.specs.Parts.{parts, isNumber, within}
 use Rattle.values.specs.Values.{Class, Reason, loop, save, tag, value, overLimit, nothing, atEnd, reservedWord, noStart, openQuote, openField, Lexed, lexed, numberOr, wordOr, closed, lexValue}
 use Rattle.kinds.specs.Kinds.{kindOf, marksOf}
 use Rattle.gaps.specs.Gaps.{gap}
-use Rattle.items.specs.Tokens.{Mode, inBlock, lexIn, lex, Tok, tok}
-use Rattle.items.proofs.Offsets.{Met, first}
+use Rattle.grammar.specs.Tokens.{Mode, inBlock, lexIn, lex, Tok, tok}
+use Rattle.grammar.proofs.Offsets.{Met, first}
 use Rattle.writing.specs.Walk.{IsToken}
 
 -- the first bytes of a word

@@ -14,8 +14,8 @@ use Rattle.kinds.specs.declared.Shape.the-variants.{Place as PlaceAlone, Conten
 use Rattle.kinds.specs.Kinds.{kindOf, shapeOf, shapeLength, outlineShape, marksOf, opening, isContent, hasContent, bodyLength, outlineLength}
 use Rattle.records.specs.Put.{put}
 use Rattle.records.specs.Records.{endRecord, placeRecord}
-use Rattle.items.specs.Sizes.{contentSize, storeSize, outlineSize, areaSize}
-use Rattle.items.specs.Machine.{Rec, loopEnd}
+use Rattle.sizes.specs.Sizes.{contentSize, storeSize, outlineSize, areaSize}
+use Rattle.grammar.specs.Machine.{Rec, loopEnd}
 use Rattle.writing.specs.declared.Cursor.{Cursor}
 use Rattle.writing.specs.Writing.{tokenAt, tokenOf, contentBytes, loopBytes, numberBytes, contentOf, decimalOf, shapeIn, shaped, recordBytes}
 use Rattle.writing.specs.Walk.{storeLength, recordLength, Desk, desk, Going, IsToken, recAt, WroteOne}

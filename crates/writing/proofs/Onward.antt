@@ -6,9 +6,9 @@ use mathlib.Core.List.{List, [], _∷_, _++_}
 use native.Mathlib.Omega.{arith}
 use lib.ListN.{length, length-append}
 use Rattle.records.specs.Put.{put}
-use Rattle.items.specs.Machine.{Rec}
+use Rattle.grammar.specs.Machine.{Rec}
 use Rattle.places.specs.Places.{placeAt}
-use Rattle.items.specs.Sizes.{contentSize, areaSize}
+use Rattle.sizes.specs.Sizes.{contentSize, areaSize}
 use Rattle.writing.specs.Writing.{recordBytes, tagsOf, storeOf, contentOf, areaOf, areaIn}
 use Rattle.writing.specs.Walk.{storeLength, Desk, Going, Room, WroteOne, Wrote, Onward}
 use Rattle.records.proofs.Putting.{length-put, put-more}

@@ -6,8 +6,8 @@ use mathlib.Core.List.{List, [], _∷_, _++_, append-assoc}
 use mathlib.Core.Option.{Option, none, some}
 use lib.Dec.{eqb}
 use Rattle.values.specs.Values.{Class, block, loop, save, tag, value, overLimit, nothing, atEnd, reservedWord, noStart, openQuote, openField}
-use Rattle.items.specs.Tokens.{Tok}
-use Rattle.items.specs.Machine.{Rec, Answer, refused, done, State, start, items, names, values, wants, config, Outcome, go, stop, loopEnd, closes, fails, atItem, loopEnds, atValue, noMoreNames, atName, atWant, move, follow, run}
+use Rattle.grammar.specs.Tokens.{Tok}
+use Rattle.grammar.specs.Machine.{Rec, Answer, refused, done, State, start, items, names, values, wants, config, Outcome, go, stop, loopEnd, closes, fails, atItem, loopEnds, atValue, noMoreNames, atName, atWant, move, follow, run}
 
 unfoldable pub prefixed : List Rec → Answer → Answer
 prefixed p (done rs) = done (p ++ rs)

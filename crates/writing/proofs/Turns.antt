@@ -24,16 +24,17 @@ use Rattle.values.specs.declared.Value.the-variants.{Token, Number}
 use Rattle.kinds.specs.declared.Shape.the-variants.{Place as PlaceAlone, Content}
 use Rattle.kinds.specs.Kinds.{kindOf, shapeOf, marksOf}
 use Rattle.items.specs.declared.Found.the-variants.{Value}
-use Rattle.items.specs.Tokens.{inBlock, lexIn, lex, after, tok}
-use Rattle.items.specs.Machine.{rec}
-use Rattle.items.specs.Descent.{nameRecs, afterNames, valueRecs, afterValues}
-use Rattle.items.specs.Decisions.{tokensAt}
-use Rattle.items.specs.Answers.{tagAt, foundOf, foundAt, kindOfNumber}
-use Rattle.items.proofs.Descent.{names-more, names-none, values-more, values-none}
-use Rattle.items.proofs.Lexes.{no-name}
+use Rattle.grammar.specs.Tokens.{inBlock, lexIn, lex, after, tok}
+use Rattle.grammar.specs.Machine.{rec}
+use Rattle.grammar.specs.Descent.{nameRecs, afterNames, valueRecs, afterValues}
+use Rattle.grammar.specs.Tokens.{tokensAt}
+use Rattle.items.specs.Answers.{foundOf, foundAt, kindOfNumber}
+use Rattle.grammar.specs.Tokens.{tagAt}
+use Rattle.grammar.proofs.Descent.{names-more, names-none, values-more, values-none}
+use Rattle.grammar.proofs.Lexes.{no-name}
 use Rattle.items.proofs.Wanted.{found-wanted}
 use Rattle.items.proofs.Lists.{met-value, no-value}
-use Rattle.items.proofs.Offsets.{tokens-gap, Met, met-tag, first}
+use Rattle.grammar.proofs.Offsets.{tokens-gap, Met, met-tag, first}
 use Rattle.writing.specs.declared.Cursor.{Cursor}
 use Rattle.writing.specs.Walk.{IsToken, Going, ValueHere, recAt}
 use Rattle.writing.specs.Writing.{decimalOf, tokenText}

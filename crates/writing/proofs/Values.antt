@@ -5,7 +5,7 @@ use mathlib.Core.Bool.{Bool}
 use mathlib.Core.List.{List}
 use Rattle.gaps.specs.Gaps.{gapEnd}
 use Rattle.places.specs.Places.{placeAt}
-use Rattle.items.specs.Machine.{Rec}
+use Rattle.grammar.specs.Machine.{Rec}
 use Rattle.writing.specs.declared.Cursor.{Cursor}
 use Rattle.writing.specs.Walk.{Desk, desk, Going, Room, WroteOne, Wrote, behindGap}
 use Rattle.writing.proofs.Turns.{going-on}

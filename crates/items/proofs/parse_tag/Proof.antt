@@ -2,12 +2,12 @@
 use Prim.Native.Nat.{_*_, _-_}
 use mathlib.Core.Path.{sym, _∙_}
 use native.Mathlib.Omega.{arith}
-use Rattle.items.specs.Reading.{limit}
-use Rattle.items.specs.Sizes.{noSizes}
+use Rattle.grammar.specs.Reading.{limit}
+use Rattle.sizes.specs.Sizes.{noSizes}
 use Rattle.items.proofs.Choices.{not-value}
 use Rattle.items.proofs.First.{found-lies}
 use Rattle.items.proofs.Items.{TagRead, tag-onward, tag-value-within, tag-value, tag-alone}
-use Rattle.items.proofs.Room.{upto-none, upto-added}
+use Rattle.sizes.proofs.Room.{upto-none, upto-added}
 use borrow.Author.Needs.{needs}
 use Rattle.items.proofs.parse_tag.Statement.{statement}
 use Rattle.items.proofs.parse_tag.Tie as tie

@@ -1,6 +1,6 @@
 -- `reading::placed`: case by case, each offset as its place. Assumes nothing.
 use Rattle.places.specs.Reports.{success}
-use Rattle.items.specs.Decisions.{told, refusal as toldRefusal, room}
+use Rattle.deciding.specs.Decisions.{told, refusal as toldRefusal, room}
 use Rattle.reading.specs.Services.{refusal, refusalReport}
 use Rattle.reading.specs.Judging.{judgedAs, declined, noSizes}
 use borrow.Author.Needs.{needs}

@@ -6,9 +6,9 @@ use lib.ListN.{length}
 use Rattle.gaps.specs.Gaps.{gapEnd}
 use Rattle.gaps.proofs.Gaps.{gap-from, gap-within}
 use Rattle.words.specs.Words.{wordEnd}
-use Rattle.items.specs.Tokens.{inBlock}
-use Rattle.items.specs.Descent.{nameRecs}
-use Rattle.items.proofs.Offsets.{tokens-gap}
+use Rattle.grammar.specs.Tokens.{inBlock}
+use Rattle.grammar.specs.Descent.{nameRecs}
+use Rattle.grammar.proofs.Offsets.{tokens-gap}
 use Rattle.writing.proofs.Lists.{namesFrom, gap-twice}
 use Rattle.writing.proofs.Items.{count-turn, count-none}
 use Rattle.writing.proofs.count_tags.Statement.{statement}

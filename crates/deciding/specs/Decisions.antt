@@ -1,0 +1,37 @@
+-- The decision on a text: document 01's number, offset, detail and lengths for each case. Assumes nothing.
+use Prim.Native.Nat.{ℕ}
+use mathlib.Core.Bool.{Bool, true, false}
+use Rattle.deciding.specs.declared.Decision.{Decision}
+use Rattle.deciding.specs.declared.Decision.the-variants.{Fits, NoData, OpenFrame, Ragged, NoValue, NoItem, NoNames, Over}
+use Rattle.grammar.specs.Machine.{Answer, refused, done}
+use Rattle.sizes.specs.Sizes.{storeSize, outlineSize, areaSize}
+
+-- an answer in document 01's numbers; the flag: the text is read
+pub record Told : Type 0 where
+  pub isRead : Bool
+  pub number : ℕ
+  pub offset : ℕ
+  pub detail : ℕ
+  pub store : ℕ
+  pub outline : ℕ
+  pub area : ℕ
+
+unfoldable pub refusal : ℕ → ℕ → ℕ → Told
+refusal n o d = record { isRead = false; number = n; offset = o; detail = d; store = 0; outline = 0; area = 0 }
+
+unfoldable pub room : ℕ → ℕ → ℕ → Told
+room m o a = record { isRead = true; number = 0; offset = 0; detail = 0; store = m; outline = o; area = a }
+
+unfoldable pub told : Decision → Told
+told (Fits z) = room (z .store) (z .outline) (z .area)
+told (NoData o) = refusal 3 o 0
+told (OpenFrame o) = refusal 4 o 0
+told (Ragged o d) = refusal 5 o d
+told (NoValue o) = refusal 6 o 0
+told (NoItem o) = refusal 7 o 0
+told (NoNames o) = refusal 8 o 0
+told (Over o) = refusal 9 o 0
+
+unfoldable pub tells : Answer → Told
+tells (refused n o d) = refusal n o d
+tells (done rs) = room (storeSize rs) (outlineSize rs) (areaSize rs)

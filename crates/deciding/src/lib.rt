@@ -1,0 +1,164 @@
+// Frames, the block and the whole text: what it is refused for, or how much room its records take.
+ghost use mathlib.Core.Path.{_≡_};
+ghost use mathlib.Core.Bool.{true};
+ghost use Prim.Native.Nat.{_≤_, _<_};
+ghost use lib.ListN.{length};
+ghost use Rattle.keywords.specs.Keywords.{startsAt, keyData, keySave};
+ghost use Rattle.sizes.specs.Sizes.{Upto};
+ghost use Rattle.deciding.specs.Decisions.{told, tells};
+ghost use Rattle.grammar.specs.Reading.{decided, limit};
+ghost use Rattle.items.specs.Answers.{Ready, Here};
+ghost use Rattle.deciding.specs.Frames.{inBlockOf, inFrameOf, frameEnd, Stepped, blockAt};
+use items::Item;
+use kinds::Kind;
+use sizes::Sizes;
+
+// What a text comes to: the room for its records, or a refusal, 3 to 9, with its offset.
+pub enum Decision {
+    Fits { sizes: Sizes },
+    NoData { at: usize },
+    OpenFrame { at: usize },
+    Ragged { at: usize, remainder: usize },
+    NoValue { at: usize },
+    NoItem { at: usize },
+    NoNames { at: usize },
+    Over { at: usize },
+}
+
+// What an item, or a frame, is in the block: read, or the reading's end.
+enum Step {
+    Read { next: usize, sizes: Sizes },
+    Refused { decision: Decision },
+}
+
+// What an item is in a frame: read; dropped, with the offset where it stopped; or the reading's end.
+enum Inside {
+    Read { next: usize, sizes: Sizes },
+    Dropped { stop: usize },
+    Refused { decision: Decision },
+}
+
+// What an item comes to in the block: 5 to 9 end the reading.
+fn in_block(item: Item) -> Step
+    ensures { λ r. ⌜ r ≡ inBlockOf item ⌝ }
+{
+    match item {
+        Item::Loop { next, sizes, .. } => Step::Read { next, sizes },
+        Item::Single { next, sizes } => Step::Read { next, sizes },
+        Item::Ragged { at, remainder, .. } => Step::Refused {
+            decision: Decision::Ragged { at, remainder },
+        },
+        Item::NoValue { at, .. } => Step::Refused {
+            decision: Decision::NoValue { at },
+        },
+        Item::NoItem { at } => Step::Refused {
+            decision: Decision::NoItem { at },
+        },
+        Item::NoNames { at } => Step::Refused {
+            decision: Decision::NoNames { at },
+        },
+        Item::Over { at } => Step::Refused {
+            decision: Decision::Over { at },
+        },
+    }
+}
+
+// What an item comes to in a frame: 5, 6 and 7 drop it, 8 and 9 end the reading.
+fn in_frame(item: Item) -> Inside
+    ensures { λ r. ⌜ r ≡ inFrameOf item ⌝ }
+{
+    match item {
+        Item::Loop { next, sizes, .. } => Inside::Read { next, sizes },
+        Item::Single { next, sizes } => Inside::Read { next, sizes },
+        Item::Ragged { stop, .. } => Inside::Dropped { stop },
+        Item::NoValue { stop, .. } => Inside::Dropped { stop },
+        Item::NoItem { at } => Inside::Dropped { stop: at },
+        Item::NoNames { at } => Inside::Refused {
+            decision: Decision::NoNames { at },
+        },
+        Item::Over { at } => Inside::Refused {
+            decision: Decision::Over { at },
+        },
+    }
+}
+
+// A frame's items have ended: `save_` must stand where the last one stopped.
+fn close_frame(s: &[u8], start: usize, sizes: Sizes, stop: usize) -> Step
+    requires { ⌜ Ready (now s) stop × Upto limit sizes ⌝ }
+    ensures { λ r. ⌜ r ≡ frameEnd (now (s .entry)) start sizes stop ⌝ }
+{
+    if !keywords::at_save(s, stop) {
+        return Step::Refused {
+            decision: Decision::OpenFrame { at: start },
+        };
+    }
+    Step::Read {
+        next: gaps::gap_end(s, stop + 5),
+        sizes: sizes.add(Kind::FRAME_CLOSE, 5),
+    }
+}
+
+// The frame whose `save_` stands at an offset.
+fn parse_save_frame(s: &[u8], start: usize) -> Step
+    requires { ⌜ Here (now s) start × (startsAt keySave (now s) start ≡ true) ⌝ }
+    ensures { λ r. ⌜ Stepped (now (s .entry)) start r ⌝ }
+{
+    let end = words::parse_identifier(s, start);
+    let mut sizes = Sizes::none().add(Kind::FRAME_OPEN, end - start);
+    let mut at = gaps::gap_end(s, end);
+    loop {
+        let inside = in_frame(items::parse_data_item(s, at));
+        match inside {
+            Inside::Read { next, sizes: more } => {
+                sizes = sizes.join(more);
+                at = next;
+            }
+            Inside::Dropped { stop } => return close_frame(s, start, sizes, stop),
+            Inside::Refused { decision } => return Step::Refused { decision },
+        }
+    }
+}
+
+// The item or the frame at an offset of the block.
+fn parse_data_item_or_save_frame(s: &[u8], at: usize) -> Step
+    requires { ⌜ Here (now s) at × (at < length (now s)) ⌝ }
+    ensures { λ r. ⌜ Stepped (now (s .entry)) at r ⌝ }
+{
+    if keywords::at_save(s, at) {
+        return parse_save_frame(s, at);
+    }
+    in_block(items::parse_data_item(s, at))
+}
+
+// The block whose `data_` stands at an offset.
+fn parse_data_block(s: &[u8], start: usize) -> Decision
+    requires { ⌜ Here (now s) start × (startsAt keyData (now s) start ≡ true) ⌝ }
+    ensures { λ r. ⌜ told r ≡ tells (blockAt (now (s .entry)) start) ⌝ }
+{
+    let end = words::parse_identifier(s, start);
+    let mut sizes = Sizes::none().add(Kind::BLOCK, end - start);
+    let mut at = gaps::gap_end(s, end);
+    while at < s.len() {
+        let step = parse_data_item_or_save_frame(s, at);
+        match step {
+            Step::Read { next, sizes: more } => {
+                sizes = sizes.join(more);
+                at = next;
+            }
+            Step::Refused { decision } => return decision,
+        }
+    }
+    Decision::Fits { sizes }
+}
+
+// What a text of at most 16,777,216 bytes comes to.
+pub fn lex_cif(s: &[u8]) -> Decision
+    requires { ⌜ length (now s) ≤ limit ⌝ }
+    ensures { λ r. ⌜ told r ≡ tells (decided (now (s .entry))) ⌝ }
+{
+    let at = gaps::gap_end(s, 0);
+    if !keywords::at_data(s, at) {
+        return Decision::NoData { at };
+    }
+    parse_data_block(s, at)
+}

@@ -1,0 +1,4 @@
+pub mod Tokens
+pub mod Machine
+pub mod Reading
+pub mod Descent
