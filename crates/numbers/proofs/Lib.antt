@@ -1,3 +1,4 @@
+pub mod Shape
 pub mod Spell
 pub mod Made
 pub mod Spelled
@@ -7,4 +8,3 @@ pub mod Pieces
 pub mod Limits
 pub mod Bridge
 pub mod Facts
-pub mod Shape
