@@ -10,3 +10,5 @@ pub mod Facts
 pub mod Shape
 pub mod Plain
 pub mod Unscaled
+pub mod Counting
+pub mod Rendered

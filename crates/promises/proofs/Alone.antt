@@ -33,7 +33,8 @@ use Rattle.items.specs.Tokens.{Mode, inBlock, inFrame, saveSize, lexIn}
 use Rattle.items.proofs.Advance.{Whole}
 use Rattle.items.proofs.Lexes.{lex-tag, lex-loop, lex-save}
 use Rattle.stores.specs.Nesting.{isValueKind}
-use Rattle.stores.specs.Contents.{isKind, isAlone, isName, readableBy, readable, exponentKept, partsKept, contentLength, contentBytes, contentKept, ownRule}
+use Rattle.stores.specs.Contents.{isName, readableBy, readable, exponentKept, partsKept, contentLength, contentBytes, contentKept, ownRule}
+use Rattle.values.specs.Alone.{isKind, isAlone}
 use Rattle.rendering.specs.Rendering.{decimalOf, tokenText}
 use Rattle.promises.proofs.Lexing.{in-any-mode, key-word, plainKey, keyTag}
 use Rattle.promises.proofs.Lines.{modeOf}

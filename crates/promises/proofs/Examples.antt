@@ -16,9 +16,10 @@ use Rattle.entries.specs.Entries.{de32, de64, noParts, tokenOf as tokenAt, part
 use Rattle.items.specs.Machine.{Rec}
 use Rattle.writing.specs.Writing.{tokenOf, tokenText, decimalOf, shaped, shapeIn, recordBytes, tagsOf, storeOf}
 use Rattle.reading.specs.Services.{writtenIf, readStoreBy, readStore, readAreaBy, readArea}
-use Rattle.stores.specs.Walk.{onward, entriesFrom, entries}
+use Rattle.entries.specs.Walk.{onward, entriesFrom, entries}
 use Rattle.stores.specs.Nesting.{isValueKind, opensLoop, atItems, afterName, atNames, atValues, standing, ended, follow, nestedFrom, nested}
-use Rattle.stores.specs.Contents.{isKind as isKindAlone, isAlone, isName, readableBy, readable, exponentKept, partsKept, contentLength, contentBytes, contentKept, ownRule, takes, filledFrom, filled}
+use Rattle.stores.specs.Contents.{isName, readableBy, readable, exponentKept, partsKept, contentLength, contentBytes, contentKept, ownRule, takes, filledFrom, filled}
+use Rattle.values.specs.Alone.{isKind as isKindAlone, isAlone}
 use Rattle.stores.specs.Soundness.{sound}
 use Rattle.rendering.specs.Rendering.{decimalOf as renderedDecimal, tokenText as renderedText, isEnd, lineOf, linesOf, rendering, limit as renderLimit, renderRoom, renderAnswer, renderOut}
 use Rattle.promises.specs.Differences.{isMark, isQuoted, insideRec, insideRecs, Swap, same, digits, inside, Differ, DigitsDiffer, ContentsDiffer}

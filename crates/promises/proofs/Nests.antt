@@ -22,7 +22,7 @@ use Rattle.kinds.specs.declared.Shape.the-variants.{Empty, Place, Content, Coun
 use Rattle.kinds.specs.Kinds.{kindOf, numberOf, shapeOf, shapeLength, bodyLength, isContent}
 use Rattle.entries.specs.Entries.{de32, partsOf, plainFields, partsFields, fieldsOf, isKind, entryOf, entryAt}
 use Rattle.values.specs.Values.{tag, loop, save, value}
-use Rattle.stores.specs.Walk.{onward, entriesFrom, entries}
+use Rattle.entries.specs.Walk.{onward, entriesFrom, entries}
 use Rattle.stores.specs.declared.Stand.{Stand}
 use Rattle.stores.specs.declared.Stand.the-variants.{Stands, Falls}
 use Rattle.stores.specs.declared.Where.{Where}

@@ -39,7 +39,7 @@ use Rattle.items.specs.Machine.{Rec, loopEnd}
 use Rattle.items.proofs.Lexes.{pick}
 use Rattle.writing.specs.Writing.{tokenOf, tokenText, tagsOf, decimalOf as readDecimal}
 use Rattle.reading.specs.Services.{readAnswer}
-use Rattle.stores.specs.Walk.{entries}
+use Rattle.entries.specs.Walk.{entries}
 use Rattle.stores.specs.Nesting.{isValueKind}
 use Rattle.stores.specs.Content.{nth}
 use Rattle.rendering.specs.Rendering.{decimalOf}

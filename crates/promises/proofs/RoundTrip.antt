@@ -35,7 +35,7 @@ use Rattle.items.proofs.Ended.{word-ended, starts-ended, noLf}
 use Rattle.items.proofs.Advance.{advance₀}
 use Rattle.writing.specs.Writing.{storeOf, areaOf}
 use Rattle.reading.specs.Services.{readAnswer}
-use Rattle.stores.specs.Walk.{entries}
+use Rattle.entries.specs.Walk.{entries}
 use Rattle.stores.specs.declared.Stand.the-variants.{Stands, Falls}
 use Rattle.stores.specs.declared.Where.the-variants.{Start, Items}
 use Rattle.stores.specs.Nesting.{nested, nestedFrom, standing, ended, follow as follows}

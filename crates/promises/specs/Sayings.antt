@@ -11,7 +11,7 @@ use Rattle.entries.specs.declared.Fields.{Fields}
 use Rattle.kinds.specs.declared.Kind.{Kind}
 use Rattle.entries.specs.declared.Parts.{Parts}
 use Rattle.kinds.specs.Kinds.{shapeOf, isContent}
-use Rattle.stores.specs.Walk.{entries}
+use Rattle.entries.specs.Walk.{entries}
 use Rattle.stores.specs.Contents.{contentBytes}
 
 -- a list of bytes

@@ -1,2 +1,3 @@
 pub mod Quotes
 pub mod Shape
+pub mod Content

@@ -16,11 +16,11 @@ use Rattle.entries.specs.Entries.{entryAt}
 use Rattle.kinds.specs.Kinds.{shapeOf, isContent}
 use Rattle.records.specs.Put.{front, put}
 use Rattle.records.proofs.Putting.{length-front, front-none, front-next}
-use Rattle.stores.specs.Walk.{entries}
+use Rattle.entries.specs.Walk.{entries}
 use Rattle.stores.specs.Nesting.{nested}
 use Rattle.stores.specs.Contents.{contentKept, ownRule, takes, partsKept, filledFrom, filled}
 use Rattle.stores.specs.Soundness.{sound}
-use Rattle.stores.proofs.Walking.{rest, rest-all, rest-over, rest-none, next-at}
+use Rattle.entries.proofs.Walking.{rest, rest-all, rest-over, rest-none, next-at}
 use Rattle.stores.proofs.Filling.{content-kept}
 use Rattle.rendering.specs.Rendering.{lineOf, linesOf, rendering, limit}
 use Rattle.rendering.specs.Writing.{Wrote, own, Owned, none, more, keepsDigits, lineLength, capped}

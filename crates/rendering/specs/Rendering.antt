@@ -16,7 +16,7 @@ use Rattle.kinds.specs.declared.Kind.{Kind}
 use Rattle.kinds.specs.declared.Kind.the-variants.{NoKind, Block, FrameOpen, FrameClose, Tag, Loop, LoopTag, LoopEnd, Inapplicable, Unknown, Bare, SingleQuoted, DoubleQuoted, Multiline, Number, Uncertain}
 use Rattle.entries.specs.declared.Parts.{Parts}
 use Rattle.records.specs.Put.{front}
-use Rattle.stores.specs.Walk.{entries}
+use Rattle.entries.specs.Walk.{entries}
 use Rattle.stores.specs.Contents.{contentBytes}
 use Rattle.stores.specs.Soundness.{sound}
 use Rattle.rendering.specs.declared.Rendered.{Rendered}

@@ -8,7 +8,7 @@ ghost use Rattle.places.specs.Reports.{noRoom};
 ghost use Rattle.numbers.specs.Spelling.{padded, plain, signBytes, fracBytes, expBytes, uncBytes, renderNumber};
 ghost use Rattle.entries.specs.declared.Entry.the-variants.{Record};
 ghost use Rattle.records.specs.Put.{front};
-ghost use Rattle.stores.specs.Walk.{entries};
+ghost use Rattle.entries.specs.Walk.{entries};
 ghost use Rattle.rendering.specs.Rendering.{decimalOf, isEnd, lineOf, rendering, renderAnswer, renderOut, renderedReport};
 ghost use Rattle.rendering.specs.Writing.{Wrote, Short, sizeOf, markOf, openingText, bodyText, closingText, own, Owned, keepsDigits, lineLength, capped};
 use entries::Entry;

@@ -15,9 +15,9 @@ use Rattle.entries.specs.declared.Entry.{Entry}
 use Rattle.entries.specs.declared.Entry.the-variants.{Record, Nothing}
 use Rattle.kinds.specs.Kinds.{shapeOf, isContent, marksOf}
 use Rattle.entries.specs.Entries.{entryAt}
-use Rattle.stores.specs.Walk.{entries}
+use Rattle.entries.specs.Walk.{entries}
 use Rattle.stores.specs.Contents.{readable, partsKept, contentLength, contentKept, ownRule, takes, filledFrom, filled}
-use Rattle.stores.proofs.Walking.{rest, rest-all, rest-over, rest-none, next-at}
+use Rattle.entries.proofs.Walking.{rest, rest-all, rest-over, rest-none, next-at}
 
 pub fill-all : (st ar : List ℕ) → filled (entries st) ar ≡ filledFrom (rest st 0) ar 0
 unfolding filled

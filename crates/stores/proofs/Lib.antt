@@ -1,6 +1,4 @@
-pub mod Walking
 pub mod Nesting
-pub mod Quoting
 pub mod Contents
 pub mod Filling
 pub mod Looking

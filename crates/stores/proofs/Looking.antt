@@ -15,7 +15,7 @@ use Rattle.entries.specs.declared.Entry.{Entry}
 use Rattle.entries.specs.declared.Entry.the-variants.{Record, Nothing}
 use Rattle.kinds.specs.Kinds.{shapeOf, isContent}
 use Rattle.entries.specs.Entries.{entryAt}
-use Rattle.stores.specs.Walk.{entries}
+use Rattle.entries.specs.Walk.{entries}
 use Rattle.stores.specs.Nesting.{nested}
 use Rattle.stores.specs.Contents.{partsKept, contentLength, contentKept, ownRule, takes, filledFrom, filled}
 use Rattle.stores.specs.Soundness.{sound}
@@ -23,7 +23,7 @@ use Rattle.stores.specs.Content.{nth, partOf, contentAt, partBytes}
 use Rattle.stores.specs.declared.Content.{Content}
 use Rattle.stores.specs.declared.Content.the-variants.{Part, NotSound, NoContent}
 use Rattle.stores.proofs.Content.{the-type as content-type}
-use Rattle.stores.proofs.Walking.{rest, rest-all, rest-over, rest-none, next-at}
+use Rattle.entries.proofs.Walking.{rest, rest-all, rest-over, rest-none, next-at}
 use Rattle.stores.proofs.Filling.{content-kept, takes-inside}
 
 pub part-all : (st : List ℕ) (i : ℕ) → partOf (nth (entries st) i) ≡ partOf (nth (rest st 0) i)

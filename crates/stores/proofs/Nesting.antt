@@ -21,8 +21,8 @@ use Rattle.stores.specs.declared.Where.{Where}
 use Rattle.stores.specs.declared.Where.the-variants.{Start, Items, Names, Values, Wants}
 use Rattle.stores.specs.declared.Stand.{Stand}
 use Rattle.stores.specs.declared.Stand.the-variants.{Stands, Falls}
-use Rattle.stores.specs.Walk.{entries}
-use Rattle.stores.proofs.Walking.{rest, rest-all, rest-over, rest-none, next-at}
+use Rattle.entries.specs.Walk.{entries}
+use Rattle.entries.proofs.Walking.{rest, rest-all, rest-over, rest-none, next-at}
 use Rattle.stores.proofs.Where.{the-type as where-type}
 use Rattle.stores.specs.Nesting.{isValueKind, opensLoop, atItems, afterName, atNames, atValues, standing, ended, follow, nestedFrom, nested, counted}
 

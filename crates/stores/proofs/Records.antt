@@ -14,14 +14,14 @@ use Rattle.entries.specs.declared.Entry.{Entry}
 use Rattle.entries.specs.declared.Entry.the-variants.{Record as Whole, Nothing}
 use Rattle.kinds.specs.Kinds.{numberOf, shapeOf, isContent, marksOf}
 use Rattle.entries.specs.Entries.{entryAt}
-use Rattle.stores.specs.Walk.{entries}
+use Rattle.entries.specs.Walk.{entries}
 use Rattle.stores.specs.Nesting.{nested}
 use Rattle.stores.specs.Contents.{contentLength, ownRule, takes, filledFrom, filled}
 use Rattle.stores.specs.Soundness.{sound}
 use Rattle.stores.specs.Records.{lies, answered, walkedOf, walkedAt, Walks, over, onto, answers}
 use Rattle.stores.specs.declared.Walked.{Walked}
 use Rattle.stores.specs.declared.Walked.the-variants.{Record, NoRecord}
-use Rattle.stores.proofs.Walking.{rest, rest-all, rest-over, rest-none, next-at}
+use Rattle.entries.proofs.Walking.{rest, rest-all, rest-over, rest-none, next-at}
 use Rattle.stores.proofs.Filling.{content-kept, takes-inside}
 
 -- an offset from which entries follow lies inside the store, and one from which none do does not

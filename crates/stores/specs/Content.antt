@@ -9,7 +9,7 @@ use Rattle.places.specs.Reports.{success, refusedBare}
 use Rattle.entries.specs.declared.Entry.{Entry}
 use Rattle.entries.specs.declared.Entry.the-variants.{Record, Nothing}
 use Rattle.kinds.specs.Kinds.{shapeOf, isContent}
-use Rattle.stores.specs.Walk.{entries}
+use Rattle.entries.specs.Walk.{entries}
 use Rattle.stores.specs.Contents.{contentLength}
 use Rattle.stores.specs.Soundness.{sound}
 use Rattle.stores.specs.declared.Content.{Content}

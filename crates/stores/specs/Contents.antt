@@ -8,7 +8,7 @@ use lib.ListN.{length, take, drop}
 use Rattle.text.specs.Bytes.{isAscii}
 use Rattle.text.specs.Runs.{span}
 use Rattle.words.specs.Words.{word}
-use Rattle.values.specs.Values.{Class, block, loop, save, tag, value, overLimit, nothing, lexAsValue}
+use Rattle.values.specs.Alone.{isAlone}
 use Rattle.entries.specs.declared.Entry.{Entry}
 use Rattle.entries.specs.declared.Entry.the-variants.{Record, Nothing}
 use Rattle.entries.specs.declared.Parts.{Parts}
@@ -16,19 +16,6 @@ use Rattle.kinds.specs.declared.Kind.{Kind}
 use Rattle.kinds.specs.declared.Kind.the-variants.{NoKind, Block, FrameOpen, FrameClose, Tag, Loop, LoopTag, LoopEnd, Inapplicable, Unknown, Bare, SingleQuoted, DoubleQuoted, Multiline, Number, Uncertain}
 use Rattle.entries.specs.declared.Fields.{Fields}
 use Rattle.kinds.specs.Kinds.{shapeOf, isContent, marksOf}
-
--- w alone is a value of kind k, and nothing stands behind it
-unfoldable pub isKind : ℕ → Class → Bool
-isKind k (value j) = eqb j k
-isKind k block = false
-isKind k loop = false
-isKind k save = false
-isKind k tag = false
-isKind k overLimit = false
-isKind k (nothing w) = false
-
-unfoldable pub isAlone : ℕ → List ℕ → Bool
-isAlone k w = isKind k (lexAsValue w .class) && eqb (lexAsValue w .size) (length w)
 
 -- a name is one word, perhaps an empty one
 unfoldable pub isName : List ℕ → Bool

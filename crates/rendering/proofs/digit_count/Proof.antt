@@ -1,6 +1,6 @@
 -- `rendering::digit_count` meets its contract: where the loop stands, the rest has the digits that are not counted yet, and one that is. Assumes nothing.
 use native.Mathlib.Omega.{arith}
-use Rattle.rendering.proofs.Digits.{Counted, counted-first, counted-more, counted-last}
+use Rattle.numbers.proofs.Counting.{Counted, counted-first, counted-more, counted-last}
 use Rattle.rendering.proofs.digit_count.Statement.{statement}
 use Rattle.rendering.proofs.digit_count.Tie as tie
 

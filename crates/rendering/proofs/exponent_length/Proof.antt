@@ -3,7 +3,7 @@ use borrow.Author.Needs.{needs}
 use mathlib.Core.Path.{sym, ap}
 use native.Mathlib.Omega.{arith}
 use lib.ListN.{length}
-use Rattle.rendering.proofs.Pieces.{exponent-none, exponent-size, sign-short, plain-short}
+use Rattle.numbers.proofs.Rendered.{exponent-none, exponent-size, sign-short, plain-short}
 use Rattle.rendering.proofs.exponent_length.Statement.{statement}
 use Rattle.rendering.proofs.exponent_length.Tie as tie
 

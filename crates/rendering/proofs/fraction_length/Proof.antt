@@ -3,7 +3,7 @@ use borrow.Author.Needs.{needs}
 use mathlib.Core.Path.{sym, ap}
 use native.Mathlib.Omega.{arith}
 use lib.ListN.{length}
-use Rattle.rendering.proofs.Pieces.{fraction-none, fraction-size}
+use Rattle.numbers.proofs.Rendered.{fraction-none, fraction-size}
 use Rattle.rendering.proofs.fraction_length.Statement.{statement}
 use Rattle.rendering.proofs.fraction_length.Tie as tie
 

@@ -12,7 +12,7 @@ use Rattle.kinds.proofs.Numbering.{told}
 use Rattle.rendering.specs.Rendering.{decimalOf}
 use Rattle.rendering.specs.Writing.{Short, lineLength}
 use Rattle.rendering.proofs.Lines.{digits-kept, parts-short}
-use Rattle.rendering.proofs.Pieces.{number-short}
+use Rattle.numbers.proofs.Rendered.{number-short}
 use Rattle.rendering.proofs.line_length.Statement.{statement}
 use Rattle.rendering.proofs.line_length.Tie as tie
 
@@ -34,7 +34,7 @@ add-result c =
     let s = c .before .before .before .before .before .before in
     let short : Short (decimalOf false (s .args .fields .parts)) = parts-short false (s .args .fields .parts) (digits-kept (s .args .kind) Number (s .args .fields) (c .before .before .enum-told .given .1) refl (s .pre)) in
     let size = c .number-length .ensures ∙ ap (λ d. length (renderNumber d)) (c .before .decimal-of .ensures) in
-    omega (arith, size, number-short (decimalOf false (s .args .fields .parts)) short)
+    omega (arith, size, number-short (decimalOf false (s .args .fields .parts)) (short .places))
 
 enum-told-2 : tie.Need-enum-told-2
 enum-told-2 c = search needs
@@ -54,7 +54,7 @@ add-result-2 c =
     let s = c .before .before .before .before .before .before in
     let short : Short (decimalOf true (s .args .fields .parts)) = parts-short true (s .args .fields .parts) (digits-kept (s .args .kind) Uncertain (s .args .fields) (c .before .before .enum-told2 .given .1) refl (s .pre)) in
     let size = c .number-length2 .ensures ∙ ap (λ d. length (renderNumber d)) (c .before .decimal-of2 .ensures) in
-    omega (arith, size, number-short (decimalOf true (s .args .fields .parts)) short)
+    omega (arith, size, number-short (decimalOf true (s .args .fields .parts)) (short .places))
 
 cast-result : tie.Need-cast-result
 cast-result c = search needs

@@ -1,7 +1,7 @@
 -- `rendering::number_length` meets its contract. Assumes nothing.
 use borrow.Author.Needs.{needs}
 use native.Mathlib.Omega.{arith}
-use Rattle.rendering.proofs.Pieces.{number-size, sign-short, plain-short, fraction-short, exponent-short, uncertainty-short}
+use Rattle.numbers.proofs.Rendered.{number-size, sign-short, plain-short, fraction-short, exponent-short, uncertainty-short}
 use Rattle.rendering.proofs.number_length.Statement.{statement}
 use Rattle.rendering.proofs.number_length.Tie as tie
 

@@ -7,7 +7,8 @@ use lib.ListN.{length, drop, length-set}
 use Rattle.numbers.specs.Spelling.{padded}
 use Rattle.numbers.proofs.Spelled.{length-padded}
 use Rattle.records.specs.Put.{put}
-use Rattle.rendering.proofs.Digits.{digits-none, digits-more, digits-put, digits-all}
+use Rattle.rendering.proofs.Digits.{digits-none, digits-put, digits-all}
+use Rattle.numbers.proofs.Counting.{digits-more}
 use Rattle.rendering.proofs.put_digits.Statement.{statement}
 use Rattle.rendering.proofs.put_digits.Tie as tie
 

@@ -5,7 +5,7 @@ use mathlib.Core.List.{[], _∷_, _++_}
 use native.Mathlib.Omega.{arith}
 use Rattle.numbers.specs.Spelling.{plain, signBytes}
 use Rattle.rendering.proofs.Wrote.{wrote-none, wrote-as, wrote-then, wrote-room, room-as, room-first}
-use Rattle.rendering.proofs.Pieces.{exponent-none, exponent-some}
+use Rattle.numbers.proofs.Rendered.{exponent-none, exponent-some}
 use Rattle.rendering.proofs.put_exponent.Statement.{statement}
 use Rattle.rendering.proofs.put_exponent.Tie as tie
 

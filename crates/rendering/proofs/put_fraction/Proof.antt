@@ -8,7 +8,7 @@ use lib.ListN.{length}
 use Rattle.numbers.specs.Spelling.{padded}
 use Rattle.numbers.proofs.Spelled.{length-padded}
 use Rattle.rendering.proofs.Wrote.{wrote-none, wrote-as, wrote-then, wrote-room, room-as, room-first}
-use Rattle.rendering.proofs.Pieces.{fraction-none, fraction-some}
+use Rattle.numbers.proofs.Rendered.{fraction-none, fraction-some}
 use Rattle.rendering.proofs.put_fraction.Statement.{statement}
 use Rattle.rendering.proofs.put_fraction.Tie as tie
 

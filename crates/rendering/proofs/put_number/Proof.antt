@@ -5,7 +5,7 @@ use mathlib.Core.List.{[], _++_}
 use native.Mathlib.Omega.{arith}
 use Rattle.numbers.specs.Spelling.{plain, signBytes, fracBytes, expBytes, uncBytes}
 use Rattle.rendering.proofs.Wrote.{wrote-as, wrote-then, wrote-room, room-as, room-first}
-use Rattle.rendering.proofs.Pieces.{number-pieces}
+use Rattle.numbers.proofs.Rendered.{number-pieces}
 use Rattle.rendering.proofs.put_number.Statement.{statement}
 use Rattle.rendering.proofs.put_number.Tie as tie
 

@@ -3,7 +3,7 @@ use borrow.Author.Needs.{needs}
 use mathlib.Core.Path.{sym, _∙_, ap}
 use Rattle.numbers.specs.Spelling.{padded}
 use Rattle.rendering.proofs.Wrote.{wrote-as}
-use Rattle.rendering.proofs.Digits.{plain-padded}
+use Rattle.numbers.proofs.Counting.{plain-padded}
 use Rattle.rendering.proofs.put_plain.Statement.{statement}
 use Rattle.rendering.proofs.put_plain.Tie as tie
 

@@ -2,7 +2,7 @@
 use borrow.Author.Needs.{needs}
 use mathlib.Core.Path.{sym}
 use Rattle.rendering.proofs.Wrote.{wrote-none, wrote-as, room-as}
-use Rattle.rendering.proofs.Pieces.{sign-minus, sign-plus}
+use Rattle.numbers.proofs.Rendered.{sign-minus, sign-plus}
 use Rattle.rendering.proofs.put_sign.Statement.{statement}
 use Rattle.rendering.proofs.put_sign.Tie as tie
 

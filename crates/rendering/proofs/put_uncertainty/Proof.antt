@@ -6,7 +6,7 @@ use borrow.Author.Tests.{not-true, not-false}
 use native.Mathlib.Omega.{arith}
 use Rattle.numbers.specs.Spelling.{plain}
 use Rattle.rendering.proofs.Wrote.{wrote-none, wrote-as, wrote-then, wrote-room, room-as, room-first}
-use Rattle.rendering.proofs.Pieces.{uncertainty-none, uncertainty-some}
+use Rattle.numbers.proofs.Rendered.{uncertainty-none, uncertainty-some}
 use Rattle.rendering.proofs.put_uncertainty.Statement.{statement}
 use Rattle.rendering.proofs.put_uncertainty.Tie as tie
 

@@ -1,7 +1,7 @@
 -- `rendering::sign_length` meets its contract. Assumes nothing.
 use mathlib.Core.Path.{sym, ap}
 use lib.ListN.{length}
-use Rattle.rendering.proofs.Pieces.{sign-minus, sign-plus}
+use Rattle.numbers.proofs.Rendered.{sign-minus, sign-plus}
 use Rattle.rendering.proofs.sign_length.Statement.{statement}
 use Rattle.rendering.proofs.sign_length.Tie as tie
 

@@ -3,7 +3,7 @@ use borrow.Author.Needs.{needs}
 use mathlib.Core.Path.{sym, ap}
 use native.Mathlib.Omega.{arith}
 use lib.ListN.{length}
-use Rattle.rendering.proofs.Pieces.{uncertainty-none, uncertainty-size, plain-short}
+use Rattle.numbers.proofs.Rendered.{uncertainty-none, uncertainty-size, plain-short}
 use Rattle.rendering.proofs.uncertainty_length.Statement.{statement}
 use Rattle.rendering.proofs.uncertainty_length.Tie as tie
 

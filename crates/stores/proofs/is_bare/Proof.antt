@@ -2,7 +2,7 @@
 use mathlib.Core.Path.{_≡_, sym, _∙_}
 use borrow.Author.Needs.{needs}
 use borrow.Author.Tests.{eq-eqb, ne-eqb}
-use Rattle.stores.proofs.Quoting.{bare-token, bare-other}
+use Rattle.values.proofs.Alone.{bare-token, bare-other}
 use Rattle.stores.proofs.is_bare.Statement.{statement}
 use Rattle.stores.proofs.is_bare.Tie as tie
 

@@ -2,7 +2,7 @@
 use mathlib.Core.Path.{_≡_, sym, _∙_}
 use borrow.Author.Needs.{needs}
 use borrow.Author.Tests.{not-true, not-false}
-use Rattle.stores.proofs.Quoting.{field-empty, field-mid, field-closed, field-whole}
+use Rattle.values.proofs.Alone.{field-empty, field-mid, field-closed, field-whole}
 use Rattle.stores.proofs.is_field.Statement.{statement}
 use Rattle.stores.proofs.is_field.Tie as tie
 

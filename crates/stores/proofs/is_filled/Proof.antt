@@ -8,9 +8,9 @@ use borrow.Author.Needs.{needs}
 use borrow.Author.Tests.{not-true, not-false}
 use Rattle.entries.specs.declared.Entry.the-variants.{Record}
 use Rattle.entries.specs.Entries.{entryAt}
-use Rattle.stores.specs.Walk.{entries}
+use Rattle.entries.specs.Walk.{entries}
 use Rattle.stores.specs.Contents.{ownRule, takes, filled, filledFrom}
-use Rattle.stores.proofs.Walking.{rest, next-at}
+use Rattle.entries.proofs.Walking.{rest, next-at}
 use Rattle.stores.proofs.Filling.{fill-all, fill-end, fill-none, fill-breaks, fill-keeps, takes-inside}
 use Rattle.stores.proofs.is_filled.Statement.{statement}
 use Rattle.stores.proofs.is_filled.Tie as tie

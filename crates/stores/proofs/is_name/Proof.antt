@@ -2,7 +2,7 @@
 use mathlib.Core.Path.{_≡_, sym, _∙_}
 use native.Mathlib.Nat.{zero-add}
 use borrow.Author.Needs.{needs}
-use Rattle.words.specs.Words.{wordEnd}
+use Rattle.words.proofs.Words.{word-end}
 use Rattle.stores.specs.Contents.{isName}
 use Rattle.stores.proofs.is_name.Statement.{statement}
 use Rattle.stores.proofs.is_name.Tie as tie
@@ -11,8 +11,8 @@ parse-identifier-requires : tie.Need-parse-identifier-requires
 parse-identifier-requires c κs = search needs
 
 returns : tie.Need-returns
-unfolding isName wordEnd
-returns c = rw (c .parse-identifier .ensures, zero-add)
+unfolding isName
+returns c = rw (c .parse-identifier .ensures, word-end, zero-add)
 
 pub is-name-spec : {M : Type 1} → statement M
 is-name-spec = tie.close (tie.spec parse-identifier-requires returns)

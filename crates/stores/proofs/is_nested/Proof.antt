@@ -7,10 +7,10 @@ use borrow.Author.Needs.{needs}
 use Rattle.entries.specs.declared.Entry.the-variants.{Record}
 use Rattle.kinds.specs.Kinds.{numberOf}
 use Rattle.entries.specs.Entries.{entryAt}
-use Rattle.stores.specs.Walk.{entries}
+use Rattle.entries.specs.Walk.{entries}
 use Rattle.stores.specs.declared.Stand.the-variants.{Stands, Falls}
 use Rattle.stores.specs.Nesting.{nested, nestedFrom, counted, standing}
-use Rattle.stores.proofs.Walking.{rest, next-at}
+use Rattle.entries.proofs.Walking.{rest, next-at}
 use Rattle.stores.proofs.Nesting.{nest-end, nest-none, nest-falls, nest-stands, counted-one, nest-all}
 use Rattle.stores.proofs.is_nested.Statement.{statement}
 use Rattle.stores.proofs.is_nested.Tie as tie

@@ -5,8 +5,8 @@ use native.Mathlib.Omega.{arith}
 use borrow.Author.Tests.{eq-eqb, ne-eqb}
 use lib.ListN.{length, drop}
 use Rattle.text.specs.Bytes.{is}
-use Rattle.stores.specs.Pieces.{plain}
-use Rattle.stores.proofs.Quoting.{plain-go, plain-mark, plain-eol, plain-over}
+use Rattle.quotes.specs.Content.{plain}
+use Rattle.quotes.proofs.Content.{plain-go, plain-mark, plain-eol, plain-over}
 use Rattle.stores.proofs.is_plain.Statement.{statement}
 use Rattle.stores.proofs.is_plain.Tie as tie
 

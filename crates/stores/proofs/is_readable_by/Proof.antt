@@ -6,7 +6,7 @@ use borrow.Author.Needs.{needs}
 use Rattle.kinds.specs.Kinds.{kindOf}
 use Rattle.kinds.proofs.Numbering.{told}
 use Rattle.stores.specs.Contents.{isName, readableBy}
-use Rattle.stores.proofs.Quoting.{alone-single, alone-double}
+use Rattle.values.proofs.Alone.{alone-single, alone-double}
 use Rattle.stores.proofs.is_readable_by.Statement.{statement}
 use Rattle.stores.proofs.is_readable_by.Tie as tie
 

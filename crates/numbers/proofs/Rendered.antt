@@ -1,15 +1,15 @@
--- The pieces of a number: how each is spelled by the code's tests, and that they follow one another. Assumes nothing.
+-- The pieces of a number as it is rendered: how each is spelled, by case, how long it is, and that they follow one another. Assumes nothing.
 use Prim.Native.Nat.{ℕ, zero, suc, _+_, _≤_}
 use mathlib.Core.Path.{_≡_, refl, sym, ap, _∙_}
 use mathlib.Core.Bool.{Bool, true, false}
 use mathlib.Core.List.{List, [], _∷_, _++_, append-assoc, append-nil}
 use native.Mathlib.Omega.{arith}
 use lib.ListN.{length, length-append}
 use Rattle.numbers.specs.declared.Decimal.{Decimal}
 use Rattle.numbers.specs.Spelling.{padded, plain, signBytes, uncBytes, expBytes, fracBytes, renderNumber}
 use Rattle.numbers.proofs.Spelled.{length-padded, length-trim}
-use Rattle.rendering.specs.Writing.{Short}
 
+-- the sign
 pub sign-minus : (b : Bool) → b ≡ true → signBytes b ≡ 45 ∷ []
 unfolding signBytes
 sign-minus b e = rw e
@@ -18,6 +18,7 @@ pub sign-plus : (b : Bool) → b ≡ false → signBytes b ≡ []
 unfolding signBytes
 sign-plus b e = rw e
 
+-- the fraction
 pub fraction-none : (p f : ℕ) → p ≡ 0 → fracBytes p f [] ≡ []
 unfolding fracBytes
 fraction-none p f e = rw e
@@ -27,6 +28,7 @@ unfolding fracBytes
 fraction-some zero f e = absurd (e refl)
 fraction-some (suc p) f e = append-nil (46 ∷ padded (suc p) f)
 
+-- the exponent
 pub exponent-none : (l : Bool) (e : ℕ) → e ≡ 0 → expBytes l e [] ≡ []
 unfolding expBytes
 exponent-none l e z = rw z
@@ -36,6 +38,7 @@ unfolding expBytes
 exponent-some l zero z = absurd (z refl)
 exponent-some l (suc e) z = ap (λ (r : List ℕ). 101 ∷ (signBytes l ++ r)) (append-nil (plain (suc e)))
 
+-- the uncertainty
 pub uncertainty-none : (b : Bool) (u : ℕ) → b ≡ false → uncBytes b u ≡ []
 unfolding uncBytes
 uncertainty-none b u e = rw e
@@ -57,6 +60,7 @@ exponent-then l (suc e) r =
     ap (λ (z : List ℕ). 101 ∷ z)
     (sym (append-assoc (signBytes l) (plain (suc e) ++ []) r ∙ ap (λ (z : List ℕ). signBytes l ++ (z ++ r)) (append-nil (plain (suc e)))))
 
+-- a number is its pieces, one behind the other
 pub number-pieces : (d : Decimal) →
     renderNumber d ≡ signBytes (d .minus) ++ (plain (d .integer) ++ (fracBytes (d .places) (d .fraction) [] ++ (expBytes (d .lowers) (d .exponent) [] ++ uncBytes (d .uncertain) (d .uncertainty))))
 unfolding renderNumber
@@ -99,6 +103,7 @@ unfolding uncBytes
 uncertainty-short true u = omega (arith, uncertainty-size true u refl, plain-short u)
 uncertainty-short false u = omega arith
 
+-- and as long as they are together
 pub number-size : (d : Decimal) → length (renderNumber d) ≡ length (signBytes (d .minus)) + length (plain (d .integer)) + length (fracBytes (d .places) (d .fraction) []) + length (expBytes (d .lowers) (d .exponent) []) + length (uncBytes (d .uncertain) (d .uncertainty))
 number-size d =
     let s = signBytes (d .minus) in
@@ -109,7 +114,8 @@ number-size d =
     ap length (number-pieces d)
     ∙ omega (arith, length-append s (i ++ (f ++ (e ++ u))), length-append i (f ++ (e ++ u)), length-append f (e ++ u), length-append e u)
 
-pub number-short : (d : Decimal) → Short d → length (renderNumber d) ≤ 60
+-- at most 60 bytes
+pub number-short : (d : Decimal) → d .places ≤ 18 → length (renderNumber d) ≤ 60
 number-short d h =
     omega (
       arith,

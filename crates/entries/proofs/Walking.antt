@@ -10,12 +10,12 @@ use lib.ListN.{length, drop, length-drop, drop-of-length-le}
 use lib.Seq.{drop-drop, drop-cons}
 use Rattle.text.proofs.Bools.{and-r}
 use Rattle.kinds.specs.declared.Kind.{Kind}
 use Rattle.entries.specs.declared.Fields.{Fields}
 use Rattle.entries.specs.declared.Entry.{Entry}
 use Rattle.entries.specs.declared.Entry.the-variants.{Record, Nothing}
 use Rattle.kinds.specs.Kinds.{kindOf, shapeOf, bodyLength}
 use Rattle.entries.specs.Entries.{isKind, fieldsOf, entryOf, entryAt}
-use Rattle.stores.specs.Walk.{onward, entriesFrom, entries}
+use Rattle.entries.specs.Walk.{onward, entriesFrom, entries}
 
 -- the entries from an offset on
 unfoldable pub rest : List ℕ → ℕ → List Entry
