@@ -11,7 +11,7 @@ use Rattle.entries.specs.declared.Entry.{Entry}
 use Rattle.entries.specs.declared.Entry.the-variants.{Record, Nothing}
 use Rattle.kinds.specs.Kinds.{numberOf}
 use Rattle.entries.specs.Walk.{entries}
-use Rattle.stores.specs.Contents.{contentBytes}
+use Rattle.contents.specs.Contents.{contentBytes}
 use Rattle.stores.specs.Soundness.{sound}
 use Rattle.naming.specs.declared.Naming.{Naming}
 use Rattle.naming.specs.declared.Naming.the-variants.{Distinct, NotSound, Repeated}

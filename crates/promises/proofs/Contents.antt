@@ -29,7 +29,7 @@ use Rattle.entries.specs.Entries.{stored}
 use Rattle.values.specs.Values.{tag, value, Lexed, lexed, lexAsValue}
 use Rattle.values.proofs.Views.{Read, missing, point, unknown, bare, quote, double, multi, number, over, view}
 use Rattle.values.proofs.Laws.{Lies, value-lies}
-use Rattle.stores.specs.Contents.{isName, readableBy, readable, exponentKept, partsKept}
+use Rattle.contents.specs.Contents.{isName, readableBy, readable, exponentKept, partsKept}
 use Rattle.values.specs.Alone.{isKind, isAlone}
 use Rattle.items.specs.Tokens.{inBlock, inFrame, lex}
 use Rattle.items.specs.Machine.{Rec, loopEnd}
