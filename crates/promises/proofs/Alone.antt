@@ -29,9 +29,9 @@ use Rattle.kinds.specs.Kinds.{kindOf, numberOf, shapeOf, isContent, marksOf}
 use Rattle.entries.specs.Entries.{noParts, isKind as isKindOf}
 use Rattle.values.specs.Values.{Class, block, loop, save, tag, value, overLimit, nothing, Lexed, lexed, numberOr, wordOr, lexValue, lexAsValue}
 use Rattle.values.proofs.Laws.{Lies, value-lies}
-use Rattle.items.specs.Tokens.{Mode, inBlock, inFrame, saveSize, lexIn}
-use Rattle.items.proofs.Advance.{Whole}
-use Rattle.items.proofs.Lexes.{lex-tag, lex-loop, lex-save}
+use Rattle.grammar.specs.Tokens.{Mode, inBlock, inFrame, saveSize, lexIn}
+use Rattle.grammar.proofs.Advance.{Whole}
+use Rattle.grammar.proofs.Lexes.{lex-tag, lex-loop, lex-save}
 use Rattle.nesting.specs.Nesting.{isValueKind}
 use Rattle.contents.specs.Contents.{isName, readableBy, readable, exponentKept, partsKept, contentLength, contentBytes, ownRule}
 use Rattle.contents.proofs.Kept.{content-length, content-size, rule-read, own-lies, own-inside, own-parts}

@@ -31,9 +31,9 @@ use Rattle.values.proofs.Views.{Read, missing, point, unknown, bare, quote, dou
 use Rattle.values.proofs.Laws.{Lies, value-lies}
 use Rattle.contents.specs.Contents.{isName, readableBy, readable, exponentKept, partsKept}
 use Rattle.values.specs.Alone.{isKind, isAlone}
-use Rattle.items.specs.Tokens.{inBlock, inFrame, lex}
-use Rattle.items.specs.Machine.{Rec, loopEnd}
-use Rattle.items.specs.Sizes.{contentSize}
+use Rattle.grammar.specs.Tokens.{inBlock, inFrame, lex}
+use Rattle.grammar.specs.Machine.{Rec, loopEnd}
+use Rattle.sizes.specs.Sizes.{contentSize}
 use Rattle.writing.specs.Writing.{contentOf}
 use Rattle.promises.proofs.Lines.{modeOf}
 use Rattle.promises.proofs.Lexing.{never, Worded, keyTag, heading-word, opening-word, tag-word, plainKey, key-word}

@@ -13,7 +13,7 @@ use Rattle.records.specs.Bytes.{le32, le64, signed32, flag}
 use Rattle.records.specs.Records.{tokenBytes, decimalBytes, endRecord, placeRecord, contentRecord, loopRecord, numberRecord, uncertainRecord}
 use Rattle.records.specs.Put.{front}
 use Rattle.entries.specs.Entries.{de32, de64, noParts, tokenOf as tokenAt, partsOf, plainFields, partsFields, fieldsOf, isKind, entryOf, entryAt}
-use Rattle.items.specs.Machine.{Rec}
+use Rattle.grammar.specs.Machine.{Rec}
 use Rattle.writing.specs.Writing.{tokenOf, tokenText, decimalOf, shaped, shapeIn, recordBytes, tagsOf, storeOf}
 use Rattle.reading.specs.Services.{writtenIf, readStoreBy, readStore, readAreaBy, readArea}
 use Rattle.entries.specs.Walk.{onward, entriesFrom, entries}

@@ -18,9 +18,9 @@ use Rattle.kinds.specs.declared.Shape.{Shape}
 use Rattle.kinds.specs.declared.Shape.the-variants.{Empty, Place, Content as ContentShape, Count, Parts, PartsUncertain}
 use Rattle.kinds.specs.Kinds.{kindOf, shapeOf, marksOf, isContent, hasContent}
 use Rattle.entries.specs.Entries.{stored}
-use Rattle.items.specs.Machine.{Rec, Answer, refused, done}
-use Rattle.items.specs.Reading.{outline}
-use Rattle.items.specs.Sizes.{contentSize, storeSize, areaSize}
+use Rattle.grammar.specs.Machine.{Rec, Answer, refused, done}
+use Rattle.grammar.specs.Reading.{outline}
+use Rattle.sizes.specs.Sizes.{contentSize, storeSize, areaSize}
 use Rattle.writing.specs.Writing.{tokenOf, contentOf, decimalOf, tagsOf, storeOf, areaOf}
 use Rattle.reading.specs.Services.{refusal, readRoom, readBy, readAnswer}
 use Rattle.entries.specs.Walk.{entries}

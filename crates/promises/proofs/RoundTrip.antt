@@ -27,12 +27,13 @@ use Rattle.kinds.specs.declared.Kind.{Kind}
 use Rattle.kinds.specs.declared.Kind.the-variants.{Block}
 use Rattle.kinds.specs.Kinds.{kindOf, numberOf, shapeOf, isContent}
 use Rattle.records.specs.Put.{front}
-use Rattle.items.specs.Tokens.{before, inBlock, lex, after, tok, tokensFrom, tokens}
-use Rattle.items.specs.Machine.{Rec, done, start, config, go, rec, loopEnd, atStart, move, follow, run}
-use Rattle.items.specs.Reading.{limit, decided, outline}
-use Rattle.items.specs.Sizes.{storeSize, areaSize}
-use Rattle.items.proofs.Ended.{word-ended, starts-ended, noLf}
-use Rattle.items.proofs.Advance.{advance₀}
+use Rattle.grammar.specs.Tokens.{before, inBlock, lex, after, tok, tokensFrom, tokens}
+use Rattle.grammar.specs.Machine.{Rec, done, start, config, go, rec, loopEnd, atStart, move, follow, run}
+use Rattle.grammar.specs.Reading.{limit, decided, outline}
+use Rattle.sizes.specs.Sizes.{storeSize, areaSize}
+use Rattle.words.proofs.Ended.{word-ended}
+use Rattle.keywords.proofs.Ended.{starts-ended, noLf}
+use Rattle.grammar.proofs.Advance.{advance₀}
 use Rattle.writing.specs.Writing.{storeOf, areaOf}
 use Rattle.reading.specs.Services.{readAnswer}
 use Rattle.entries.specs.Walk.{entries}

@@ -26,8 +26,8 @@ use Rattle.kinds.specs.declared.Shape.the-variants.{Parts as PartsShape, PartsU
 use Rattle.kinds.specs.Kinds.{kindOf, numberOf, shapeOf, shapeLength, bodyLength, marksOf, opening, isContent, hasContent}
 use Rattle.records.specs.Bytes.{flag}
 use Rattle.entries.specs.Entries.{noParts, stored, isKind}
-use Rattle.items.specs.Machine.{Rec, loopEnd}
-use Rattle.items.specs.Sizes.{contentSize, storeSize, areaSize}
+use Rattle.grammar.specs.Machine.{Rec, loopEnd}
+use Rattle.sizes.specs.Sizes.{contentSize, storeSize, areaSize}
 use Rattle.writing.specs.Writing.{tokenText as textOf, contentOf, decimalOf as readDecimal}
 use Rattle.contents.specs.Contents.{partsKept, contentLength, contentBytes}
 use Rattle.stores.specs.Soundness.{takes}

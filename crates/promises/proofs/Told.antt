@@ -14,8 +14,8 @@ use Rattle.kinds.specs.declared.Shape.{Shape}
 use Rattle.kinds.specs.declared.Shape.the-variants.{Empty, Place, Content, Count, Parts as PartsShape, PartsUncertain}
 use Rattle.kinds.specs.Kinds.{kindOf, shapeOf, marksOf, opening, isContent, hasContent}
 use Rattle.entries.specs.Entries.{stored, noParts}
-use Rattle.items.specs.Machine.{Rec}
-use Rattle.items.specs.Sizes.{contentSize}
+use Rattle.grammar.specs.Machine.{Rec}
+use Rattle.sizes.specs.Sizes.{contentSize}
 use Rattle.writing.specs.Writing.{tokenOf, contentOf, decimalOf, storeOf, areaOf, tagsOf}
 use Rattle.entries.specs.Walk.{entries}
 use Rattle.contents.specs.Contents.{contentLength, contentBytes}

@@ -13,8 +13,8 @@ use Rattle.entries.specs.declared.Entry.the-variants.{Record, Nothing}
 use Rattle.kinds.specs.Kinds.{kindOf, numberOf, shapeOf}
 use Rattle.values.specs.Values.{value}
 use Rattle.values.proofs.Laws.{Lies, value-lies}
-use Rattle.items.specs.Machine.{Rec, loopEnd}
-use Rattle.items.specs.Sizes.{contentSize}
+use Rattle.grammar.specs.Machine.{Rec, loopEnd}
+use Rattle.sizes.specs.Sizes.{contentSize}
 use Rattle.writing.specs.Writing.{tagsOf}
 use Rattle.nesting.specs.declared.Stand.{Stand}
 use Rattle.nesting.specs.declared.Stand.the-variants.{Stands, Falls}
