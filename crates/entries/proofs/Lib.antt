@@ -1,3 +1,4 @@
 pub mod Offsets
 pub mod Entering
 pub mod Back
+pub mod Walking

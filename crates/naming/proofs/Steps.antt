@@ -18,9 +18,9 @@ use Rattle.entries.specs.declared.Entry.{Entry}
 use Rattle.entries.specs.declared.Entry.the-variants.{Record, Nothing}
 use Rattle.kinds.specs.Kinds.{numberOf, marksOf}
 use Rattle.entries.specs.Entries.{entryAt}
-use Rattle.stores.specs.Walk.{entriesFrom, entries}
-use Rattle.stores.specs.Contents.{contentBytes, contentLength}
-use Rattle.stores.proofs.Walking.{rest, rest-over, rest-none, next-at}
+use Rattle.entries.specs.Walk.{entriesFrom, entries}
+use Rattle.contents.specs.Contents.{contentBytes, contentLength}
+use Rattle.entries.proofs.Walking.{rest, rest-over, rest-none, next-at}
 use Rattle.naming.specs.declared.Spot.{Spot}
 use Rattle.naming.specs.declared.Named.{Named}
 use Rattle.naming.specs.declared.Next.{Next}

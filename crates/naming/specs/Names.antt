@@ -10,8 +10,8 @@ use Rattle.places.specs.Reports.{success, refusedBare}
 use Rattle.entries.specs.declared.Entry.{Entry}
 use Rattle.entries.specs.declared.Entry.the-variants.{Record, Nothing}
 use Rattle.kinds.specs.Kinds.{numberOf}
-use Rattle.stores.specs.Walk.{entries}
-use Rattle.stores.specs.Contents.{contentBytes}
+use Rattle.entries.specs.Walk.{entries}
+use Rattle.contents.specs.Contents.{contentBytes}
 use Rattle.stores.specs.Soundness.{sound}
 use Rattle.naming.specs.declared.Naming.{Naming}
 use Rattle.naming.specs.declared.Naming.the-variants.{Distinct, NotSound, Repeated}

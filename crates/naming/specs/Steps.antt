@@ -8,8 +8,8 @@ use lib.Dec.{eqb}
 use lib.ListN.{length, take, drop}
 use Rattle.kinds.specs.declared.Kind.{Kind}
 use Rattle.entries.specs.declared.Fields.{Fields}
-use Rattle.stores.specs.Walk.{entriesFrom}
-use Rattle.stores.specs.Contents.{contentBytes}
+use Rattle.entries.specs.Walk.{entriesFrom}
+use Rattle.contents.specs.Contents.{contentBytes}
 use Rattle.naming.specs.declared.Named.{Named}
 use Rattle.naming.specs.declared.Spot.{Spot}
 use Rattle.naming.specs.declared.Next.{Next}

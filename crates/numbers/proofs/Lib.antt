@@ -8,3 +8,5 @@ pub mod Pieces
 pub mod Limits
 pub mod Bridge
 pub mod Facts
+pub mod Counting
+pub mod Rendered

@@ -31,9 +31,11 @@ use Rattle.values.proofs.Laws.{Lies, value-lies}
 use Rattle.grammar.specs.Tokens.{Mode, inBlock, inFrame, saveSize, lexIn}
 use Rattle.grammar.proofs.Advance.{Whole}
 use Rattle.grammar.proofs.Lexes.{lex-tag, lex-loop, lex-save}
-use Rattle.stores.specs.Nesting.{isValueKind}
-use Rattle.stores.specs.Contents.{isKind, isAlone, isName, readableBy, readable, exponentKept, partsKept, contentLength, contentBytes, contentKept, ownRule}
-use Rattle.rendering.specs.Rendering.{decimalOf, tokenText}
+use Rattle.nesting.specs.Nesting.{isValueKind}
+use Rattle.contents.specs.Contents.{isName, readableBy, readable, exponentKept, partsKept, contentLength, contentBytes, ownRule}
+use Rattle.contents.proofs.Kept.{content-length, content-size, rule-read, own-lies, own-inside, own-parts}
+use Rattle.values.specs.Alone.{isKind, isAlone}
+use Rattle.record_lines.specs.Lines.{decimalOf, tokenText}
 use Rattle.promises.proofs.Lexing.{in-any-mode, key-word, plainKey, keyTag}
 use Rattle.promises.proofs.Lines.{modeOf}
 use Rattle.promises.proofs.NumberLex.{number-whole}
@@ -62,23 +64,14 @@ pub record Fine (ar : List ℕ) (k : Kind) (f : Fields) : Type 0 where
   pub parts : isContent (shapeOf k) ≡ false → partsKept (f .parts) ≡ true
   pub stored : Stored k f
 
-pub fine : (ar : List ℕ) (a : ℕ) (k : Kind) (f : Fields) → ownRule ar a k f ≡ true → Stored k f → Fine ar k f
-unfolding ownRule contentKept contentBytes
-fine ar a k f e g = by (isContent (shapeOf k)) refl e
-  where
-    by : (t : Bool) → isContent (shapeOf k) ≡ t → cond t (contentKept ar a k f) (partsKept (f .parts)) ≡ true → Fine ar k f
-    by true q e =
-        let r = and-r (leb (marksOf k) (f .token .length)) _ e in
-        let n : f .number ≡ a = eqb-true (f .number) a (and-l (eqb (f .number) a) _ r) in
-        let x = and-r (eqb (f .number) a) _ r in
-        let l = leb-true (contentLength k f) (length ar - a) (and-l (leb (contentLength k f) (length ar - a)) _ x) in
-        record {
-          content = λ _. ap (λ (m : ℕ). readable k (take (contentLength k f) (drop m ar))) n ∙ and-r (leb (contentLength k f) (length ar - a)) _ x;
-          size = λ _. ap (λ (m : ℕ). length (take (contentLength k f) (drop m ar))) n ∙ simp (length-take, length-drop) (omega arith);
-          parts = λ z. absurd (true≢false (sym q ∙ z));
-          stored = g;
-        }
-    by false q e = record { content = λ z. absurd (false≢true (sym q ∙ z)); size = λ z. absurd (false≢true (sym q ∙ z)); parts = λ _. e; stored = g }
+pub fine : (ar : List ℕ) (k : Kind) (f : Fields) → ownRule ar k f ≡ true → Stored k f → Fine ar k f
+fine ar k f e g =
+    record {
+      content = λ q. sym (rule-read ar k f q (own-lies ar k f e q)) ∙ e;
+      size = λ q. omega (arith, content-size ar k f (own-inside ar k f e q), content-length k f);
+      parts = λ q. own-parts ar k f e q;
+      stored = g;
+    }
 
 -- Numbers
 

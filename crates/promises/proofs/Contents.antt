@@ -29,7 +29,8 @@ use Rattle.entries.specs.Entries.{stored}
 use Rattle.values.specs.Values.{tag, value, Lexed, lexed, lexAsValue}
 use Rattle.values.proofs.Views.{Read, missing, point, unknown, bare, quote, double, multi, number, over, view}
 use Rattle.values.proofs.Laws.{Lies, value-lies}
-use Rattle.stores.specs.Contents.{isKind, isAlone, isName, readableBy, readable, exponentKept, partsKept}
+use Rattle.contents.specs.Contents.{isName, readableBy, readable, exponentKept, partsKept}
+use Rattle.values.specs.Alone.{isKind, isAlone}
 use Rattle.grammar.specs.Tokens.{inBlock, inFrame, lex}
 use Rattle.grammar.specs.Machine.{Rec, loopEnd}
 use Rattle.sizes.specs.Sizes.{contentSize}

@@ -16,11 +16,14 @@ use Rattle.entries.specs.Entries.{de32, de64, noParts, tokenOf as tokenAt, part
 use Rattle.grammar.specs.Machine.{Rec}
 use Rattle.writing.specs.Writing.{tokenOf, tokenText, decimalOf, shaped, shapeIn, recordBytes, tagsOf, storeOf}
 use Rattle.reading.specs.Services.{writtenIf, readStoreBy, readStore, readAreaBy, readArea}
-use Rattle.stores.specs.Walk.{onward, entriesFrom, entries}
-use Rattle.stores.specs.Nesting.{isValueKind, opensLoop, atItems, afterName, atNames, atValues, standing, ended, follow, nestedFrom, nested}
-use Rattle.stores.specs.Contents.{isKind as isKindAlone, isAlone, isName, readableBy, readable, exponentKept, partsKept, contentLength, contentBytes, contentKept, ownRule, takes, filledFrom, filled}
+use Rattle.entries.specs.Walk.{onward, entriesFrom, entries}
+use Rattle.nesting.specs.Nesting.{isValueKind, opensLoop, atItems, afterName, atNames, atValues, standing, ended, follow, nestedFrom, nested}
+use Rattle.contents.specs.Contents.{isName, readableBy, readable, exponentKept, partsKept, contentLength, contentBytes, lies, isInside, isReadable}
+use Rattle.stores.specs.Soundness.{eachReadable, eachInside, follows, takes, laidOut, filledFrom, filled}
+use Rattle.values.specs.Alone.{isKind as isKindAlone, isAlone}
 use Rattle.stores.specs.Soundness.{sound}
-use Rattle.rendering.specs.Rendering.{decimalOf as renderedDecimal, tokenText as renderedText, isEnd, lineOf, linesOf, rendering, limit as renderLimit, renderRoom, renderAnswer, renderOut}
+use Rattle.rendering.specs.Rendering.{linesOf, rendering, limit as renderLimit, renderRoom, renderAnswer, renderOut}
+use Rattle.record_lines.specs.Lines.{decimalOf as renderedDecimal, tokenText as renderedText, isEnd, lineOf}
 use Rattle.promises.specs.Differences.{isMark, isQuoted, insideRec, insideRecs, Swap, same, digits, inside, Differ, DigitsDiffer, ContentsDiffer}
 use Rattle.promises.specs.Readings.{bytes}
 use Rattle.promises.specs.Results.{renderedBytes, storeBytes, areaBytes, tokenIn}
@@ -41,7 +44,7 @@ area t = areaBytes (bytes t) (sevens 80) (sevens 4)
 
 -- all that the examples compute with
 unfoldable all : ℕ
-unfolding opened bytes le32 le64 signed32 flag tokenBytes decimalBytes endRecord placeRecord contentRecord loopRecord numberRecord uncertainRecord front de32 de64 tokenAt partsOf plainFields partsFields fieldsOf isKind entryOf entryAt tokenOf tokenText decimalOf shaped shapeIn recordBytes tagsOf storeOf writtenIf readStoreBy readStore readAreaBy readArea onward entriesFrom entries contentLength contentBytes storeBytes areaBytes contentIn saying sayings SaySame sevens store area padded trim plain signBytes uncBytes expBytes fracBytes renderNumber isValueKind opensLoop atItems afterName atNames atValues standing ended follow nestedFrom nested isAlone isName isKindAlone readableBy readable exponentKept partsKept contentKept ownRule takes filledFrom filled sound renderedDecimal renderedText isEnd lineOf linesOf rendering renderLimit renderRoom renderAnswer renderOut renderedBytes
+unfolding opened bytes le32 le64 signed32 flag tokenBytes decimalBytes endRecord placeRecord contentRecord loopRecord numberRecord uncertainRecord front de32 de64 tokenAt partsOf plainFields partsFields fieldsOf isKind entryOf entryAt tokenOf tokenText decimalOf shaped shapeIn recordBytes tagsOf storeOf writtenIf readStoreBy readStore readAreaBy readArea onward entriesFrom entries contentLength contentBytes storeBytes areaBytes contentIn saying sayings SaySame sevens store area padded trim plain signBytes uncBytes expBytes fracBytes renderNumber isValueKind opensLoop atItems afterName atNames atValues standing ended follow nestedFrom nested isAlone isName isKindAlone readableBy readable exponentKept partsKept lies isInside isReadable eachReadable eachInside follows takes laidOut filledFrom filled sound renderedDecimal renderedText isEnd lineOf linesOf rendering renderLimit renderRoom renderAnswer renderOut renderedBytes
 all = 0
 
 -- Of the lent buffers the bytes counted, and no more

@@ -22,14 +22,17 @@ use Rattle.kinds.specs.declared.Shape.the-variants.{Empty, Place, Content, Coun
 use Rattle.kinds.specs.Kinds.{kindOf, numberOf, shapeOf, shapeLength, bodyLength, isContent}
 use Rattle.entries.specs.Entries.{de32, partsOf, plainFields, partsFields, fieldsOf, isKind, entryOf, entryAt}
 use Rattle.values.specs.Values.{tag, loop, save, value}
-use Rattle.stores.specs.Walk.{onward, entriesFrom, entries}
-use Rattle.stores.specs.declared.Stand.{Stand}
-use Rattle.stores.specs.declared.Stand.the-variants.{Stands, Falls}
-use Rattle.stores.specs.declared.Where.{Where}
-use Rattle.stores.specs.declared.Where.the-variants.{Start, Items, Names, Values, Wants}
-use Rattle.stores.specs.Nesting.{isValueKind, opensLoop, atItems, afterName, atNames, atValues, standing, ended, follow, nestedFrom}
-use Rattle.stores.specs.Contents.{readableBy, readable, contentBytes, ownRule, takes, filledFrom}
-use Rattle.rendering.specs.Rendering.{tokenText, isEnd, lineOf, linesOf}
+use Rattle.entries.specs.Walk.{onward, entriesFrom, entries}
+use Rattle.nesting.specs.declared.Stand.{Stand}
+use Rattle.nesting.specs.declared.Stand.the-variants.{Stands, Falls}
+use Rattle.nesting.specs.declared.Where.{Where}
+use Rattle.nesting.specs.declared.Where.the-variants.{Start, Items, Names, Values, Wants}
+use Rattle.nesting.specs.Nesting.{isValueKind, opensLoop, atItems, afterName, atNames, atValues, standing, ended, follow, nestedFrom}
+use Rattle.contents.specs.Contents.{readableBy, readable, contentBytes}
+use Rattle.stores.specs.Soundness.{takes, filledFrom, kept}
+use Rattle.stores.proofs.Filling.{filled-record, filled-nothing, filled-none, kept-rule}
+use Rattle.rendering.specs.Rendering.{linesOf}
+use Rattle.record_lines.specs.Lines.{tokenText, isEnd, lineOf}
 use Rattle.promises.specs.Sayings.{Bytes}
 use Rattle.promises.proofs.Lines.{Line, line, ending, render, Where as Spot, at-items, at-names, at-values, at-value}
 use Rattle.promises.proofs.Trip.{Nested, over, tagged, valued, looped, named, first-value, no-rows, next-value, rows, opened, shut}
@@ -91,11 +94,11 @@ pub data Filled (ar : List ℕ) : ℕ → ℕ → List Entry → Type 0 where
   more : {a n : ℕ} {es : List Entry} {k : Kind} {f : Fields} {next : ℕ} → Fine ar k f → next ≡ suc (shapeLength (shapeOf k)) → Filled ar (a + takes k f) n es → Filled ar a (next + n) (Record k f next ∷ es)
 
 pub filled-by : (ar : List ℕ) {n : ℕ} {es : List Entry} → Standing n es → (a : ℕ) → filledFrom es ar a ≡ true → Filled ar a n es
-unfolding filledFrom
-filled-by ar over-all a e = full (eqb-true a (length ar) e)
-filled-by ar (no-record n) a e = absurd (false≢true e)
+filled-by ar over-all a e = full (eqb-true a (length ar) (sym (filled-none ar a) ∙ e))
+filled-by ar (no-record n) a e = absurd (false≢true (sym (filled-nothing [] ar a) ∙ e))
 filled-by ar (and-then {es = es} {k = k} {f = f} next g z h) a e =
-    more (fine ar a k f (and-l (ownRule ar a k f) _ e) g) z (filled-by ar h (a + takes k f) (and-r (ownRule ar a k f) _ e))
+    let both : (kept ar a k f && filledFrom es ar (a + takes k f)) ≡ true = sym (filled-record es ar a k f next) ∙ e in
+    more (fine ar k f (kept-rule ar a k f (and-l (kept ar a k f) _ both)) g) z (filled-by ar h (a + takes k f) (and-r (kept ar a k f) _ both))
 
 -- The lines
 

@@ -40,10 +40,10 @@ use Rattle.grammar.specs.Machine.{Rec, loopEnd}
 use Rattle.grammar.proofs.Lexes.{pick}
 use Rattle.writing.specs.Writing.{tokenOf, tokenText, tagsOf, decimalOf as readDecimal}
 use Rattle.reading.specs.Services.{readAnswer}
-use Rattle.stores.specs.Walk.{entries}
-use Rattle.stores.specs.Nesting.{isValueKind}
+use Rattle.entries.specs.Walk.{entries}
+use Rattle.nesting.specs.Nesting.{isValueKind}
 use Rattle.stores.specs.Content.{nth}
-use Rattle.rendering.specs.Rendering.{decimalOf}
+use Rattle.record_lines.specs.Lines.{decimalOf}
 use Rattle.promises.specs.Results.{storeBytes, tokenIn}
 use Rattle.promises.proofs.Lexing.{never, NumberWord}
 use Rattle.promises.proofs.Taken.{Read, Outline, outline-taken}

@@ -23,10 +23,11 @@ use Rattle.grammar.specs.Reading.{outline}
 use Rattle.sizes.specs.Sizes.{contentSize, storeSize, areaSize}
 use Rattle.writing.specs.Writing.{tokenOf, contentOf, decimalOf, tagsOf, storeOf, areaOf}
 use Rattle.reading.specs.Services.{refusal, readRoom, readBy, readAnswer}
-use Rattle.stores.specs.Walk.{entries}
-use Rattle.stores.specs.Nesting.{nested}
-use Rattle.stores.specs.Contents.{readable, exponentKept, partsKept, contentLength, contentKept, ownRule, takes, filledFrom, filled}
-use Rattle.stores.specs.Soundness.{sound}
+use Rattle.entries.specs.Walk.{entries}
+use Rattle.nesting.specs.Nesting.{nested}
+use Rattle.contents.specs.Contents.{readable, exponentKept, partsKept, contentLength, contentBytes, lies, isInside, isReadable, ownRule}
+use Rattle.stores.specs.Soundness.{follows, takes, filledFrom, filled, kept, sound}
+use Rattle.stores.proofs.Filling.{filled-record, filled-none}
 use Rattle.promises.specs.Results.{storeBytes, areaBytes}
 use Rattle.promises.proofs.Taken.{Read, Outline, outline-taken}
 use Rattle.promises.proofs.Sources.{Each, none, also, sources, Source, Facts, facts}
@@ -37,21 +38,22 @@ use Rattle.promises.proofs.Refusals.{Done, read-done}
 use Rattle.promises.proofs.Walks.{nested-written}
 use Rattle.promises.proofs.Contents.{Content, content-read, parts-kept}
 
--- One record: its own rule, its content starting at area offset a
+-- One record is kept: its content starts at area offset a, and it keeps its own rule
 
 module _ (s : List ℕ) (fits : length s ≤ 16777216) (ascii : length s ≤ span isAscii s) (r : Rec) (h : Source s r) (before rest : List ℕ) (a n : ℕ) (at : length before ≡ a) where
   area : List ℕ
   area = before ++ (contentOf s r ++ rest)
 
-  content-kept : shapeOf (kindOf (r .kind)) ≡ ContentShape → contentKept area a (kindOf (r .kind)) (fieldsIn ContentShape s a n r) ≡ true
-  unfolding contentKept contentLength fieldsIn tokenOf area isContent
+  content-kept : shapeOf (kindOf (r .kind)) ≡ ContentShape →
+      eqb a a && (lies (length area) (kindOf (r .kind)) (fieldsIn ContentShape s a n r) && readable (kindOf (r .kind)) (contentBytes area (kindOf (r .kind)) (fieldsIn ContentShape s a n r))) ≡ true
+  unfolding lies contentLength contentBytes fieldsIn tokenOf area isContent
   content-kept e =
       let k = kindOf (r .kind) in
       let c : Content s r = content-read s r ascii h (rw e) in
       let l : length (contentOf s r) ≡ r .size - marksOf k = content-length s r (facts h) ∙ c .size in
-      let room : r .size - marksOf k ≤ length (before ++ (contentOf s r ++ rest)) - a = simp length-append (omega arith) in
+      let room : a + (r .size - marksOf k) ≤ length (before ++ (contentOf s r ++ rest)) = simp length-append (omega arith) in
       let part : take (r .size - marksOf k) (drop a (before ++ (contentOf s r ++ rest))) ≡ contentOf s r = rw (drop-at before (contentOf s r ++ rest) a at) (take-at (contentOf s r) rest (r .size - marksOf k) l) in
-      rw (le-leb (marksOf k) (r .size) (c .marked), eq-eqb a a refl, le-leb (r .size - marksOf k) _ room, part) (c .readable)
+      rw (le-leb (marksOf k) (r .size) (c .marked), eq-eqb a a refl, le-leb (a + (r .size - marksOf k)) _ room, part) (c .readable)
 
   number-kept : 14 ≤ r .kind → partsKept (stored (decimalOf s r) 0) && partsKept (stored (decimalOf s r) (decimalOf s r .uncertainty)) ≡ true
   number-kept l =
@@ -59,11 +61,15 @@ module _ (s : List ℕ) (fits : length s ≤ 16777216) (ascii : length s ≤ spa
       let b = bounded s fits r (facts h) l in
       rw (parts-kept d 0 b (omega arith)) (parts-kept d (d .uncertainty) b (b .uncertainty))
 
-  own-rule : ownRule area a (kindOf (r .kind)) (fieldsIn (shapeOf (kindOf (r .kind))) s a n r) ≡ true
-  unfolding ownRule isContent fieldsIn partsKept exponentKept Only
-  own-rule = by (shapeOf (kindOf (r .kind))) refl (only-kind s r (facts h))
+  kept-here : kept area a (kindOf (r .kind)) (fieldsIn (shapeOf (kindOf (r .kind))) s a n r) ≡ true
+  unfolding kept ownRule isInside isReadable follows isContent fieldsIn partsKept exponentKept Only
+  kept-here = by (shapeOf (kindOf (r .kind))) refl (only-kind s r (facts h))
     where
-      by : (x : Shape) → shapeOf (kindOf (r .kind)) ≡ x → Only x (r .kind) → cond (isContent x) (contentKept area a (kindOf (r .kind)) (fieldsIn x s a n r)) (partsKept (fieldsIn x s a n r .parts)) ≡ true
+      by : (x : Shape) → shapeOf (kindOf (r .kind)) ≡ x → Only x (r .kind) →
+          cond (isContent x) (eqb (fieldsIn x s a n r .number) a) true
+          && (cond (isContent x) (lies (length area) (kindOf (r .kind)) (fieldsIn x s a n r)) true
+          && cond (isContent x) (readable (kindOf (r .kind)) (contentBytes area (kindOf (r .kind)) (fieldsIn x s a n r))) (partsKept (fieldsIn x s a n r .parts)))
+          ≡ true
       by Empty e o = refl
       by Place e o = refl
       by ContentShape e o = content-kept e
@@ -86,12 +92,12 @@ module _ (s : List ℕ) (fits : length s ≤ 16777216) (ascii : length s ≤ spa
 -- All records
 
 filled-written : (s : List ℕ) → length s ≤ 16777216 → length s ≤ span isAscii s → {rs : List Rec} → Each (Source s) rs → (before : List ℕ) (a : ℕ) → length before ≡ a → filledFrom (written s a rs) (before ++ areaOf s rs) a ≡ true
-unfolding filledFrom written areaOf entryOf area
-filled-written s fits ascii none before a e = eq-eqb a (length (before ++ [])) (sym (ap length (append-nil before) ∙ e))
+unfolding written areaOf entryOf area
+filled-written s fits ascii none before a e = filled-none (before ++ []) a ∙ eq-eqb a (length (before ++ [])) (sym (ap length (append-nil before) ∙ e))
 filled-written s fits ascii (also {r = r} {rs = rs} p h) before a e =
     let b = a + contentSize (r .kind) (r .size) in
     let l : length (before ++ contentOf s r) ≡ b = simp length-append (omega (arith, content-length s r (facts p))) in
-    rw (own-rule s fits ascii r p before (areaOf s rs) a (tagsOf rs) e, takes-same s fits ascii r p before (areaOf s rs) a (tagsOf rs) e, ← append-assoc before (contentOf s r) (areaOf s rs))
+    rw (filled-record, kept-here s fits ascii r p before (areaOf s rs) a (tagsOf rs) e, takes-same s fits ascii r p before (areaOf s rs) a (tagsOf rs) e, ← append-assoc before (contentOf s r) (areaOf s rs))
     (filled-written s fits ascii h (before ++ contentOf s r) b l)
 
 -- THE RECORDS OF A TEXT THAT IS READ, as store and area, are sound

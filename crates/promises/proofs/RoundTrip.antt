@@ -36,13 +36,15 @@ use Rattle.keywords.proofs.Ended.{starts-ended, noLf}
 use Rattle.grammar.proofs.Advance.{advance₀}
 use Rattle.writing.specs.Writing.{storeOf, areaOf}
 use Rattle.reading.specs.Services.{readAnswer}
-use Rattle.stores.specs.Walk.{entries}
-use Rattle.stores.specs.declared.Stand.the-variants.{Stands, Falls}
-use Rattle.stores.specs.declared.Where.the-variants.{Start, Items}
-use Rattle.stores.specs.Nesting.{nested, nestedFrom, standing, ended, follow as follows}
-use Rattle.stores.specs.Contents.{readableBy, contentBytes, filled, isName}
+use Rattle.entries.specs.Walk.{entries}
+use Rattle.nesting.specs.declared.Stand.the-variants.{Stands, Falls}
+use Rattle.nesting.specs.declared.Where.the-variants.{Start, Items}
+use Rattle.nesting.specs.Nesting.{nested, nestedFrom, standing, ended, follow as follows}
+use Rattle.contents.specs.Contents.{readableBy, contentBytes, isName}
+use Rattle.stores.specs.Soundness.{filled}
 use Rattle.stores.specs.Soundness.{sound}
-use Rattle.rendering.specs.Rendering.{isEnd, tokenText, linesOf, rendering, limit as renderLimit, renderRoom, renderAnswer, renderOut}
+use Rattle.rendering.specs.Rendering.{linesOf, rendering, limit as renderLimit, renderRoom, renderAnswer, renderOut}
+use Rattle.record_lines.specs.Lines.{isEnd, tokenText}
 use Rattle.promises.specs.Sayings.{Bytes, saying, sayings, SaySame}
 use Rattle.promises.specs.Results.{renderedBytes, storeBytes, areaBytes}
 use Rattle.promises.proofs.Reading.{Reads, reads}

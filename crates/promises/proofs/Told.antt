@@ -17,8 +17,8 @@ use Rattle.entries.specs.Entries.{stored, noParts}
 use Rattle.grammar.specs.Machine.{Rec}
 use Rattle.sizes.specs.Sizes.{contentSize}
 use Rattle.writing.specs.Writing.{tokenOf, contentOf, decimalOf, storeOf, areaOf, tagsOf}
-use Rattle.stores.specs.Walk.{entries}
-use Rattle.stores.specs.Contents.{contentLength, contentBytes}
+use Rattle.entries.specs.Walk.{entries}
+use Rattle.contents.specs.Contents.{contentLength, contentBytes}
 use Rattle.promises.specs.Sayings.{Saying, says, nothing, contentIn, saying, sayings}
 use Rattle.promises.proofs.Taken.{Read, Outline}
 use Rattle.promises.proofs.Sources.{Each, none, also, each-map, sources, Facts, facts}

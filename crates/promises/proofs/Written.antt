@@ -33,7 +33,7 @@ use Rattle.grammar.specs.Machine.{Rec}
 use Rattle.sizes.specs.Sizes.{contentSize}
 use Rattle.sizes.proofs.Room.{content-small}
 use Rattle.writing.specs.Writing.{tokenOf, decimalOf, tokenText, shaped, shapeIn, recordBytes, tagsOf, storeOf}
-use Rattle.stores.specs.Walk.{onward, entriesFrom, entries}
+use Rattle.entries.specs.Walk.{onward, entriesFrom, entries}
 use Rattle.promises.proofs.Lexing.{NumberWord}
 use Rattle.promises.proofs.Taken.{bytesOf, Read, Outline}
 use Rattle.promises.proofs.Sources.{Each, none, also, each-map, sources, Facts, facts}

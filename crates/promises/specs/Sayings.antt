@@ -11,8 +11,8 @@ use Rattle.entries.specs.declared.Fields.{Fields}
 use Rattle.kinds.specs.declared.Kind.{Kind}
 use Rattle.entries.specs.declared.Parts.{Parts}
 use Rattle.kinds.specs.Kinds.{shapeOf, isContent}
-use Rattle.stores.specs.Walk.{entries}
-use Rattle.stores.specs.Contents.{contentBytes}
+use Rattle.entries.specs.Walk.{entries}
+use Rattle.contents.specs.Contents.{contentBytes}
 
 -- a list of bytes
 unfoldable pub Bytes : List ℕ → Type 0

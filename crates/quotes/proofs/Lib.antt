@@ -1,3 +1,4 @@
 pub mod Quotes
 pub mod Shape
 pub mod Ended
+pub mod Content

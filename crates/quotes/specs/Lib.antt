@@ -1,2 +1,3 @@
 pub mod Quotes
 pub mod Answers
+pub mod Content

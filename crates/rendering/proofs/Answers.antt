@@ -13,7 +13,7 @@ use Rattle.stores.specs.Soundness.{sound}
 use Rattle.rendering.specs.declared.Rendered.{Rendered}
 use Rattle.rendering.specs.declared.Rendered.the-variants.{Done, NotSound, TooLong, NoRoom}
 use Rattle.rendering.specs.Rendering.{rendering, limit, renderRoom, renderAnswer, renderOut, renderedReport}
-use Rattle.rendering.specs.Writing.{capped}
+use Rattle.rendering.specs.Rendering.{capped}
 
 -- the answer and the bytes that are right
 pub record Right (st ar l m : List ℕ) (r : Rendered) : Type 0 where

@@ -1,6 +1,2 @@
-pub mod Wrote
-pub mod Digits
-pub mod Pieces
-pub mod Lines
 pub mod Passing
 pub mod Answers

@@ -1,55 +1,33 @@
 -- Laws of the two walks over a sound store: one adds the lengths of the lines, one writes them. Assumes nothing.
 use Prim.Native.Nat.{ℕ, _+_, _-_, _≤_, _<_}
 use mathlib.Core.Path.{_≡_, sym, ap, _∙_}
-use mathlib.Core.Bool.{Bool, true, false, cond, true≢false}
+use mathlib.Core.Bool.{true, cond}
 use mathlib.Core.List.{List, [], _∷_, _++_}
 use native.Mathlib.Omega.{arith}
 use borrow.Author.Tests.{lt-ltb, le-ltb}
 use lib.ListN.{length, take, drop, length-append, length-take, length-drop}
 use lib.Seq.{take-all, take-add, drop-drop, take-append-seam, drop-append-seam}
-use Rattle.text.proofs.Bools.{and-l, and-r}
 use Rattle.entries.specs.declared.Entry.{Entry}
 use Rattle.entries.specs.declared.Entry.the-variants.{Record, Nothing}
 use Rattle.kinds.specs.declared.Kind.{Kind}
 use Rattle.entries.specs.declared.Fields.{Fields}
 use Rattle.entries.specs.Entries.{entryAt}
-use Rattle.kinds.specs.Kinds.{shapeOf, isContent}
 use Rattle.records.specs.Put.{front, put}
 use Rattle.records.proofs.Putting.{length-front, front-none, front-next}
-use Rattle.stores.specs.Walk.{entries}
-use Rattle.stores.specs.Nesting.{nested}
-use Rattle.stores.specs.Contents.{contentKept, ownRule, takes, partsKept, filledFrom, filled}
-use Rattle.stores.specs.Soundness.{sound}
-use Rattle.stores.proofs.Walking.{rest, rest-all, rest-over, rest-none, next-at}
-use Rattle.stores.proofs.Filling.{content-kept}
-use Rattle.rendering.specs.Rendering.{lineOf, linesOf, rendering, limit}
-use Rattle.rendering.specs.Writing.{Wrote, own, Owned, none, more, keepsDigits, lineLength, capped}
-use Rattle.rendering.proofs.Lines.{own-digits, line-size}
-
--- Every record of a sound store keeps its own rule
-
-own-here : (ar : List ℕ) (a : ℕ) (k : Kind) (f : Fields) → ownRule ar a k f ≡ true → own ar k f ≡ true
-unfolding own ownRule
-own-here ar a k f h = by (isContent (shapeOf k)) h
-  where
-    by : (t : Bool) → cond t (contentKept ar a k f) (partsKept (f .parts)) ≡ true → cond t (contentKept ar (f .number) k f) (partsKept (f .parts)) ≡ true
-    by true e = ap (λ (z : ℕ). contentKept ar z k f) (content-kept ar a k f e .here) ∙ e
-    by false e = e
-
-owned-filled : (ar : List ℕ) (es : List Entry) (a : ℕ) → filledFrom es ar a ≡ true → Owned ar es
-unfolding filledFrom
-owned-filled ar [] a h = none
-owned-filled ar (Nothing ∷ es) a h = absurd (true≢false (sym h))
-owned-filled ar (Record k f next ∷ es) a h =
-    more (own-here ar a k f (and-l (ownRule ar a k f) _ h)) (owned-filled ar es (a + takes k f) (and-r (ownRule ar a k f) _ h))
-
-pub owned-sound : (st ar : List ℕ) → sound st ar ≡ true → Owned ar (entries st)
-unfolding sound filled
-owned-sound st ar h = owned-filled ar (entries st) 0 (and-r (nested (entries st)) _ h)
+use Rattle.entries.specs.Walk.{entries}
+use Rattle.contents.specs.Contents.{ownRule}
+use Rattle.entries.proofs.Walking.{rest, rest-all, rest-over, rest-none, next-at}
+use Rattle.rendering.specs.Rendering.{linesOf, rendering, limit}
+use Rattle.record_lines.specs.Lines.{lineOf}
+use Rattle.record_lines.specs.Writing.{keepsDigits, lineLength}
+use Rattle.rendering.specs.Rendering.{capped}
+use Rattle.numerals.specs.Written.{Wrote}
+use Rattle.stores.specs.Soundness.{Owned, none, more}
+use Rattle.record_lines.proofs.Lines.{rule-digits, line-size}
 
 -- The lines from an offset of the store on
 
-owned-first : (ar : List ℕ) (k : Kind) (f : Fields) (n : ℕ) (es : List Entry) → Owned ar (Record k f n ∷ es) → (own ar k f ≡ true) × Owned ar es
+owned-first : (ar : List ℕ) (k : Kind) (f : Fields) (n : ℕ) (es : List Entry) → Owned ar (Record k f n ∷ es) → (ownRule ar k f ≡ true) × Owned ar es
 owned-first ar k f n es (more h o) = (h, o)
 
 pub lines : List ℕ → List ℕ → ℕ → List ℕ
@@ -69,7 +47,7 @@ module _ (st ar : List ℕ) (from : ℕ) where
     unfolding lines linesOf lineOf
     lines-next = rw (next-at st from k f next h e .here)
 
-    owned-next : Owned ar (rest st from) → (own ar k f ≡ true) × Owned ar (rest st next)
+    owned-next : Owned ar (rest st from) → (ownRule ar k f ≡ true) × Owned ar (rest st next)
     owned-next o = owned-first ar k f (next - from) (rest st next) (rw (next-at st from k f next h e .here) at o)
 
 -- The first walk: the lines so far have the total as their length, which keeps the limit
@@ -105,7 +83,7 @@ summing-none st ar from total h e w = summed st ar from total (lines-none st ar 
 
 module _ (st ar : List ℕ) (from total : ℕ) (k : Kind) (f : Fields) (next : ℕ) (h : from < length st) (e : entryAt st from ≡ Record k f next) (w : Summing st ar from total) where
   pub summing-digits : keepsDigits k f ≡ true
-  summing-digits = own-digits ar k f (owned-next st ar from k f next h e (w .owned) .0)
+  summing-digits = rule-digits ar k f (owned-next st ar from k f next h e (w .owned) .0)
 
   -- the next line is one more of them
   more-lines : length (rendering st ar) ≡ total + (lineLength k f + length (lines st ar next))
@@ -161,7 +139,7 @@ module _ (st ar l m : List ℕ) (from at : ℕ) (w : Writing st ar l m from at) 
   writing-none h e = written (lines-none st ar from h e)
 
   module _ (k : Kind) (f : Fields) (next : ℕ) (h : from < length st) (e : entryAt st from ≡ Record k f next) where
-    pub writing-own : own ar k f ≡ true
+    pub writing-own : ownRule ar k f ≡ true
     writing-own = owned-next st ar from k f next h e (w .owned) .0
 
     line-first : drop at (rendering st ar) ≡ lineOf ar (Record k f 0) ++ lines st ar next

@@ -1,2 +1,1 @@
 pub mod Rendering
-pub mod Writing

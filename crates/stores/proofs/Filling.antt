@@ -1,23 +1,78 @@
--- Laws of the walk over contents: the area is filled just where it is from here on; what a record takes lies inside. Assumes nothing.
+-- Laws of the walk over contents: the three clauses hold from a record on just where it keeps its own rule and its
+-- content follows, and they hold behind it; what a record takes lies inside. Every record of a sound store keeps its
+-- own rule. Assumes nothing.
 use Prim.Native.Nat.{ℕ, _+_, _-_, _≤_, _<_}
 use mathlib.Core.Path.{_≡_, refl, sym, ap, _∙_}
-use mathlib.Core.Bool.{Bool, true, false, cond, _&&_}
+use mathlib.Core.Bool.{Bool, true, false, cond, _&&_, true≢false}
 use mathlib.Core.List.{List, [], _∷_}
 use native.Mathlib.Omega.{arith}
-use native.Mathlib.Nat.{add-zero}
-use borrow.Author.Tests.{leb-true, eqb-true}
-use lib.Dec.{leb, eqb}
+use borrow.Author.Tests.{eqb-true}
+use lib.Dec.{eqb}
 use lib.ListN.{length}
 use Rattle.text.proofs.Bools.{and-l, and-r}
 use Rattle.kinds.specs.declared.Kind.{Kind}
 use Rattle.entries.specs.declared.Fields.{Fields}
 use Rattle.entries.specs.declared.Entry.{Entry}
 use Rattle.entries.specs.declared.Entry.the-variants.{Record, Nothing}
-use Rattle.kinds.specs.Kinds.{shapeOf, isContent, marksOf}
+use Rattle.kinds.specs.Kinds.{shapeOf, isContent}
 use Rattle.entries.specs.Entries.{entryAt}
-use Rattle.stores.specs.Walk.{entries}
-use Rattle.stores.specs.Contents.{readable, partsKept, contentLength, contentKept, ownRule, takes, filledFrom, filled}
-use Rattle.stores.proofs.Walking.{rest, rest-all, rest-over, rest-none, next-at}
+use Rattle.entries.specs.Walk.{entries}
+use Rattle.entries.proofs.Walking.{rest, rest-all, rest-over, rest-none, next-at}
+use Rattle.nesting.specs.Nesting.{nested}
+use Rattle.contents.specs.Contents.{contentLength, isInside, isReadable, ownRule}
+use Rattle.contents.proofs.Kept.{content-length, own-inside}
+use Rattle.stores.specs.Soundness.{eachReadable, eachInside, follows, takes, laidOut, filledFrom, filled, kept, sound, Owned, none, more}
+
+-- a record's part in the three clauses, and that of the records behind it
+together : (r rs i is p ps : Bool) → ((r && rs) && ((i && is) && (p && ps))) ≡ ((p && (i && r)) && (rs && (is && ps)))
+together true rs true is true ps = refl
+together true true true true false ps = refl
+together true true true false false ps = refl
+together true false true is false ps = refl
+together true true false is true ps = refl
+together true true false is false ps = refl
+together true false false is true ps = refl
+together true false false is false ps = refl
+together false rs true is true ps = refl
+together false rs true is false ps = refl
+together false rs false is true ps = refl
+together false rs false is false ps = refl
+
+module _ (es : List Entry) (ar : List ℕ) (a : ℕ) where
+  -- a record is kept, and the clauses hold behind it
+  pub filled-record : (k : Kind) (f : Fields) (next : ℕ) → filledFrom (Record k f next ∷ es) ar a ≡ (kept ar a k f && filledFrom es ar (a + takes k f))
+  unfolding filledFrom eachReadable eachInside laidOut kept ownRule
+  filled-record k f next = together (isReadable ar k f) (eachReadable es ar) (isInside (length ar) k f) (eachInside es (length ar)) (follows a k f) (laidOut es (length ar) (a + takes k f))
+
+  -- what cannot be read as a record breaks them
+  pub filled-nothing : filledFrom (Nothing ∷ es) ar a ≡ false
+  unfolding filledFrom eachReadable
+  filled-nothing = refl
+
+-- without records the area must end here
+pub filled-none : (ar : List ℕ) (a : ℕ) → filledFrom [] ar a ≡ eqb a (length ar)
+unfolding filledFrom eachReadable eachInside laidOut
+filled-none ar a = refl
+
+-- a record is kept by both its rule and its place
+pub kept-rule : (ar : List ℕ) (a : ℕ) (k : Kind) (f : Fields) → kept ar a k f ≡ true → ownRule ar k f ≡ true
+unfolding kept
+kept-rule ar a k f h = and-r (follows a k f) _ h
+
+pub kept-place : (ar : List ℕ) (a : ℕ) (k : Kind) (f : Fields) → kept ar a k f ≡ true → isContent (shapeOf k) ≡ true → f .number ≡ a
+unfolding kept follows
+kept-place ar a k f h e = eqb-true (f .number) a (rw e at (and-l (follows a k f) _ h))
+
+-- what it takes lies inside
+pub takes-inside : (ar : List ℕ) (a : ℕ) (k : Kind) (f : Fields) → a ≤ length ar → kept ar a k f ≡ true → a + takes k f ≤ length ar
+unfolding takes
+takes-inside ar a k f h e = by (isContent (shapeOf k)) refl
+  where
+    by : (t : Bool) → isContent (shapeOf k) ≡ t → a + cond t (contentLength k f) 0 ≤ length ar
+    by true q = omega (arith, kept-place ar a k f e q, own-inside ar k f (kept-rule ar a k f e) q .inside, content-length k f)
+    by false q = omega arith
+
+-- By offsets of the store: all of it, its end, an entry that is none, a record that breaks a clause, one that keeps them
 
 pub fill-all : (st ar : List ℕ) → filled (entries st) ar ≡ filledFrom (rest st 0) ar 0
 unfolding filled
@@ -25,45 +80,26 @@ fill-all st ar = rw rest-all
 
 module _ (st ar : List ℕ) (at a : ℕ) where
   pub fill-end : length st ≤ at → filledFrom (rest st at) ar a ≡ eqb a (length ar)
-  unfolding filledFrom
-  fill-end h = rw (rest-over st at h)
+  fill-end h = rw (rest-over st at h) (filled-none ar a)
 
   pub fill-none : at < length st → entryAt st at ≡ Nothing → filledFrom (rest st at) ar a ≡ false
-  unfolding filledFrom
-  fill-none h e = rw (rest-none st at h e)
+  fill-none h e = rw (rest-none st at h e) (filled-nothing [] ar a)
 
   module _ (k : Kind) (f : Fields) (next : ℕ) (h : at < length st) (e : entryAt st at ≡ Record k f next) where
-    pub fill-breaks : ownRule ar a k f ≡ false → filledFrom (rest st at) ar a ≡ false
-    unfolding filledFrom
-    fill-breaks o = rw (next-at st at k f next h e .here, o)
+    pub fill-breaks : kept ar a k f ≡ false → filledFrom (rest st at) ar a ≡ false
+    fill-breaks o = rw (next-at st at k f next h e .here) (filled-record (rest st next) ar a k f (next - at) ∙ rw o)
 
-    pub fill-keeps : ownRule ar a k f ≡ true → filledFrom (rest st at) ar a ≡ filledFrom (rest st next) ar (a + takes k f)
-    unfolding filledFrom
-    fill-keeps o = rw (next-at st at k f next h e .here, o)
+    pub fill-keeps : kept ar a k f ≡ true → filledFrom (rest st at) ar a ≡ filledFrom (rest st next) ar (a + takes k f)
+    fill-keeps o = rw (next-at st at k f next h e .here) (filled-record (rest st next) ar a k f (next - at) ∙ rw o)
 
--- where a record's content is kept
-pub record Kept (ar : List ℕ) (a : ℕ) (k : Kind) (f : Fields) : Type 0 where
-  pub marked : marksOf k ≤ f .token .length
-  pub here : f .number ≡ a
-  pub inside : contentLength k f ≤ length ar - a
+-- every record of a sound store keeps its own rule
+owned-filled : (ar : List ℕ) (es : List Entry) (a : ℕ) → filledFrom es ar a ≡ true → Owned ar es
+owned-filled ar [] a h = none
+owned-filled ar (Nothing ∷ es) a h = absurd (true≢false (sym h ∙ filled-nothing es ar a))
+owned-filled ar (Record k f next ∷ es) a h =
+    let both : (kept ar a k f && filledFrom es ar (a + takes k f)) ≡ true = sym (filled-record es ar a k f next) ∙ h in
+    more (kept-rule ar a k f (and-l (kept ar a k f) _ both)) (owned-filled ar es (a + takes k f) (and-r (kept ar a k f) _ both))
 
-pub content-kept : (ar : List ℕ) (a : ℕ) (k : Kind) (f : Fields) → contentKept ar a k f ≡ true → Kept ar a k f
-unfolding contentKept
-content-kept ar a k f e =
-    let marks = leb (marksOf k) (f .token .length) in
-    let start = eqb (f .number) a in
-    let fits = leb (contentLength k f) (length ar - a) in
-    let last = and-r start _ (and-r marks _ e) in
-    record {
-      marked = leb-true (marksOf k) (f .token .length) (and-l marks _ e);
-      here = eqb-true (f .number) a (and-l start _ (and-r marks _ e));
-      inside = leb-true (contentLength k f) (length ar - a) (and-l fits _ last);
-    }
-
-pub takes-inside : (ar : List ℕ) (a : ℕ) (k : Kind) (f : Fields) → a ≤ length ar → ownRule ar a k f ≡ true → a + takes k f ≤ length ar
-unfolding ownRule takes
-takes-inside ar a k f h e = by (isContent (shapeOf k)) e
-  where
-    by : (t : Bool) → cond t (contentKept ar a k f) (partsKept (f .parts)) ≡ true → a + cond t (contentLength k f) 0 ≤ length ar
-    by true e = omega (arith, content-kept ar a k f e .inside)
-    by false e = omega arith
+pub owned-sound : (st ar : List ℕ) → sound st ar ≡ true → Owned ar (entries st)
+unfolding sound filled
+owned-sound st ar h = owned-filled ar (entries st) 0 (and-r (nested (entries st)) _ h)

@@ -1,7 +1,3 @@
-pub mod Walking
-pub mod Nesting
-pub mod Quoting
-pub mod Contents
 pub mod Filling
 pub mod Looking
 pub mod Records

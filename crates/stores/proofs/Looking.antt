@@ -8,23 +8,22 @@ use types.Run.{OneOf}
 use denote.Enum.Declared.{tagOf}
 use native.Mathlib.Omega.{arith}
 use lib.ListN.{length, take, drop}
-use Rattle.text.proofs.Bools.{and-l, and-r}
 use Rattle.kinds.specs.declared.Kind.{Kind}
 use Rattle.entries.specs.declared.Fields.{Fields}
 use Rattle.entries.specs.declared.Entry.{Entry}
 use Rattle.entries.specs.declared.Entry.the-variants.{Record, Nothing}
 use Rattle.kinds.specs.Kinds.{shapeOf, isContent}
 use Rattle.entries.specs.Entries.{entryAt}
-use Rattle.stores.specs.Walk.{entries}
-use Rattle.stores.specs.Nesting.{nested}
-use Rattle.stores.specs.Contents.{partsKept, contentLength, contentKept, ownRule, takes, filledFrom, filled}
-use Rattle.stores.specs.Soundness.{sound}
+use Rattle.entries.specs.Walk.{entries}
+use Rattle.contents.specs.Contents.{contentLength}
+use Rattle.contents.proofs.Kept.{content-length, own-inside}
+use Rattle.stores.specs.Soundness.{sound, Owned, none, more}
 use Rattle.stores.specs.Content.{nth, partOf, contentAt, partBytes}
 use Rattle.stores.specs.declared.Content.{Content}
 use Rattle.stores.specs.declared.Content.the-variants.{Part, NotSound, NoContent}
 use Rattle.stores.proofs.Content.{the-type as content-type}
-use Rattle.stores.proofs.Walking.{rest, rest-all, rest-over, rest-none, next-at}
-use Rattle.stores.proofs.Filling.{content-kept, takes-inside}
+use Rattle.entries.proofs.Walking.{rest, rest-all, rest-over, rest-none, next-at}
+use Rattle.stores.proofs.Filling.{owned-sound}
 
 pub part-all : (st : List ℕ) (i : ℕ) → partOf (nth (entries st) i) ≡ partOf (nth (rest st 0) i)
 part-all st i = rw rest-all
@@ -55,32 +54,29 @@ module _ (st : List ℕ) (at : ℕ) where
         rw (next-at st at k f next h e .here, less)
 
 -- a content of a filled area lies inside
-part-inside : (es : List Entry) (ar : List ℕ) (a i from size : ℕ) → a ≤ length ar → filledFrom es ar a ≡ true → partOf (nth es i) ≡ Part from size → from + size ≤ length ar
-unfolding filledFrom nth partOf
-part-inside [] ar a i from size h e p =
+part-inside : (es : List Entry) (ar : List ℕ) (i from size : ℕ) → Owned ar es → partOf (nth es i) ≡ Part from size → from + size ≤ length ar
+unfolding nth partOf
+part-inside [] ar i from size o p =
     let z : _≡_ {A = ℕ} 0 1 = cc in
     absurd (omega arith)
-part-inside (Nothing ∷ es) ar a i from size h e p = absurd (true≢false (sym e))
-part-inside (Record k f n ∷ es) ar a zero from size h e p = by (isContent (shapeOf k)) refl p
+part-inside (Record k f n ∷ es) ar zero from size (more h o) p = by (isContent (shapeOf k)) refl p
   where
     by : (t : Bool) → isContent (shapeOf k) ≡ t → cond t (Part (f .number) (contentLength k f)) NoContent ≡ Part from size → from + size ≤ length ar
     by true q p =
-        let kept = content-kept ar a k f (unfold ownRule in rw q at (and-l (ownRule ar a k f) _ e)) in
         let start : f .number ≡ from = cc in
         let long : contentLength k f ≡ size = cc in
-        omega (arith, kept .here, kept .inside)
+        omega (arith, own-inside ar k f h q .inside, content-length k f)
     by false q p =
         let z : _≡_ {A = ℕ} 0 1 = cc in
         absurd (omega arith)
-part-inside (Record k f n ∷ es) ar a (suc i) from size h e p =
-    part-inside es ar (a + takes k f) i from size (takes-inside ar a k f h (and-l (ownRule ar a k f) _ e)) (and-r (ownRule ar a k f) _ e) p
+part-inside (Record k f n ∷ es) ar (suc i) from size (more h o) p = part-inside es ar i from size o p
 
 pub content-inside : (st ar : List ℕ) (i from size : ℕ) → contentAt st ar i ≡ Part from size → from + size ≤ length ar
-unfolding contentAt sound filled
+unfolding contentAt
 content-inside st ar i from size p = by (sound st ar) refl p
   where
     by : (t : Bool) → sound st ar ≡ t → cond t (partOf (nth (entries st) i)) NotSound ≡ Part from size → from + size ≤ length ar
-    by true q p = part-inside (entries st) ar 0 i from size (omega arith) (and-r (nested (entries st)) _ q) p
+    by true q p = part-inside (entries st) ar i from size (owned-sound st ar q) p
     by false q p =
         let z : _≡_ {A = ℕ} 0 1 = cc in
         absurd (omega arith)

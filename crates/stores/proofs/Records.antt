@@ -1,28 +1,28 @@
--- The walk by offsets. Proved: a caller who walks a sound store from offset 0 on by `next` meets exactly its records, in order (walk-sound). Assumes nothing.
+-- The walk by offsets. Proved: a caller who walks a sound store from offset 0 on by `next` meets exactly its records,
+-- in order (walk-sound). Assumes nothing.
 use Prim.Native.Nat.{ℕ, _+_, _-_, _≤_, _<_}
 use mathlib.Core.Path.{_≡_, refl, sym, ap, _∙_}
-use mathlib.Core.Bool.{Bool, true, false, cond, _&&_, true≢false}
+use mathlib.Core.Bool.{Bool, true, false, cond}
 use mathlib.Core.List.{List, [], _∷_}
 use native.Mathlib.Omega.{arith}
-use borrow.Author.Tests.{le-leb, leb-true, leb-false}
+use borrow.Author.Tests.{leb-true, leb-false}
 use lib.Dec.{leb}
 use lib.ListN.{length}
-use Rattle.text.proofs.Bools.{and-l, and-r}
 use Rattle.kinds.specs.declared.Kind.{Kind}
 use Rattle.entries.specs.declared.Fields.{Fields}
 use Rattle.entries.specs.declared.Entry.{Entry}
 use Rattle.entries.specs.declared.Entry.the-variants.{Record as Whole, Nothing}
-use Rattle.kinds.specs.Kinds.{numberOf, shapeOf, isContent, marksOf}
+use Rattle.kinds.specs.Kinds.{numberOf, shapeOf, isContent}
 use Rattle.entries.specs.Entries.{entryAt}
-use Rattle.stores.specs.Walk.{entries}
-use Rattle.stores.specs.Nesting.{nested}
-use Rattle.stores.specs.Contents.{contentLength, ownRule, takes, filledFrom, filled}
-use Rattle.stores.specs.Soundness.{sound}
-use Rattle.stores.specs.Records.{lies, answered, walkedOf, walkedAt, Walks, over, onto, answers}
+use Rattle.entries.specs.Walk.{entries}
+use Rattle.contents.specs.Contents.{contentLength, lies, ownRule}
+use Rattle.contents.proofs.Kept.{own-lies}
+use Rattle.stores.specs.Soundness.{sound, Owned, none, more}
+use Rattle.stores.specs.Records.{answered, walkedOf, walkedAt, Walks, over, onto, answers}
 use Rattle.stores.specs.declared.Walked.{Walked}
 use Rattle.stores.specs.declared.Walked.the-variants.{Record, NoRecord}
-use Rattle.stores.proofs.Walking.{rest, rest-all, rest-over, rest-none, next-at}
-use Rattle.stores.proofs.Filling.{content-kept, takes-inside}
+use Rattle.entries.proofs.Walking.{rest, rest-all, rest-over, rest-none, next-at}
+use Rattle.stores.proofs.Filling.{owned-sound}
 
 -- an offset from which entries follow lies inside the store, and one from which none do does not
 rest-here : (st : List ℕ) (at : ℕ) (e : Entry) (es : List Entry) → rest st at ≡ e ∷ es → at < length st
@@ -72,16 +72,13 @@ starts-of st at k f n es q = by (entryAt st at) (rest-here st at _ es q) refl
         record { entry = e ∙ rw (kind, fields, end); more = rw (← end) then }
 
 -- a record that keeps its own rule is answered
-kept-answered : (ar : List ℕ) (a : ℕ) (k : Kind) (f : Fields) (next : ℕ) → a ≤ length ar → ownRule ar a k f ≡ true → walkedOf (length ar) (Whole k f next) ≡ answered k f next
-unfolding walkedOf lies
-kept-answered ar a k f next h o = by (isContent (shapeOf k)) refl
+kept-answered : (ar : List ℕ) (k : Kind) (f : Fields) (next : ℕ) → ownRule ar k f ≡ true → walkedOf (length ar) (Whole k f next) ≡ answered k f next
+unfolding walkedOf
+kept-answered ar k f next o = by (isContent (shapeOf k)) refl
   where
     by : (t : Bool) → isContent (shapeOf k) ≡ t → cond t (cond (lies (length ar) k f) (answered k f next) NoRecord) (answered k f next) ≡ answered k f next
     by false q = refl
-    by true q =
-        let kept = content-kept ar a k f (unfold ownRule in rw q at o) in
-        let inside : f .number + contentLength k f ≤ length ar = omega (arith, kept .here, kept .inside) in
-        rw (le-leb _ _ (kept .marked), le-leb _ _ inside)
+    by true q = rw (own-lies ar k f o q)
 
 -- one step of the walk, whether or not there is content
 step : (st ar : List ℕ) (at next : ℕ) (k : Kind) (f : Fields) (ws : List Walked) → walkedAt st ar at ≡ answered k f next → Walks st ar next ws → Walks st ar at (answered k f next ∷ ws)
@@ -92,16 +89,13 @@ step st ar at next k f ws e w = by (isContent (shapeOf k)) e
     by true e = onto e w
     by false e = onto e w
 
-walk-filled : (st ar : List ℕ) (es : List Entry) (at a : ℕ) → rest st at ≡ es → a ≤ length ar → filledFrom es ar a ≡ true → Walks st ar at (answers at es)
-unfolding filledFrom answers
-walk-filled st ar [] at a q h e = over (rest-empty st at q)
-walk-filled st ar (Nothing ∷ es) at a q h e = absurd (true≢false (sym e))
-walk-filled st ar (Whole k f n ∷ es) at a q h e =
+walk-owned : (st ar : List ℕ) (es : List Entry) (at : ℕ) → rest st at ≡ es → Owned ar es → Walks st ar at (answers at es)
+unfolding answers
+walk-owned st ar [] at q none = over (rest-empty st at q)
+walk-owned st ar (Whole k f n ∷ es) at q (more h o) =
     let s = starts-of st at k f n es q in
-    let kept = and-l (ownRule ar a k f) _ e in
-    let here : walkedAt st ar at ≡ answered k f (at + n) = unfold walkedAt in rw (s .entry) (kept-answered ar a k f (at + n) h kept) in
-    step st ar at (at + n) k f (answers (at + n) es) here (walk-filled st ar es (at + n) (a + takes k f) (s .more) (takes-inside ar a k f h kept) (and-r (ownRule ar a k f) _ e))
+    let here : walkedAt st ar at ≡ answered k f (at + n) = unfold walkedAt in rw (s .entry) (kept-answered ar k f (at + n) h) in
+    step st ar at (at + n) k f (answers (at + n) es) here (walk-owned st ar es (at + n) (s .more) o)
 
 pub walk-sound : (st ar : List ℕ) → sound st ar ≡ true → Walks st ar 0 (answers 0 (entries st))
-unfolding sound filled
-walk-sound st ar e = walk-filled st ar (entries st) 0 0 (sym (rest-all st)) (omega arith) (and-r (nested (entries st)) _ e)
+walk-sound st ar e = walk-owned st ar (entries st) 0 (sym (rest-all st)) (owned-sound st ar e)

@@ -1,5 +1,5 @@
--- CONTENT (document 01): store, area and a record number from 0. 12 where the store isn't sound; 14 where there is no such record, or it has no content; else the part of
--- the area that holds it. Assumes nothing.
+-- CONTENT (document 01): store, area and a record number from 0. 12 where the store isn't sound; 14 where there is no
+-- such record, or it has no content; else the part of the area that holds it. Assumes nothing.
 use Prim.Native.Nat.{ℕ, zero, suc, _-_}
 use mathlib.Core.Bool.{Bool, true, false, cond}
 use mathlib.Core.List.{List, [], _∷_}
@@ -9,8 +9,8 @@ use Rattle.places.specs.Reports.{success, refusedBare}
 use Rattle.entries.specs.declared.Entry.{Entry}
 use Rattle.entries.specs.declared.Entry.the-variants.{Record, Nothing}
 use Rattle.kinds.specs.Kinds.{shapeOf, isContent}
-use Rattle.stores.specs.Walk.{entries}
-use Rattle.stores.specs.Contents.{contentLength}
+use Rattle.entries.specs.Walk.{entries}
+use Rattle.contents.specs.Contents.{contentLength}
 use Rattle.stores.specs.Soundness.{sound}
 use Rattle.stores.specs.declared.Content.{Content}
 use Rattle.stores.specs.declared.Content.the-variants.{Part, NotSound, NoContent}

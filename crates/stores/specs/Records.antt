@@ -1,26 +1,22 @@
--- A WALK IN LINEAR TIME: the record at a byte offset of a store, with the part of the area that holds its content, and where the next one starts; 14 where no whole
--- record of a known kind starts there, where P's length is below its kind's marks, or where the content does not lie inside the area. It looks at that record only, and
--- promises no more: the bytes may be any, of any length. A caller who walks a sound store from offset 0 on by `next` meets exactly its records, in order
--- (proofs/Records.antt, walk-sound). Assumes nothing.
-use Prim.Native.Nat.{ℕ, _+_, _-_, _≤_}
+-- A WALK IN LINEAR TIME: the record at a byte offset of a store, with the part of the area that holds its content,
+-- and where the next one starts; 14 where no whole record of a known kind starts there, where P's length is below its
+-- kind's marks, or where the content does not lie inside the area. It looks at that record only, and promises no
+-- more: the bytes may be any, of any length. A caller who walks a sound store from offset 0 on by `next` meets
+-- exactly its records, in order (proofs/Records.antt, walk-sound). Assumes nothing.
+use Prim.Native.Nat.{ℕ, _+_, _≤_}
 use mathlib.Core.Path.{_≡_}
-use mathlib.Core.Bool.{Bool, cond, _&&_}
+use mathlib.Core.Bool.{cond}
 use mathlib.Core.List.{List, [], _∷_}
-use lib.Dec.{leb}
 use lib.ListN.{length}
 use Rattle.kinds.specs.declared.Kind.{Kind}
 use Rattle.entries.specs.declared.Fields.{Fields}
 use Rattle.entries.specs.declared.Entry.{Entry}
 use Rattle.entries.specs.declared.Entry.the-variants.{Record as Whole, Nothing}
-use Rattle.kinds.specs.Kinds.{numberOf, shapeOf, isContent, marksOf}
+use Rattle.kinds.specs.Kinds.{numberOf, shapeOf, isContent}
 use Rattle.entries.specs.Entries.{entryAt}
-use Rattle.stores.specs.Contents.{contentLength}
+use Rattle.contents.specs.Contents.{contentLength, lies}
 use Rattle.stores.specs.declared.Walked.{Walked}
 use Rattle.stores.specs.declared.Walked.the-variants.{Record, NoRecord}
-
--- the content lies inside an area of so many bytes
-unfoldable pub lies : ℕ → Kind → Fields → Bool
-lies size k f = leb (marksOf k) (f .token .length) && leb (f .number + contentLength k f) size
 
 -- a record with its content's part; one that has none has an empty part at 0
 unfoldable pub answered : Kind → Fields → ℕ → Walked

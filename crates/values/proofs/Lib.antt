@@ -4,3 +4,4 @@ pub mod Views
 pub mod Laws
 pub mod Tokens
 pub mod Ended
+pub mod Alone

@@ -3,7 +3,7 @@ use borrow.Author.Needs.{needs}
 use mathlib.Core.Path.{sym, _∙_}
 use native.Mathlib.Omega.{arith}
 use borrow.Author.Tests.{not-true, not-false}
-use Rattle.rendering.proofs.Passing.{owned-sound}
+use Rattle.stores.proofs.Filling.{owned-sound}
 use Rattle.rendering.proofs.Answers.{right-unsound, right-long, needed, right-room, right-done}
 use Rattle.rendering.proofs.render.Statement.{statement}
 use Rattle.rendering.proofs.render.Tie as tie

@@ -7,7 +7,7 @@ use lib.ListN.{length}
 use borrow.Author.Needs.{needs}
 use Rattle.entries.specs.declared.Entry.the-variants.{Record}
 use Rattle.entries.specs.Entries.{entryAt}
-use Rattle.stores.proofs.Walking.{next-at}
+use Rattle.entries.proofs.Walking.{next-at}
 use Rattle.rendering.proofs.Passing.{Summing, summing-first, summing-end, summing-none, summing-digits, summing-over, summing-more}
 use Rattle.rendering.proofs.rendered_length.Statement.{statement}
 use Rattle.rendering.proofs.rendered_length.Tie as tie

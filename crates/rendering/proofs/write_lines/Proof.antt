@@ -6,7 +6,7 @@ use lib.ListN.{length}
 use borrow.Author.Needs.{needs}
 use Rattle.entries.specs.declared.Entry.the-variants.{Record}
 use Rattle.entries.specs.Entries.{entryAt}
-use Rattle.stores.proofs.Walking.{next-at}
+use Rattle.entries.proofs.Walking.{next-at}
 use Rattle.rendering.proofs.Passing.{Writing, writing-first, writing-length, writing-end, writing-none, writing-own, writing-room, writing-more}
 use Rattle.rendering.proofs.write_lines.Statement.{statement}
 use Rattle.rendering.proofs.write_lines.Tie as tie

@@ -8,9 +8,9 @@ use borrow.Author.Needs.{needs}
 use borrow.Author.Tests.{not-true, not-false}
 use Rattle.entries.specs.declared.Entry.the-variants.{Record}
 use Rattle.entries.specs.Entries.{entryAt}
-use Rattle.stores.specs.Walk.{entries}
-use Rattle.stores.specs.Contents.{ownRule, takes, filled, filledFrom}
-use Rattle.stores.proofs.Walking.{rest, next-at}
+use Rattle.entries.specs.Walk.{entries}
+use Rattle.stores.specs.Soundness.{kept, takes, filled, filledFrom}
+use Rattle.entries.proofs.Walking.{rest, next-at}
 use Rattle.stores.proofs.Filling.{fill-all, fill-end, fill-none, fill-breaks, fill-keeps, takes-inside}
 use Rattle.stores.proofs.is_filled.Statement.{statement}
 use Rattle.stores.proofs.is_filled.Tie as tie
@@ -39,8 +39,8 @@ returns c =
     let here = c .before .before .before .before .loop in
     sym (here .inv .2 ∙ fill-none (given .store .now) (given .area .now) (here .at) (here .from) (c .before .before .before .loop-test .taken) (sym (c .before .before .read-record .ensures) ∙ c .enum-told .given .1))
 
-keeps-rule-requires : tie.Need-keeps-rule-requires Inv-loop μ-loop
-keeps-rule-requires c κs = omega arith
+is-kept-requires : tie.Need-is-kept-requires Inv-loop μ-loop
+is-kept-requires c κs = search needs
 
 returns-2 : tie.Need-returns-2 Inv-loop μ-loop
 returns-2 c =
@@ -48,7 +48,7 @@ returns-2 c =
     let here = c .before .before .before .before .before .before .before .loop in
     let got = c .before .before .before .kind .given in
     let e : entryAt (given .store .now) (here .at) ≡ Record (got .0 .0) (got .0 .1 .0) (got .0 .1 .1 .0) = sym (c .before .before .before .before .before .read-record .ensures) ∙ got .1 in
-    sym (here .inv .2 ∙ fill-breaks (given .store .now) (given .area .now) (here .at) (here .from) _ _ _ (c .before .before .before .before .before .before .loop-test .taken) e (sym (c .before .keeps-rule .ensures) ∙ not-true _ (c .if1 .taken)))
+    sym (here .inv .2 ∙ fill-breaks (given .store .now) (given .area .now) (here .at) (here .from) _ _ _ (c .before .before .before .before .before .before .loop-test .taken) e (sym (c .before .is-kept .ensures) ∙ not-true _ (c .if1 .taken)))
 
 taken-requires : tie.Need-taken-requires Inv-loop μ-loop
 taken-requires c κs = search needs
@@ -58,8 +58,8 @@ add-from c =
     let given = c .before .before .before .before .before .before .before .before .before .before .before .args in
     let here = c .before .before .before .before .before .before .before .before .loop in
     let got = c .before .before .before .before .kind .given in
-    let kept = takes-inside (given .area .now) (here .from) (got .0 .0) (got .0 .1 .0) (here .inv .1) (sym (c .before .before .keeps-rule .ensures) ∙ not-false _ (c .before .if1 .left)) in
-    omega (arith, kept, c .taken .ensures)
+    let room = takes-inside (given .area .now) (here .from) (got .0 .0) (got .0 .1 .0) (here .inv .1) (sym (c .before .before .is-kept .ensures) ∙ not-false _ (c .before .if1 .left)) in
+    omega (arith, room, c .taken .ensures)
 
 loop-less : tie.Need-loop-less Inv-loop μ-loop
 loop-less c =
@@ -76,9 +76,9 @@ loop-again c =
     let got = c .before .before .before .before .kind .given in
     let inside : here .at < length (given .store .now) = omega arith in
     let e : entryAt (given .store .now) (here .at) ≡ Record (got .0 .0) (got .0 .1 .0) (got .0 .1 .1 .0) = sym (c .before .before .before .before .before .before .read-record .ensures) ∙ got .1 in
-    let kept : ownRule (given .area .now) (here .from) (got .0 .0) (got .0 .1 .0) ≡ true = sym (c .before .before .keeps-rule .ensures) ∙ not-false _ (c .before .if1 .left) in
-    let room = takes-inside (given .area .now) (here .from) (got .0 .0) (got .0 .1 .0) (here .inv .1) kept in
-    (next-at (given .store .now) (here .at) _ _ _ inside e .within, omega (arith, room, c .taken .ensures), here .inv .2 ∙ fill-keeps (given .store .now) (given .area .now) (here .at) (here .from) _ _ _ inside e kept ∙ rw (← c .taken .ensures))
+    let keeps : kept (given .area .now) (here .from) (got .0 .0) (got .0 .1 .0) ≡ true = sym (c .before .before .is-kept .ensures) ∙ not-false _ (c .before .if1 .left) in
+    let room = takes-inside (given .area .now) (here .from) (got .0 .0) (got .0 .1 .0) (here .inv .1) keeps in
+    (next-at (given .store .now) (here .at) _ _ _ inside e .within, omega (arith, room, c .taken .ensures), here .inv .2 ∙ fill-keeps (given .store .now) (given .area .now) (here .at) (here .from) _ _ _ inside e keeps ∙ rw (← c .taken .ensures))
 
 returns-3 : tie.Need-returns-3 Inv-loop μ-loop
 returns-3 c =
@@ -97,7 +97,7 @@ is-filled-spec =
     enum-known-kind
     enum-told
     returns
-    keeps-rule-requires
+    is-kept-requires
     returns-2
     taken-requires
     add-from

@@ -6,9 +6,9 @@ use lib.ListN.{length}
 use borrow.Author.Needs.{needs}
 use Rattle.entries.specs.declared.Entry.the-variants.{Record}
 use Rattle.entries.specs.Entries.{entryAt}
-use Rattle.stores.specs.Walk.{entries}
+use Rattle.entries.specs.Walk.{entries}
 use Rattle.stores.specs.Content.{nth, partOf}
-use Rattle.stores.proofs.Walking.{rest, next-at}
+use Rattle.entries.proofs.Walking.{rest, next-at}
 use Rattle.stores.proofs.Looking.{part-all, part-end, part-none, part-here, part-more}
 use Rattle.stores.proofs.part_at.Statement.{statement}
 use Rattle.stores.proofs.part_at.Tie as tie

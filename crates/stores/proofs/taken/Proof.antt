@@ -1,6 +1,6 @@
 -- `stores::taken`: by whether the kind has content. Assumes nothing.
 use borrow.Author.Needs.{needs}
-use Rattle.stores.specs.Contents.{takes}
+use Rattle.stores.specs.Soundness.{takes}
 use Rattle.stores.proofs.taken.Statement.{statement}
 use Rattle.stores.proofs.taken.Tie as tie
 
