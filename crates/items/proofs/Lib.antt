@@ -14,3 +14,4 @@ pub mod Onward
 pub mod Choices
 pub mod First
 pub mod Packs
+pub mod Told

@@ -14,7 +14,8 @@ use Rattle.records.specs.Records.{tokenBytes, decimalBytes, endRecord, placeRec
 use Rattle.records.specs.Put.{front}
 use Rattle.entries.specs.Entries.{de32, de64, noParts, tokenOf as tokenAt, partsOf, plainFields, partsFields, fieldsOf, isKind, entryOf, entryAt}
 use Rattle.items.specs.Machine.{Rec}
-use Rattle.writing.specs.Writing.{tokenOf, tokenText, decimalOf, shaped, shapeIn, recordBytes, tagsOf, storeOf}
+use Rattle.writing.specs.Written.{tokenOf, tokenText, decimalOf, shaped, shapeIn, recordBytes}
+use Rattle.writing.specs.Writing.{tagsOf, storeOf}
 use Rattle.reading.specs.Services.{writtenIf, readStoreBy, readStore, readAreaBy, readArea}
 use Rattle.stores.specs.Walk.{onward, entriesFrom, entries}
 use Rattle.stores.specs.Nesting.{isValueKind, opensLoop, atItems, afterName, atNames, atValues, standing, ended, follow, nestedFrom, nested}

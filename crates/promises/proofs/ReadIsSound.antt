@@ -21,7 +21,8 @@ use Rattle.entries.specs.Entries.{stored}
 use Rattle.items.specs.Machine.{Rec, Answer, refused, done}
 use Rattle.items.specs.Reading.{outline}
 use Rattle.items.specs.Sizes.{contentSize, storeSize, areaSize}
-use Rattle.writing.specs.Writing.{tokenOf, contentOf, decimalOf, tagsOf, storeOf, areaOf}
+use Rattle.writing.specs.Written.{tokenOf, contentOf, decimalOf}
+use Rattle.writing.specs.Writing.{tagsOf, storeOf, areaOf}
 use Rattle.reading.specs.Services.{refusal, readRoom, readBy, readAnswer}
 use Rattle.stores.specs.Walk.{entries}
 use Rattle.stores.specs.Nesting.{nested}

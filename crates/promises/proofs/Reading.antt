@@ -14,7 +14,8 @@ use Rattle.records.specs.Put.{front}
 use Rattle.items.specs.Machine.{Rec, done}
 use Rattle.items.specs.Reading.{outline}
 use Rattle.items.specs.Sizes.{contentSize, storeSize, areaSize}
-use Rattle.writing.specs.Writing.{contentOf, shaped, shapeIn, recordBytes, tagsOf, storeOf, areaOf}
+use Rattle.writing.specs.Written.{contentOf, shaped, shapeIn, recordBytes}
+use Rattle.writing.specs.Writing.{tagsOf, storeOf, areaOf}
 use Rattle.reading.specs.Services.{readRoom, readBy, readAnswer, writtenIf, readStoreBy, readStore, readAreaBy, readArea}
 use Rattle.promises.specs.Results.{storeBytes, areaBytes}
 use Rattle.promises.proofs.Taken.{Outline, outline-taken}

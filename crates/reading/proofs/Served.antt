@@ -4,36 +4,26 @@ use mathlib.Core.Path.{_≡_, refl, sym, ap, _∙_}
 use mathlib.Core.Bool.{Bool, true, false, cond, true≢false, false≢true}
 use mathlib.Core.List.{List}
 use native.Mathlib.Omega.{arith}
-use borrow.Author.Tests.{lt-ltb, le-ltb, ltb-false}
+use borrow.Author.Tests.{lt-ltb, le-ltb}
 use lib.Dec.{ltb, eqb}
 use lib.ListN.{length}
-use Rattle.text.specs.Bytes.{isAscii}
-use Rattle.text.specs.Runs.{span}
 use Rattle.places.specs.Reports.{success, noRoom}
 use Rattle.records.specs.Put.{front}
 use Rattle.items.specs.declared.Sizes.{Sizes}
 use Rattle.items.specs.Machine.{Rec, Answer, refused, done}
 use Rattle.items.specs.Reading.{outline, decided, limit}
-use Rattle.items.specs.Sizes.{sizesOf, storeSize, outlineSize, areaSize}
-use Rattle.writing.specs.Writing.{storeOf, areaOf, areaIn}
+use Rattle.items.specs.Sizes.{storeSize, outlineSize, areaSize}
+use Rattle.items.proofs.Told.{sizes-of, outline-read}
+use Rattle.writing.specs.Writing.{storeOf, areaOf}
+use Rattle.writing.specs.Block.{Fits as Fitting, storeBytes, areaBytes}
+use Rattle.writing.proofs.Answers.{read-fits, outline-fits, store-bytes, area-bytes}
 use Rattle.reading.specs.declared.Refusal.{Refusal}
 use Rattle.reading.specs.declared.Judged.{Judged}
 use Rattle.reading.specs.declared.Judged.the-variants.{Fits, Declines}
 use Rattle.reading.specs.declared.Reading.the-variants.{Done, Refused, StoreFull, AreaFull}
 use Rattle.reading.specs.declared.Outlined.the-variants.{Written, Declined, NoRoom}
 use Rattle.reading.specs.Services.{refusal, refusalReport, readRoom, readBy, readAnswer, writtenIf, readStoreBy, readAreaBy, readStore, readArea, outlineRoom, outlineBy, outlineAnswer, outlineStoreBy, outlineStore, readingReport, outlinedReport}
-use Rattle.writing.specs.Walk.{storeLength, isDone, answerRecs}
 use Rattle.reading.specs.Judging.{Judgement, judgement, judgedAs, IsRead}
-
--- a text that is read keeps the limits, and its tokens say so
-pub read-of : (s : List ℕ) (rs : List Rec) → outline s ≡ done rs → (length s ≤ 16777216) × (decided s ≡ done rs)
-unfolding outline limit
-read-of s rs e = pick (ltb 16777216 (length s)) refl (ltb (span isAscii s) (length s)) e
-  where
-    pick : (x : Bool) → ltb 16777216 (length s) ≡ x → (y : Bool) → cond x (refused 1 0 0) (cond y (refused 2 (span isAscii s) 0) (decided s)) ≡ done rs → (length s ≤ 16777216) × (decided s ≡ done rs)
-    pick true p y q = let z : _≡_ {A = ℕ} 0 1 = cc in absurd (omega arith)
-    pick false p true q = let z : _≡_ {A = ℕ} 0 1 = cc in absurd (omega arith)
-    pick false p false q = (ltb-false 16777216 (length s) p, q)
 
 -- a judgement that a text fits
 fits : (s : List ℕ) (a : Answer) (z : Sizes) → outline s ≡ a → judgedAs (Fits z) ≡ judgement s a → IsRead s z
@@ -83,9 +73,9 @@ module _ (s l a : List ℕ) (rs : List Rec) (e : outline s ≡ done rs) (m k : �
       let u : ltb (length a) (areaSize rs) ≡ true = lt-ltb (length a) (areaSize rs) (omega arith) in
       (rw (e, t, u, p, q), (rw (e, t, u), rw (e, t, u)))
 
-  pub all-read : (l′ a′ : List ℕ) → m ≤ length l → k ≤ length a → l′ ≡ front (storeOf true s 0 rs) l → a′ ≡ front (areaIn true s rs) a
+  pub all-read : (l′ a′ : List ℕ) → m ≤ length l → k ≤ length a → l′ ≡ front (storeOf true s 0 rs) l → a′ ≡ front (areaOf s rs) a
       → (readingReport (Done m k) ≡ readAnswer s (length l) (length a)) × ((l′ ≡ readStore s l (length a)) × (a′ ≡ readArea s (length l) a))
-  unfolding readingReport readAnswer readStore readArea readBy readStoreBy readAreaBy readRoom writtenIf success areaIn
+  unfolding readingReport readAnswer readStore readArea readBy readStoreBy readAreaBy readRoom writtenIf success
   all-read l′ a′ h g v w =
       let t : ltb (length l) (storeSize rs) ≡ false = le-ltb (length l) (storeSize rs) (omega arith) in
       let u : ltb (length a) (areaSize rs) ≡ false = le-ltb (length a) (areaSize rs) (omega arith) in
@@ -106,26 +96,27 @@ module _ (s l : List ℕ) (rs : List Rec) (e : outline s ≡ done rs) (m : ℕ) 
 
 -- the lengths that a read text needs
 pub need-store : (s : List ℕ) (z : Sizes) (i : IsRead s z) → z .store ≡ storeSize (i .records)
-unfolding sizesOf
-need-store s z i = ap (λ (x : Sizes). x .store) (i .sizes)
+need-store s z i = ap (λ (x : Sizes). x .store) (i .sizes ∙ sizes-of (i .records))
 
 pub need-area : (s : List ℕ) (z : Sizes) (i : IsRead s z) → z .area ≡ areaSize (i .records)
-unfolding sizesOf
-need-area s z i = ap (λ (x : Sizes). x .area) (i .sizes)
+need-area s z i = ap (λ (x : Sizes). x .area) (i .sizes ∙ sizes-of (i .records))
 
 pub need-outline : (s : List ℕ) (z : Sizes) (i : IsRead s z) → z .outline ≡ outlineSize (i .records)
-unfolding sizesOf
-need-outline s z i = ap (λ (x : Sizes). x .outline) (i .sizes)
+need-outline s z i = ap (λ (x : Sizes). x .outline) (i .sizes ∙ sizes-of (i .records))
 
--- what the write pass asks of a text that is read, and of the room for its records
-pub write-asks : (full : Bool) (s : List ℕ) (rs : List Rec) (m k : ℕ) → outline s ≡ done rs → storeLength full rs ≤ m → (full ≡ true → areaSize rs ≤ k)
-    → (length s ≤ limit) × (isDone (decided s) ≡ true) × (storeLength full (answerRecs (decided s)) ≤ m) × (full ≡ true → areaSize (answerRecs (decided s)) ≤ k)
-unfolding isDone answerRecs limit
-write-asks full s rs m k e h g =
-    let d = read-of s rs e .1 in
-    (read-of s rs e .0, rw d, rw d h, λ f. rw d (g f))
+-- what the write pass asks, and what it leaves behind, where there is room for the records
+module _ (s : List ℕ) (z : Sizes) (i : IsRead s z) where
+  abbrev text : (length s ≤ limit) × (decided s ≡ done (i .records))
+  text = outline-read s (i .records) (i .answer)
 
--- the records that it writes are the text's
-pub writes : (s : List ℕ) (rs : List Rec) → outline s ≡ done rs → answerRecs (decided s) ≡ rs
-unfolding answerRecs
-writes s rs e = ap answerRecs (read-of s rs e .1)
+  pub read-asks : (l a : List ℕ) → z .store ≤ length l → z .area ≤ length a → Fitting true s l a
+  read-asks l a h k = read-fits s (i .records) (text .1) l a (text .0) (omega (arith, need-store s z i)) (omega (arith, need-area s z i))
+
+  pub outline-asks : (l a : List ℕ) → z .outline ≤ length l → Fitting false s l a
+  outline-asks l a h = outline-fits s (i .records) (text .1) l a (text .0) (omega (arith, need-outline s z i))
+
+  pub stored : (full : Bool) (l m : List ℕ) → m ≡ front (storeBytes full s) l → m ≡ front (storeOf full s 0 (i .records)) l
+  stored full l m e = e ∙ ap (λ (x : List ℕ). front x l) (store-bytes s (i .records) (text .1) full)
+
+  pub copied : (l m : List ℕ) → m ≡ front (areaBytes true s) l → m ≡ front (areaOf s (i .records)) l
+  copied l m e = e ∙ ap (λ (x : List ℕ). front x l) (area-bytes s (i .records) (text .1))

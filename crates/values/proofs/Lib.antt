@@ -2,3 +2,4 @@ pub mod Points
 pub mod Pieces
 pub mod Views
 pub mod Laws
+pub mod Kept

@@ -6,46 +6,27 @@ use mathlib.Core.List.{List, [], _∷_, _++_, append-assoc}
 use native.Mathlib.Omega.{arith}
 use native.Mathlib.Nat.{add-zero}
 use lib.ListN.{length, drop, length-append, length-take, length-drop}
-use Rattle.kinds.specs.declared.Kind.{Kind}
-use Rattle.kinds.specs.declared.Kind.the-variants.{NoKind, Block, FrameOpen, FrameClose, Tag, Loop, LoopTag, LoopEnd, Inapplicable, Unknown, Bare, SingleQuoted, DoubleQuoted, Multiline, Number, Uncertain}
 use Rattle.kinds.specs.declared.Shape.{Shape}
 use Rattle.kinds.specs.declared.Shape.the-variants.{Empty, Place, Content, Count, Parts, PartsUncertain}
-use Rattle.records.specs.Bytes.{le32, le64, signed32}
 use Rattle.kinds.specs.Kinds.{kindOf, shapeOf, shapeLength, outlineShape, bodyLength, outlineLength, marksOf, opening, hasContent}
-use Rattle.records.specs.Records.{tokenBytes, decimalBytes, placeRecord, contentRecord, loopRecord, numberRecord, uncertainRecord}
+use Rattle.kinds.proofs.Marks.{opening-marks}
+use Rattle.records.proofs.Forms.{length-place, length-content, length-loop, length-number, length-uncertain}
 use Rattle.items.specs.Machine.{Rec}
 use Rattle.items.specs.Sizes.{contentSize, storeSize, outlineSize, areaSize}
-use Rattle.writing.specs.Writing.{shaped, shapeIn, recordBytes, tagsOf, storeOf, contentOf, areaOf}
-use Rattle.writing.specs.Walk.{storeLength, recordLength}
+use Rattle.writing.specs.Written.{tokenOf, decimalOf, shaped, shapeIn, recordBytes, contentOf}
+use Rattle.writing.specs.Writing.{tagsOf, storeOf, areaOf}
+use Rattle.writing.specs.Desk.{storeLength, recordLength}
 
 -- Lengths
 
 shaped-length : (h : Shape) (s : List ℕ) (a n : ℕ) (r : Rec) → length (shaped h s a n r) ≡ suc (shapeLength h)
-unfolding shaped shapeLength placeRecord contentRecord loopRecord numberRecord uncertainRecord tokenBytes decimalBytes le32 le64 signed32
+unfolding shaped shapeLength
 shaped-length Empty s a n r = refl
-shaped-length Place s a n r = refl
-shaped-length Content s a n r = refl
-shaped-length Count s a n r = refl
-shaped-length Parts s a n r = refl
-shaped-length PartsUncertain s a n r = refl
-
--- a body is short
-pub shape-short : (h : Shape) → shapeLength h ≤ 38
-unfolding shapeLength
-shape-short Empty = omega arith
-shape-short Place = omega arith
-shape-short Content = omega arith
-shape-short Count = omega arith
-shape-short Parts = omega arith
-shape-short PartsUncertain = omega arith
-
-pub body-short : (k : ℕ) → bodyLength k ≤ 38
-unfolding bodyLength
-body-short k = shape-short (shapeOf (kindOf k))
-
-pub outline-short : (k : ℕ) → outlineLength k ≤ 38
-unfolding outlineLength
-outline-short k = shape-short (outlineShape (shapeOf (kindOf k)))
+shaped-length Place s a n r = length-place (r .kind) (tokenOf s r)
+shaped-length Content s a n r = length-content (r .kind) (tokenOf s r) a
+shaped-length Count s a n r = length-loop (tokenOf s r) n
+shaped-length Parts s a n r = length-number (tokenOf s r) (decimalOf s r)
+shaped-length PartsUncertain s a n r = length-uncertain (tokenOf s r) (decimalOf s r)
 
 pub length-read : (full : Bool) (k : ℕ) → full ≡ true → 1 + bodyLength k ≡ recordLength full k
 unfolding recordLength shapeIn bodyLength
@@ -75,25 +56,6 @@ store-length full s a (r ∷ rs) =
     ∙ record-length full s a (tagsOf rs) r rs
 
 -- a content lies inside its token
-pub opening-marks : (k : Kind) → opening k ≤ marksOf k
-unfolding opening marksOf
-opening-marks NoKind = omega arith
-opening-marks Block = omega arith
-opening-marks FrameOpen = omega arith
-opening-marks FrameClose = omega arith
-opening-marks Tag = omega arith
-opening-marks Loop = omega arith
-opening-marks LoopTag = omega arith
-opening-marks LoopEnd = omega arith
-opening-marks Inapplicable = omega arith
-opening-marks Unknown = omega arith
-opening-marks Bare = omega arith
-opening-marks SingleQuoted = omega arith
-opening-marks DoubleQuoted = omega arith
-opening-marks Multiline = omega arith
-opening-marks Number = omega arith
-opening-marks Uncertain = omega arith
-
 pub content-inside : (k n : ℕ) → contentSize k n ≤ n - marksOf (kindOf k)
 unfolding contentSize
 content-inside k n = by (hasContent k)

@@ -8,7 +8,7 @@ use Rattle.numbers.specs.declared.Decimal.{Decimal}
 use Rattle.records.specs.declared.Token.{Token}
 use Rattle.records.specs.Records.{placeRecord, contentRecord, loopRecord, numberRecord, uncertainRecord}
 use Rattle.records.proofs.Forms.{length-place, length-content, length-loop, length-number, length-uncertain}
-use Rattle.writing.specs.Writing.{contentBytes, loopBytes, numberBytes}
+use Rattle.writing.specs.Written.{contentBytes, loopBytes, numberBytes}
 
 -- these bytes, of this length
 pub record Are (bs cs : List ℕ) (n : ℕ) : Type 0 where

@@ -35,10 +35,11 @@ use Rattle.items.proofs.Wanted.{wanted, found-wanted}
 use Rattle.items.proofs.Passes.{names-alike}
 use Rattle.writing.specs.declared.Cursor.{Cursor}
 use Rattle.writing.specs.Writing.{tagsOf}
-use Rattle.writing.specs.Walk.{Desk, desk, Room, IsToken, recAt, WroteOne, Wrote, Onward, behindGap, ValueHere, itemRecs, itemRest, isTaken, itemOf, ItemHere, WroteItem}
+use Rattle.writing.specs.Desk.{Desk, desk, Room, IsToken, recAt, WroteOne, ValueHere}
+use Rattle.writing.specs.Walk.{Wrote, Onward, behindGap, itemRecs, itemRest, isTaken, itemOf, ItemHere, WroteItem, namesFrom, behindNames, valuesFrom, behindValues}
 use Rattle.writing.proofs.Bytes.{area-size-append, store-length-append}
 use Rattle.writing.proofs.Lines.{part-token}
-use Rattle.writing.proofs.Lists.{namesFrom, behindNames, valuesFrom, behindValues, trim-bare}
+use Rattle.writing.proofs.Lists.{trim-bare}
 use Rattle.writing.proofs.Onward.{onward-here, onward-then, room-onward, wrote-onward, one-onward, onward-wrote}
 use Rattle.writing.proofs.SoFar.{room-first}
 use Rattle.writing.proofs.Values.{trim-at, trim-area, trim-place, trim-going, trim-offset, trim-room, trim-one}

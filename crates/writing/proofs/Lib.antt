@@ -4,6 +4,7 @@ pub mod Bytes
 pub mod Onward
 pub mod Places
 pub mod Lines
+pub mod Numbers
 pub mod Ones
 pub mod Turns
 pub mod Values
@@ -15,3 +16,4 @@ pub mod Prefix
 pub mod Rest
 pub mod Frames
 pub mod Block
+pub mod Answers

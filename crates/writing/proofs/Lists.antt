@@ -1,14 +1,14 @@
 -- The loops over names and values, turn by turn. Assumes nothing.
-use Prim.Native.Nat.{ℕ, _+_, _-_, _≤_, _<_}
+use Prim.Native.Nat.{ℕ, zero, suc, _+_, _-_, _≤_, _<_}
 use mathlib.Core.Path.{_≡_, refl, sym, ap, _∙_}
 use mathlib.Core.Bool.{Bool, true, false}
 use mathlib.Core.List.{List, [], _∷_}
 use native.Mathlib.Omega.{arith}
 use lib.ListN.{length, drop}
 use Rattle.gaps.specs.Gaps.{gap, gapEnd}
-use Rattle.gaps.proofs.Gaps.{gap-from, gap-none}
+use Rattle.gaps.proofs.Gaps.{gap-none}
+use Rattle.gaps.proofs.Bare.{gap-bare, gap-twice}
 use Rattle.places.proofs.Places.{place-offset}
-use Rattle.text.proofs.Ranges.{allBelow, fails}
 use Rattle.words.specs.Words.{wordEnd}
 use Rattle.kinds.specs.Kinds.{kindOf, shapeOf}
 use Rattle.items.specs.declared.Found.the-variants.{Value}
@@ -20,28 +20,27 @@ use Rattle.items.specs.Answers.{tagAt, foundAt}
 use Rattle.items.proofs.Items.{head-at}
 use Rattle.items.proofs.Offsets.{tokens-gap}
 use Rattle.writing.specs.declared.Cursor.{Cursor}
-use Rattle.writing.specs.Walk.{Desk, desk, Going, Room, IsToken, recAt, WroteOne, Wrote, behindGap, ValueHere}
+use Rattle.writing.specs.Desk.{Desk, desk, Going, Room, IsToken, recAt, WroteOne, ValueHere}
+use Rattle.writing.specs.Walk.{Wrote, behindGap, namesFrom, behindNames, valuesFrom, behindValues}
 use Rattle.writing.proofs.SoFar.{isCount, room-first, SoFar, start, next, over-gap, all}
 use Rattle.writing.proofs.Turns.{name-turn, name-none, here-turn, value-none}
 use Rattle.writing.proofs.Values.{trim-offset, trim-going, trim-room, trim-wrote}
 
--- the names, the values from an offset on, and what stands behind them
-abbrev pub namesFrom : List ℕ → ℕ → List Rec
-namesFrom s o = nameRecs (tokensAt inBlock s o)
-
-abbrev pub behindNames : List ℕ → ℕ → List Tok
-behindNames s o = afterNames (tokensAt inBlock s o)
-
-abbrev pub valuesFrom : List ℕ → ℕ → List Rec
-valuesFrom s o = valueRecs (tokensAt inBlock s o)
-
-abbrev pub behindValues : List ℕ → ℕ → List Tok
-behindValues s o = afterValues (tokensAt inBlock s o)
-
 -- values count nothing
-value-free : (k : ℕ) → 8 ≤ k → k ≤ 15 → isCount (shapeOf (kindOf k)) ≡ false
-unfolding isCount kindOf shapeOf allBelow
-value-free k l h = fails (λ j. isCount (shapeOf (kindOf j))) 8 8 refl k l (omega arith)
+pub value-free : (k : ℕ) → 8 ≤ k → k ≤ 15 → isCount (shapeOf (kindOf k)) ≡ false
+unfolding isCount kindOf shapeOf
+value-free k l h = by (k - 8) (omega arith)
+  where
+    by : (j : ℕ) → k ≡ 8 + j → isCount (shapeOf (kindOf k)) ≡ false
+    by zero e = rw e
+    by (suc zero) e = rw e
+    by (suc (suc zero)) e = rw e
+    by (suc (suc (suc zero))) e = rw e
+    by (suc (suc (suc (suc zero)))) e = rw e
+    by (suc (suc (suc (suc (suc zero))))) e = rw e
+    by (suc (suc (suc (suc (suc (suc zero)))))) e = rw e
+    by (suc (suc (suc (suc (suc (suc (suc zero))))))) e = rw e
+    by (suc (suc (suc (suc (suc (suc (suc (suc j)))))))) e = absurd (omega arith)
 
 module _ (full : Bool) (s : List ℕ) (d₀ : Desk) where
   -- there is room for the value that stands next
@@ -71,7 +70,7 @@ module _ (full : Bool) (s : List ℕ) (d₀ : Desk) where
       → Wrote full s (valuesFrom s (d₀ .cursor .place .offset)) (headAt (behindValues s (d₀ .cursor .place .offset))) d₀ d
   value-last d h g v =
       let o = d .cursor .place .offset in
-      let e : gapEnd s o ≡ o = unfold gapEnd in omega (arith, g) in
+      let e : gapEnd s o ≡ o = gap-bare s o g in
       let n = value-none s o o (sym e) v in
       all full s (valuesFrom s) (behindValues s) d₀ d _ h (n .0) (ap headAt (h .same ∙ n .1) ∙ head-at inBlock s o ∙ e)
 
@@ -109,12 +108,6 @@ module _ (full : Bool) (s : List ℕ) (d₀ : Desk) where
       all full s (namesFrom s) (behindNames s) d₀ d _ h (n .0) (ap headAt (h .same ∙ n .1) ∙ head-at inBlock s o ∙ g)
 
 -- behind space and comments stand none
-pub gap-twice : (s : List ℕ) (o : ℕ) → gapEnd s (gapEnd s o) ≡ gapEnd s o
-gap-twice s o = ends (gapEnd s o) (gap-none s o)
-  where
-    ends : (p : ℕ) → gap (drop p s) ≡ 0 → gapEnd s p ≡ p
-    ends p e = unfold gapEnd in omega (arith, e)
-
 pub gap-again : (s : List ℕ) (c e : Cursor) → e ≡ behindGap s c → gapEnd s (e .place .offset) ≡ e .place .offset
 gap-again s c e q = rw (trim-offset s c e q) (gap-twice s (c .place .offset))
 

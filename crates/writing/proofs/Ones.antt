@@ -14,18 +14,19 @@ use Rattle.kinds.specs.declared.Shape.the-variants.{Place as PlaceAlone, Conten
 use Rattle.kinds.specs.Kinds.{kindOf, shapeOf, shapeLength, outlineShape, marksOf, opening, isContent, hasContent, bodyLength, outlineLength}
 use Rattle.records.specs.Put.{put}
 use Rattle.records.specs.Records.{endRecord, placeRecord}
+use Rattle.records.proofs.Forms.{end-kind}
 use Rattle.items.specs.Sizes.{contentSize, storeSize, outlineSize, areaSize}
 use Rattle.items.specs.Machine.{Rec, loopEnd}
 use Rattle.writing.specs.declared.Cursor.{Cursor}
-use Rattle.writing.specs.Writing.{tokenAt, tokenOf, contentBytes, loopBytes, numberBytes, contentOf, decimalOf, shapeIn, shaped, recordBytes}
-use Rattle.writing.specs.Walk.{storeLength, recordLength, Desk, desk, Going, IsToken, recAt, WroteOne}
+use Rattle.writing.specs.Written.{tokenAt, tokenOf, contentBytes, loopBytes, numberBytes, contentOf, decimalOf, shapeIn, shaped, recordBytes}
+use Rattle.writing.specs.Desk.{storeLength, recordLength, Desk, desk, Going, IsToken, recAt, WroteOne}
 use Rattle.writing.proofs.Bytes.{record-length, store-none, content-length, content-inside}
 use Rattle.writing.proofs.Places.{behind-place}
 use Rattle.writing.proofs.Copy.{put-none}
 
 -- P of the token at a place
 pub token-of : (s : List ℕ) (p : Place) (k n : ℕ) → IsPlace s p → tokenAt p n ≡ tokenOf s (recAt k (p .offset) n)
-unfolding tokenAt tokenOf placeAt
+unfolding tokenAt tokenOf
 token-of s p k n i =
     let l : p .line ≡ placeAt s (p .offset) .line = ap (λ (x : Place). x .line) (i .at) in
     let c : p .column ≡ placeAt s (p .offset) .column = ap (λ (x : Place). x .column) (i .at) in
@@ -184,9 +185,9 @@ end-size true = refl
 end-size false = refl
 
 end-bytes : (full : Bool) (s : List ℕ) (a n : ℕ) → recordBytes full s a n loopEnd ≡ endRecord
-unfolding recordBytes shapeIn shaped endRecord loopEnd kindOf shapeOf outlineShape
-end-bytes true s a n = refl
-end-bytes false s a n = refl
+unfolding recordBytes shapeIn shaped loopEnd kindOf shapeOf outlineShape
+end-bytes true s a n = sym end-kind
+end-bytes false s a n = sym end-kind
 
 pub end-length : (full : Bool) → recordLength full 7 ≡ storeLength full (loopEnd ∷ [])
 unfolding loopEnd

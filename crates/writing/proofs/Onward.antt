@@ -9,8 +9,10 @@ use Rattle.records.specs.Put.{put}
 use Rattle.items.specs.Machine.{Rec}
 use Rattle.places.specs.Places.{placeAt}
 use Rattle.items.specs.Sizes.{contentSize, areaSize}
-use Rattle.writing.specs.Writing.{recordBytes, tagsOf, storeOf, contentOf, areaOf, areaIn}
-use Rattle.writing.specs.Walk.{storeLength, Desk, Going, Room, WroteOne, Wrote, Onward}
+use Rattle.writing.specs.Written.{recordBytes, contentOf}
+use Rattle.writing.specs.Writing.{tagsOf, storeOf, areaOf, areaIn}
+use Rattle.writing.specs.Desk.{storeLength, Desk, Going, Room, WroteOne}
+use Rattle.writing.specs.Walk.{Wrote, Onward}
 use Rattle.records.proofs.Putting.{length-put, put-more}
 use Rattle.writing.proofs.Copy.{put-none}
 use Rattle.writing.proofs.Bytes.{record-length, store-none, store-length, area-size-append, store-length-append, area-append, store-append}

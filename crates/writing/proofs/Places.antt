@@ -8,7 +8,7 @@ use lib.Dec.{eqb}
 use Rattle.places.specs.declared.Place.{Place}
 use Rattle.places.specs.Places.{placeAt, Whole, IsPlace}
 use Rattle.places.proofs.Places.{place-along, place-offset, place-own, whole-after}
-use Rattle.writing.specs.Walk.{IsToken}
+use Rattle.writing.specs.Desk.{IsToken}
 
 -- on one line the column counts the bytes
 pub behind-line : (s : List ℕ) (p : Place) (k n : ℕ) → IsPlace s p → IsToken s k (p .offset) n → eqb k 13 ≡ false → record { offset = p .offset + n; line = p .line; column = p .column + n } ≡ placeAt s (p .offset + n)

@@ -14,8 +14,10 @@ use Rattle.items.specs.Tokens.{Tok}
 use Rattle.items.specs.Machine.{Rec}
 use Rattle.items.specs.Sizes.{areaSize}
 use Rattle.writing.specs.declared.Cursor.{Cursor}
-use Rattle.writing.specs.Writing.{shaped, shapeIn, recordBytes, tagsOf}
-use Rattle.writing.specs.Walk.{Desk, desk, Going, Room, WroteOne, Wrote, Onward, behindGap}
+use Rattle.writing.specs.Written.{shaped, shapeIn, recordBytes}
+use Rattle.writing.specs.Writing.{tagsOf}
+use Rattle.writing.specs.Desk.{Desk, desk, Going, Room, WroteOne}
+use Rattle.writing.specs.Walk.{Wrote, Onward, behindGap}
 use Rattle.writing.proofs.Bytes.{record-length, store-none}
 use Rattle.writing.proofs.Onward.{onward-here, onward-then, room-onward, one-onward, onward-wrote}
 use Rattle.writing.proofs.Values.{trim-at, trim-area, trim-going, trim-offset}

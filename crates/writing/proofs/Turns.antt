@@ -1,43 +1,34 @@
 -- One turn of the loops that write names and values: what stands next, and what is left. Assumes nothing.
-use Prim.Native.Nat.{ℕ, zero, suc, _+_, _-_, _≤_, _<_}
+use Prim.Native.Nat.{ℕ, _+_, _-_, _≤_, _<_}
 use mathlib.Core.Path.{_≡_, refl, sym, ap, _∙_}
-use mathlib.Core.Bool.{Bool, true, false, cond, _&&_, _||_}
+use mathlib.Core.Bool.{true, false}
 use mathlib.Core.List.{List, [], _∷_}
 use native.Mathlib.Omega.{arith}
-use borrow.Author.Tests.{leb-true, eqb-false}
-use lib.Dec.{eqb, leb}
-use lib.ListN.{length, take, drop}
+use lib.ListN.{length, drop}
 use Rattle.gaps.specs.Gaps.{gap, gapEnd}
 use Rattle.places.specs.Places.{placeAt}
-use Rattle.text.proofs.Bools.{or-l, or-r, and-l, and-r}
-use Rattle.gaps.proofs.Gaps.{gap-from, gap-within, gap-none}
+use Rattle.gaps.proofs.Gaps.{gap-from, gap-within, gap-none, is-gap-end}
+use Rattle.gaps.proofs.Bare.{gap-bare}
 use Rattle.places.proofs.Places.{place-offset}
-use Rattle.gaps.proofs.Gaps.{is-gap-end}
 use Rattle.words.specs.Words.{word, wordEnd}
 use Rattle.words.proofs.Words.{word-end}
-use Rattle.numbers.specs.declared.Decimal.{Decimal}
-use Rattle.numbers.specs.Parts.{parts, within}
-use Rattle.numbers.specs.Meaning.{meaning}
-use Rattle.values.specs.Values.{Class, block, loop, save, tag, value, overLimit, nothing, lexed, lexAsValue}
-use Rattle.values.specs.Answers.{answer, valueAnswer, valueAt}
-use Rattle.values.specs.declared.Value.the-variants.{Token, Number}
-use Rattle.kinds.specs.declared.Shape.the-variants.{Place as PlaceAlone, Content}
-use Rattle.kinds.specs.Kinds.{kindOf, shapeOf, marksOf}
+use Rattle.values.specs.Values.{tag, value, lexed}
+use Rattle.kinds.specs.Kinds.{kindOf, marksOf}
 use Rattle.items.specs.declared.Found.the-variants.{Value}
 use Rattle.items.specs.Tokens.{inBlock, lexIn, lex, after, tok}
 use Rattle.items.specs.Machine.{rec}
 use Rattle.items.specs.Descent.{nameRecs, afterNames, valueRecs, afterValues}
 use Rattle.items.specs.Decisions.{tokensAt}
-use Rattle.items.specs.Answers.{tagAt, foundOf, foundAt, kindOfNumber}
+use Rattle.items.specs.Answers.{tagAt, foundAt}
 use Rattle.items.proofs.Descent.{names-more, names-none, values-more, values-none}
+use Rattle.items.proofs.First.{found-lies}
 use Rattle.items.proofs.Lexes.{no-name}
 use Rattle.items.proofs.Wanted.{found-wanted}
 use Rattle.items.proofs.Lists.{met-value, no-value}
 use Rattle.items.proofs.Offsets.{tokens-gap, Met, met-tag, first}
 use Rattle.writing.specs.declared.Cursor.{Cursor}
-use Rattle.writing.specs.Walk.{IsToken, Going, ValueHere, recAt}
-use Rattle.writing.specs.Writing.{decimalOf, tokenText}
-use Rattle.writing.proofs.Lines.{part-token, value-in, value-token}
+use Rattle.writing.specs.Desk.{IsToken, Going, ValueHere, recAt}
+use Rattle.writing.proofs.Lines.{part-token, value-token}
 
 -- the cursor behind space and comments
 pub going-on : (s : List ℕ) (c e : Cursor) → Going s c → e .place ≡ placeAt s (gapEnd s (c .place .offset)) → e .area ≡ c .area → Going s e
@@ -87,7 +78,6 @@ pub record ValueTurn (s : List ℕ) (o j k n : ℕ) : Type 0 where
   pub most : k ≤ 15
   pub recs : valueRecs (tokensAt inBlock s o) ≡ recAt k j n ∷ valueRecs (tokensAt inBlock s (j + n))
   pub rest : afterValues (tokensAt inBlock s o) ≡ afterValues (tokensAt inBlock s (j + n))
-  pub limits : (eqb k 14 || eqb k 15) ≡ true → within (parts (take n (drop j s))) ≡ true
 
 pub value-turn : (s : List ℕ) (o j k n : ℕ) → j ≡ gapEnd s o → foundAt s j ≡ Value k n → ValueTurn s o j k n
 unfolding lexed tok after rec
@@ -96,14 +86,13 @@ value-turn s o j k n e f =
     let m : Met inBlock s j (lexed (value k) n) = met-value s j k n g f in
     let x : tokensAt inBlock s o ≡ tok (lexed (value k) n) j ∷ tokensAt inBlock s (j + n) = sym (tokens-gap inBlock s o) ∙ rw (← e) (m .next) in
     let y = values-more (tok (lexed (value k) n) j) (tokensAt inBlock s (j + n)) k refl in
-    let v = value-in s j k n g m in
+    let i = found-lies s j k n f in
     record {
-      token = value-token s j k n g m;
-      least = v .least;
-      most = v .most;
+      token = value-token s j k n f;
+      least = i .low;
+      most = i .high;
       recs = ap valueRecs x ∙ y .0;
       rest = ap afterValues x ∙ y .1;
-      limits = v .limits;
     }
 
 pub value-none : (s : List ℕ) (o j : ℕ) → j ≡ gapEnd s o → ((k n : ℕ) → foundAt s j ≡ Value k n → ⊥) → (valueRecs (tokensAt inBlock s o) ≡ []) × (afterValues (tokensAt inBlock s o) ≡ tokensAt inBlock s o)
@@ -121,87 +110,4 @@ pub value-here : (s : List ℕ) (o k n : ℕ) → gap (drop o s) ≡ 0 → found
 value-here s o k n g f = record { bare = g; found = f }
 
 pub here-turn : (s : List ℕ) (o k n : ℕ) → ValueHere s o k n → ValueTurn s o o k n
-here-turn s o k n h = value-turn s o o k n (unfold gapEnd in omega (arith, h .bare)) (h .found)
-
--- a number's kind goes by its meaning
-number-kind : (u : List ℕ) (c : Class) (m k n : ℕ) → foundOf (answer u c m) ≡ Value k n → 14 ≤ k → k ≤ 15 → k ≡ kindOfNumber (meaning (parts (take n u)))
-unfolding answer
-number-kind u (value j) m k n e l h = by (eqb j 14 || eqb j 15) refl e
-  where
-    by : (t : Bool) → (eqb j 14 || eqb j 15) ≡ t → foundOf (cond t (Number (meaning (parts (take m u))) m) (Token j m)) ≡ Value k n → k ≡ kindOfNumber (meaning (parts (take n u)))
-    by true q e =
-        let z : m ≡ n = cc in
-        let y : k ≡ kindOfNumber (meaning (parts (take m u))) = cc in
-        rw z at y
-    by false q e =
-        let z : j ≡ k = cc in
-        let a = eqb-false j 14 (or-l (eqb j 14) (eqb j 15) q) in
-        let b = eqb-false j 15 (or-r (eqb j 14) (eqb j 15) q) in
-        absurd (omega arith)
-number-kind u overLimit m k n e l h = cc
-number-kind u block m k n e l h = cc
-number-kind u loop m k n e l h = cc
-number-kind u save m k n e l h = cc
-number-kind u tag m k n e l h = cc
-number-kind u (nothing w) m k n e l h = cc
-
-few-places : (w : List ℕ) → within (parts w) ≡ true → meaning (parts w) .places ≤ 18
-unfolding within meaning
-few-places w e =
-    let p = parts w in
-    leb-true (length (p .frac)) 18 (and-r (leb (length (p .int)) 9) _ (and-l (leb (length (p .int)) 9 && leb (length (p .frac)) 18) _ (and-l (leb (length (p .int)) 9 && leb (length (p .frac)) 18 && leb (length (p .exp .run)) 9) _ e)))
-
--- what Read and Outline want of a number
-pub record NumberTurn (s : List ℕ) (o k n : ℕ) : Type 0 where
-  pub turn : ValueTurn s o o k n
-  pub kind : k ≡ kindOfNumber (decimalOf s (recAt k o n))
-  pub limits : within (parts (take n (drop o s))) ≡ true
-  pub places : decimalOf s (recAt k o n) .places < 256
-
-pub number-turn : (s : List ℕ) (o k n : ℕ) → ValueHere s o k n → 14 ≤ k → NumberTurn s o k n
-unfolding valueAt valueAnswer decimalOf tokenText
-number-turn s o k n h l =
-    let t = here-turn s o k n h in
-    let w = t .limits (either k l (t .most)) in
-    record {
-      turn = t;
-      kind = number-kind (drop o s) (lexAsValue (drop o s) .class) (lexAsValue (drop o s) .size) k n (h .found) l (t .most);
-      limits = w;
-      places = omega (arith, few-places (take n (drop o s)) w);
-    }
-  where
-    either : (k : ℕ) → 14 ≤ k → k ≤ 15 → (eqb k 14 || eqb k 15) ≡ true
-    either k l h = by (k - 14) (omega arith)
-      where
-        by : (j : ℕ) → k ≡ 14 + j → (eqb k 14 || eqb k 15) ≡ true
-        by zero e = rw e
-        by (suc zero) e = rw e
-        by (suc (suc j)) e = absurd (omega arith)
-
--- a part of the text means what its record says
-pub decimal-here : (s : List ℕ) (o k n : ℕ) (d : Decimal) → d ≡ meaning (parts (take (o + n - o) (drop o s))) → d ≡ decimalOf s (recAt k o n)
-unfolding decimalOf tokenText
-decimal-here s o k n d e =
-    let z : o + n - o ≡ n = omega arith in
-    rw z at e
-
--- the shape of a value's record
-pub mark-kind : (k : ℕ) → 8 ≤ k → k < 10 → shapeOf (kindOf k) ≡ PlaceAlone
-unfolding kindOf shapeOf
-mark-kind k l h = by (k - 8) (omega arith)
-  where
-    by : (j : ℕ) → k ≡ 8 + j → shapeOf (kindOf k) ≡ PlaceAlone
-    by zero e = rw e
-    by (suc zero) e = rw e
-    by (suc (suc j)) e = absurd (omega arith)
-
-pub text-kind : (k : ℕ) → 10 ≤ k → k ≤ 13 → shapeOf (kindOf k) ≡ Content
-unfolding kindOf shapeOf
-text-kind k l h = by (k - 10) (omega arith)
-  where
-    by : (j : ℕ) → k ≡ 10 + j → shapeOf (kindOf k) ≡ Content
-    by zero e = rw e
-    by (suc zero) e = rw e
-    by (suc (suc zero)) e = rw e
-    by (suc (suc (suc zero))) e = rw e
-    by (suc (suc (suc (suc j)))) e = absurd (omega arith)
+here-turn s o k n h = value-turn s o o k n (sym (gap-bare s o (h .bare))) (h .found)

@@ -5,19 +5,20 @@ use mathlib.Core.Bool.{Bool}
 use mathlib.Core.List.{List}
 use Rattle.gaps.specs.Gaps.{gapEnd}
 use Rattle.places.specs.Places.{placeAt}
+use Rattle.places.proofs.Places.{place-offset}
 use Rattle.items.specs.Machine.{Rec}
 use Rattle.writing.specs.declared.Cursor.{Cursor}
-use Rattle.writing.specs.Walk.{Desk, desk, Going, Room, WroteOne, Wrote, behindGap}
+use Rattle.writing.specs.Desk.{Desk, desk, Going, Room, WroteOne}
+use Rattle.writing.specs.Walk.{Wrote, behindGap}
 use Rattle.writing.proofs.Turns.{going-on}
 
 module _ (s : List ℕ) (c h : Cursor) (q : h ≡ behindGap s c) where
-  pub trim-offset : h .place .offset ≡ gapEnd s (c .place .offset)
-  unfolding behindGap placeAt
-  trim-offset = ap (λ (x : Cursor). x .place .offset) q
-
   pub trim-place : h .place ≡ placeAt s (gapEnd s (c .place .offset))
   unfolding behindGap
   trim-place = ap (λ (x : Cursor). x .place) q
+
+  pub trim-offset : h .place .offset ≡ gapEnd s (c .place .offset)
+  trim-offset = place-offset s (h .place) (gapEnd s (c .place .offset)) trim-place
 
   pub trim-at : h .at ≡ c .at
   unfolding behindGap

@@ -1,82 +1,23 @@
--- How the write pass goes on: what must hold before records are written, and what holds afterwards. `Onward` says that the buffers will be the same in the end
--- when the records that are left are written from here. Assumes nothing.
-use Prim.Native.Nat.{ℕ, suc, _+_, _≤_, _<_}
+-- From token to token: what must hold before names, values and an item are written, and what holds afterwards. `Onward` says that the buffers will be the same in the
+-- end when the records that are left are written from here. Assumes nothing.
+use Prim.Native.Nat.{ℕ, _+_, _≤_}
 use mathlib.Core.Path.{_≡_}
-use mathlib.Core.Bool.{Bool, true, false, cond}
+use mathlib.Core.Bool.{Bool, true, false}
 use mathlib.Core.List.{List, [], _∷_}
-use mathlib.Core.Option.{Option, some}
-use lib.Dec.{eqb}
-use lib.ListN.{length, drop, getD}
-use Rattle.text.specs.Bytes.{isEol}
+use lib.ListN.{length, drop}
 use Rattle.gaps.specs.Gaps.{gap, gapEnd}
-use Rattle.places.specs.Places.{placeAt, IsPlace}
-use Rattle.keywords.specs.Keywords.{startsAt, keySave}
-use Rattle.kinds.specs.Kinds.{kindOf, shapeLength, marksOf}
+use Rattle.places.specs.Places.{placeAt}
 use Rattle.records.specs.Put.{put}
 use Rattle.items.specs.declared.Found.the-variants.{Value}
 use Rattle.items.specs.Answers.{foundAt}
 use Rattle.items.specs.Tokens.{Tok, inBlock}
-use Rattle.items.specs.Machine.{Rec, Answer, refused, done}
-use Rattle.items.specs.Frames.{left}
-use Rattle.items.specs.declared.Item.{Item as Answered}
-use Rattle.items.specs.declared.Item.the-variants.{Loop, Single, Ragged, NoValue as NoValue′, NoItem, NoNames, Over}
-use Rattle.items.specs.Descent.{Item, taken, failed, broken, item}
+use Rattle.items.specs.Machine.{Rec}
+use Rattle.items.specs.Descent.{Item, taken, failed, broken, item, nameRecs, afterNames, valueRecs, afterValues}
 use Rattle.items.specs.Decisions.{tokensAt, headAt}
-use Rattle.items.specs.Sizes.{contentSize, storeSize, outlineSize, areaSize}
+use Rattle.items.specs.Sizes.{areaSize}
 use Rattle.writing.specs.declared.Cursor.{Cursor}
-use Rattle.writing.specs.declared.Next.{Next}
-use Rattle.writing.specs.declared.Next.the-variants.{Item as Item′, Stop}
-use Rattle.writing.specs.Writing.{shapeIn, recordBytes, storeOf, contentOf, areaOf, areaIn}
-
--- the store's bytes that records take
-unfoldable pub storeLength : Bool → List Rec → ℕ
-storeLength true rs = storeSize rs
-storeLength false rs = outlineSize rs
-
--- the bytes of one record
-unfoldable pub recordLength : Bool → ℕ → ℕ
-recordLength full k = suc (shapeLength (shapeIn full k))
-
--- where writing stands: the cursor, the store and the area
-pub record Desk : Type 0 where
-  pub cursor : Cursor
-  pub store : List ℕ
-  pub area : List ℕ
-
-abbrev pub desk : Cursor → List ℕ → List ℕ → Desk
-desk c l a = record { cursor = c; store = l; area = a }
-
--- a cursor from which writing may go on: contents are no longer than the text that was read
-pub record Going (s : List ℕ) (c : Cursor) : Type 0 where
-  pub place : IsPlace s (c .place)
-  pub short : length s ≤ 16777216
-  pub behind : c .area ≤ c .place .offset
-
--- there is room for these records
-pub record Room (full : Bool) (rs : List Rec) (d : Desk) : Type 0 where
-  pub store : d .cursor .at + storeLength full rs ≤ length (d .store)
-  pub area : full ≡ true → d .cursor .area + areaSize rs ≤ length (d .area)
-
--- a token of kind k and n bytes stands at offset o: it has its marks, only a text field has line ends in it, and none ends in one
-pub record IsToken (s : List ℕ) (k o n : ℕ) : Type 0 where
-  pub some : 0 < n
-  pub within : o + n ≤ length s
-  pub marks : marksOf (kindOf k) ≤ n
-  pub line : eqb k 13 ≡ false → (j : ℕ) → o ≤ j → j < o + n → isEol (getD s j 0) ≡ false
-  pub last : (j : ℕ) → suc j ≡ o + n → isEol (getD s j 0) ≡ false
-
-abbrev pub recAt : ℕ → ℕ → ℕ → Rec
-recAt k o n = record { kind = k; at = o; size = n }
-
--- one record is written, which counts n tags, and the cursor stands at offset o
-pub record WroteOne (full : Bool) (s : List ℕ) (n : ℕ) (r : Rec) (o : ℕ) (d e : Desk) : Type 0 where
-  pub going : Going s (e .cursor)
-  pub place : e .cursor .place ≡ placeAt s o
-  pub at : e .cursor .at ≡ d .cursor .at + storeLength full (r ∷ [])
-  pub behind : e .cursor .area ≡ d .cursor .area + contentSize (r .kind) (r .size)
-  pub filled : length (contentOf s r) ≡ contentSize (r .kind) (r .size)
-  pub store : e .store ≡ put (d .cursor .at) (recordBytes full s (d .cursor .area) n r) (d .store)
-  pub area : e .area ≡ put (d .cursor .area) (cond full (contentOf s r) []) (d .area)
+use Rattle.writing.specs.Writing.{storeOf, areaOf, areaIn}
+use Rattle.writing.specs.Desk.{storeLength, Desk, Going, Room, IsToken, recAt, ValueHere}
 
 -- the records are written, and the cursor stands at offset o
 pub record Wrote (full : Bool) (s : List ℕ) (rs : List Rec) (o : ℕ) (d e : Desk) : Type 0 where
@@ -92,10 +33,60 @@ pub record Wrote (full : Bool) (s : List ℕ) (rs : List Rec) (o : ℕ) (d e : D
 unfoldable pub behindGap : List ℕ → Cursor → Cursor
 behindGap s c = record { place = placeAt s (gapEnd s (c .place .offset)); at = c .at; area = c .area }
 
--- a value of kind k and n bytes stands at offset o, where no space does
-pub record ValueHere (s : List ℕ) (o k n : ℕ) : Type 0 where
-  pub bare : gap (drop o s) ≡ 0
-  pub found : foundAt s o ≡ Value k n
+-- from d with records rs left to write to e with records left: the buffers will be the same in the end
+pub record Onward (full : Bool) (s : List ℕ) (rs : List Rec) (d : Desk) (left : List Rec) (e : Desk) : Type 0 where
+  pub at : e .cursor .at + storeLength full left ≡ d .cursor .at + storeLength full rs
+  pub behind : e .cursor .area + areaSize left ≡ d .cursor .area + areaSize rs
+  pub filled : length (areaOf s left) ≡ areaSize left → length (areaOf s rs) ≡ areaSize rs
+  pub store-length : length (e .store) ≡ length (d .store)
+  pub area-length : length (e .area) ≡ length (d .area)
+  pub store : put (e .cursor .at) (storeOf full s (e .cursor .area) left) (e .store) ≡ put (d .cursor .at) (storeOf full s (d .cursor .area) rs) (d .store)
+  pub area : put (e .cursor .area) (areaIn full s left) (e .area) ≡ put (d .cursor .area) (areaIn full s rs) (d .area)
+
+-- a value that is no number stands at the cursor, and there is room for it
+pub record TokenAhead (full : Bool) (s : List ℕ) (k n : ℕ) (d : Desk) : Type 0 where
+  pub going : Going s (d .cursor)
+  pub token : IsToken s k (d .cursor .place .offset) n
+  pub least : 8 ≤ k
+  pub most : k ≤ 13
+  pub room : Room full (recAt k (d .cursor .place .offset) n ∷ []) d
+
+-- any value
+pub record ValueAhead (full : Bool) (s : List ℕ) (k n : ℕ) (d : Desk) : Type 0 where
+  pub going : Going s (d .cursor)
+  pub here : ValueHere s (d .cursor .place .offset) k n
+  pub room : Room full (recAt k (d .cursor .place .offset) n ∷ []) d
+
+-- the names, the values from an offset on, and what stands behind them
+abbrev pub namesFrom : List ℕ → ℕ → List Rec
+namesFrom s o = nameRecs (tokensAt inBlock s o)
+
+abbrev pub behindNames : List ℕ → ℕ → List Tok
+behindNames s o = afterNames (tokensAt inBlock s o)
+
+abbrev pub valuesFrom : List ℕ → ℕ → List Rec
+valuesFrom s o = valueRecs (tokensAt inBlock s o)
+
+abbrev pub behindValues : List ℕ → ℕ → List Tok
+behindValues s o = afterValues (tokensAt inBlock s o)
+
+-- there is room for the names, for the values from the cursor on
+pub record NamesAhead (full : Bool) (s : List ℕ) (d : Desk) : Type 0 where
+  pub going : Going s (d .cursor)
+  pub room : Room full (namesFrom s (d .cursor .place .offset)) d
+
+pub record ValuesAhead (full : Bool) (s : List ℕ) (d : Desk) : Type 0 where
+  pub going : Going s (d .cursor)
+  pub room : Room full (valuesFrom s (d .cursor .place .offset)) d
+
+-- they are written, and the cursor stands behind them and the space there
+abbrev pub WroteNames : Bool → List ℕ → Desk → Desk → Type 0
+WroteNames full s d e =
+    Wrote full s (namesFrom s (d .cursor .place .offset)) (headAt (behindNames s (d .cursor .place .offset))) d e
+
+abbrev pub WroteValues : Bool → List ℕ → Desk → Desk → Type 0
+WroteValues full s d e =
+    Wrote full s (valuesFrom s (d .cursor .place .offset)) (headAt (behindValues s (d .cursor .place .offset))) d e
 
 -- an item that is read: its records, and the tokens behind it
 unfoldable pub itemRecs : Item → List Rec
@@ -129,62 +120,3 @@ pub record ItemHere (full : Bool) (s : List ℕ) (d : Desk) : Type 0 where
 abbrev pub WroteItem : Bool → List ℕ → Desk → Desk → Type 0
 WroteItem full s d e =
     Wrote full s (itemRecs (itemOf s (d .cursor .place .offset))) (headAt (itemRest (itemOf s (d .cursor .place .offset)))) d e
-
--- from d with records rs left to write to e with records left: the buffers will be the same in the end
-pub record Onward (full : Bool) (s : List ℕ) (rs : List Rec) (d : Desk) (left : List Rec) (e : Desk) : Type 0 where
-  pub at : e .cursor .at + storeLength full left ≡ d .cursor .at + storeLength full rs
-  pub behind : e .cursor .area + areaSize left ≡ d .cursor .area + areaSize rs
-  pub filled : length (areaOf s left) ≡ areaSize left → length (areaOf s rs) ≡ areaSize rs
-  pub store-length : length (e .store) ≡ length (d .store)
-  pub area-length : length (e .area) ≡ length (d .area)
-  pub store : put (e .cursor .at) (storeOf full s (e .cursor .area) left) (e .store) ≡ put (d .cursor .at) (storeOf full s (d .cursor .area) rs) (d .store)
-  pub area : put (e .cursor .area) (areaIn full s left) (e .area) ≡ put (d .cursor .area) (areaIn full s rs) (d .area)
-
--- the records of an answer, and whether it has them
-unfoldable pub answerRecs : Answer → List Rec
-answerRecs (done rs) = rs
-answerRecs (refused n o d) = []
-
-unfoldable pub isDone : Answer → Bool
-isDone (done rs) = true
-isDone (refused n o d) = false
-
--- the records from an offset on, in the block or in the frame that opened at an offset
-abbrev pub recsLeft : Option ℕ → List ℕ → ℕ → List Rec
-recsLeft f s o = answerRecs (left f s o [])
-
--- from the cursor on, where no space stands, all is read, and there is room for it
-pub record Ahead (full : Bool) (s : List ℕ) (f : Option ℕ) (d : Desk) : Type 0 where
-  pub going : Going s (d .cursor)
-  pub bare : gap (drop (d .cursor .place .offset) s) ≡ 0
-  pub reads : isDone (left f s (d .cursor .place .offset) []) ≡ true
-  pub room : Room full (recsLeft f s (d .cursor .place .offset)) d
-
--- from the desk d in f to the desk e in g: what is left there is what was left here, less what is written
-pub record Moved (full : Bool) (s : List ℕ) (f : Option ℕ) (d : Desk) (g : Option ℕ) (e : Desk) : Type 0 where
-  pub ahead : Ahead full s g e
-  pub onward : Onward full s (recsLeft f s (d .cursor .place .offset)) d (recsLeft g s (e .cursor .place .offset)) e
-  pub further : d .cursor .place .offset < e .cursor .place .offset
-
--- a frame closes where its items stopped, behind the cursor at o
-pub record Closing (s : List ℕ) (o stop : ℕ) : Type 0 where
-  pub onward : o ≤ stop
-  pub within : stop ≤ length s
-  pub bare : gap (drop stop s) ≡ 0
-  pub key : startsAt keySave s stop ≡ true
-
--- its record is written, and the cursor stands behind the space that follows
-pub record Closed (full : Bool) (s : List ℕ) (stop : ℕ) (d e : Desk) : Type 0 where
-  pub behind : Desk
-  pub wrote : WroteOne full s 0 (recAt 3 stop 5) (stop + 5) d behind
-  pub trim : e ≡ desk (behindGap s (behind .cursor)) (behind .store) (behind .area)
-
--- what stands next in a frame: an item that is read, or where the last one stopped
-unfoldable pub nextOf : Answered → Next
-nextOf (Loop n z w) = Item′
-nextOf (Single n z) = Item′
-nextOf (Ragged o d p) = Stop p
-nextOf (NoValue′ o p w) = Stop p
-nextOf (NoItem o) = Stop o
-nextOf (NoNames o) = Stop o
-nextOf (Over o) = Stop o

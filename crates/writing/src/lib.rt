@@ -1,25 +1,20 @@
 // Writing the records of a text that is known to be good, into a store and an area that are known to have room.
 ghost use mathlib.Core.Path.{_≡_};
 ghost use mathlib.Core.Bool.{true, cond};
-ghost use mathlib.Core.List.{List, [], _∷_};
-ghost use Prim.Native.Nat.{ℕ, _+_, _≤_, _<_, _^_};
+ghost use mathlib.Core.List.{[]};
+ghost use Prim.Native.Nat.{_+_, _≤_, _<_, _^_};
 ghost use lib.ListN.{length, take, drop};
 ghost use Rattle.places.specs.Places.{IsPlace, placeAt};
 ghost use Rattle.gaps.specs.Gaps.{gapEnd};
 ghost use Rattle.keywords.specs.Keywords.{startsAt, keyLoop, keySave};
-ghost use Rattle.kinds.specs.Kinds.{kindOf, shapeOf};
-ghost use Rattle.kinds.specs.declared.Shape.the-variants.{Content, Place as PlaceAlone};
-ghost use Rattle.items.specs.Sizes.{areaSize};
 ghost use Rattle.records.specs.Put.{front, put};
 ghost use Rattle.items.specs.Machine.{loopEnd};
 ghost use mathlib.Core.Option.{none};
 ghost use Rattle.items.specs.Answers.{tagAt, Here, itemAt};
-ghost use Rattle.items.specs.Reading.{limit, decided};
-ghost use Rattle.items.specs.Tokens.{inBlock};
-ghost use Rattle.items.specs.Decisions.{tokensAt, headAt};
-ghost use Rattle.items.specs.Descent.{nameRecs, afterNames, valueRecs, afterValues};
-ghost use Rattle.writing.specs.Writing.{storeOf, areaIn, placed, tokenAt, contentBytes, loopBytes, numberBytes, recordBytes};
-ghost use Rattle.writing.specs.Walk.{storeLength, recordLength, Going, Room, IsToken, recAt, WroteOne, Wrote, behindGap, ValueHere, ItemHere, WroteItem, nextOf, Closing, Closed, Ahead, Moved, recsLeft, isDone, answerRecs, desk};
+ghost use Rattle.writing.specs.Written.{placed, tokenAt, contentBytes, loopBytes, numberBytes};
+ghost use Rattle.writing.specs.Desk.{recordLength, desk, IsToken, StoreRoom, recordHere, TextAhead, MarkAhead, NumberAhead, LoopAhead, WroteToken, WrotePlain, WroteLoop, WroteEnd};
+ghost use Rattle.writing.specs.Walk.{behindGap, TokenAhead, ValueAhead, namesFrom, NamesAhead, ValuesAhead, WroteNames, WroteValues, ItemHere, WroteItem};
+ghost use Rattle.writing.specs.Block.{Ahead, MovedOn, WroteRest, CloseAhead, WroteClose, nextOf, Fits, storeBytes, areaBytes};
 use items::Item;
 use kinds::Kind;
 use numbers::Decimal;
@@ -138,8 +133,8 @@ fn put_decimal(store: &mut [u8], at: usize, token: Token, decimal: Decimal)
 
 // A number's record: Outline does not ask what the number means.
 fn put_number(s: &[u8], full: bool, store: &mut [u8], c: Cursor, kind: u8, size: usize)
-    requires { ⌜ Going (now s) c × ValueHere (now s) (c .place .offset) kind size × (14 ≤ kind) × (c .at + storeLength full (recAt kind (c .place .offset) size ∷ []) ≤ length (now store)) ⌝ }
-    ensures { λ r. ⌜ now (store .exit) ≡ put (c .at) (recordBytes full (now (s .entry)) (c .area) 0 (recAt kind (c .place .offset) size)) (now (store .entry)) ⌝ }
+    requires { ⌜ NumberAhead full (now s) kind size c (now store) ⌝ }
+    ensures { λ r. ⌜ now (store .exit) ≡ put (c .at) (recordHere full (now (s .entry)) c kind size) (now (store .entry)) ⌝ }
 {
     let place = c.place;
     let at = c.at;
@@ -163,8 +158,8 @@ fn write_text(
     kind: u8,
     size: usize,
 ) -> Cursor
-    requires { ⌜ Going (now s) c × IsToken (now s) kind (c .place .offset) size × (shapeOf (kindOf kind) ≡ Content) × Room full (recAt kind (c .place .offset) size ∷ []) (desk c (now store) (now area)) ⌝ }
-    ensures { λ r. ⌜ WroteOne full (now (s .entry)) 0 (recAt kind (c .place .offset) size) (c .place .offset + size) (desk c (now (store .entry)) (now (area .entry))) (desk r (now (store .exit)) (now (area .exit))) ⌝ }
+    requires { ⌜ TextAhead full (now s) kind size (desk c (now store) (now area)) ⌝ }
+    ensures { λ r. ⌜ WroteToken full (now (s .entry)) kind size (desk c (now (store .entry)) (now (area .entry))) (desk r (now (store .exit)) (now (area .exit))) ⌝ }
 {
     let place = c.place;
     let offset = place.offset;
@@ -183,8 +178,8 @@ fn write_text(
 
 // A token that has none, and no more than its place.
 fn write_mark(s: &[u8], full: bool, store: &mut [u8], c: Cursor, kind: u8, size: usize) -> Cursor
-    requires { ⌜ Going (now s) c × IsToken (now s) kind (c .place .offset) size × (shapeOf (kindOf kind) ≡ PlaceAlone) × (c .at + storeLength full (recAt kind (c .place .offset) size ∷ []) ≤ length (now store)) ⌝ }
-    ensures { λ r. ⌜ ((a : List ℕ) → WroteOne full (now (s .entry)) 0 (recAt kind (c .place .offset) size) (c .place .offset + size) (desk c (now (store .entry)) a) (desk r (now (store .exit)) a)) ⌝ }
+    requires { ⌜ MarkAhead full (now s) kind size c (now store) ⌝ }
+    ensures { λ r. ⌜ WrotePlain full (now (s .entry)) kind size c (now (store .entry)) r (now (store .exit)) ⌝ }
 {
     let place = c.place;
     let at = c.at;
@@ -200,8 +195,8 @@ fn write_mark(s: &[u8], full: bool, store: &mut [u8], c: Cursor, kind: u8, size:
 
 // A number.
 fn write_number(s: &[u8], full: bool, store: &mut [u8], c: Cursor, kind: u8, size: usize) -> Cursor
-    requires { ⌜ Going (now s) c × ValueHere (now s) (c .place .offset) kind size × (14 ≤ kind) × (c .at + storeLength full (recAt kind (c .place .offset) size ∷ []) ≤ length (now store)) ⌝ }
-    ensures { λ r. ⌜ ((a : List ℕ) → WroteOne full (now (s .entry)) 0 (recAt kind (c .place .offset) size) (c .place .offset + size) (desk c (now (store .entry)) a) (desk r (now (store .exit)) a)) ⌝ }
+    requires { ⌜ NumberAhead full (now s) kind size c (now store) ⌝ }
+    ensures { λ r. ⌜ WrotePlain full (now (s .entry)) kind size c (now (store .entry)) r (now (store .exit)) ⌝ }
 {
     let place = c.place;
     let at = c.at;
@@ -216,8 +211,8 @@ fn write_number(s: &[u8], full: bool, store: &mut [u8], c: Cursor, kind: u8, siz
 
 // `loop_`, with the number of its tags.
 fn write_loop(s: &[u8], full: bool, store: &mut [u8], c: Cursor, tags: usize) -> Cursor
-    requires { ⌜ Going (now s) c × IsToken (now s) 5 (c .place .offset) 5 × (tags < 2 ^ 32) × (c .at + storeLength full (recAt 5 (c .place .offset) 5 ∷ []) ≤ length (now store)) ⌝ }
-    ensures { λ r. ⌜ ((a : List ℕ) → WroteOne full (now (s .entry)) tags (recAt 5 (c .place .offset) 5) (c .place .offset + 5) (desk c (now (store .entry)) a) (desk r (now (store .exit)) a)) ⌝ }
+    requires { ⌜ LoopAhead full (now s) tags c (now store) ⌝ }
+    ensures { λ r. ⌜ WroteLoop full (now (s .entry)) tags c (now (store .entry)) r (now (store .exit)) ⌝ }
 {
     let place = c.place;
     let at = c.at;
@@ -232,8 +227,8 @@ fn write_loop(s: &[u8], full: bool, store: &mut [u8], c: Cursor, tags: usize) ->
 
 // A loop's end, which has no token.
 fn write_end(full: bool, store: &mut [u8], c: Cursor) -> Cursor
-    requires { ⌜ c .at + storeLength full (loopEnd ∷ []) ≤ length (now store) ⌝ }
-    ensures { λ r. ⌜ ((s a : List ℕ) → Going s c → WroteOne full s 0 loopEnd (c .place .offset) (desk c (now (store .entry)) a) (desk r (now (store .exit)) a)) ⌝ }
+    requires { ⌜ StoreRoom full loopEnd c (now store) ⌝ }
+    ensures { λ r. ⌜ WroteEnd full c (now (store .entry)) r (now (store .exit)) ⌝ }
 {
     let place = c.place;
     let at = c.at;
@@ -302,8 +297,8 @@ fn write_token(
     kind: u8,
     size: usize,
 ) -> Cursor
-    requires { ⌜ Going (now s) c × IsToken (now s) kind (c .place .offset) size × (8 ≤ kind) × (kind ≤ 13) × Room full (recAt kind (c .place .offset) size ∷ []) (desk c (now store) (now area)) ⌝ }
-    ensures { λ r. ⌜ WroteOne full (now (s .entry)) 0 (recAt kind (c .place .offset) size) (c .place .offset + size) (desk c (now (store .entry)) (now (area .entry))) (desk r (now (store .exit)) (now (area .exit))) ⌝ }
+    requires { ⌜ TokenAhead full (now s) kind size (desk c (now store) (now area)) ⌝ }
+    ensures { λ r. ⌜ WroteToken full (now (s .entry)) kind size (desk c (now (store .entry)) (now (area .entry))) (desk r (now (store .exit)) (now (area .exit))) ⌝ }
 {
     if kind < 10 {
         return write_mark(s, full, store, c, kind, size);
@@ -321,8 +316,8 @@ fn write_found(
     kind: u8,
     size: usize,
 ) -> Cursor
-    requires { ⌜ Going (now s) c × ValueHere (now s) (c .place .offset) kind size × Room full (recAt kind (c .place .offset) size ∷ []) (desk c (now store) (now area)) ⌝ }
-    ensures { λ r. ⌜ WroteOne full (now (s .entry)) 0 (recAt kind (c .place .offset) size) (c .place .offset + size) (desk c (now (store .entry)) (now (area .entry))) (desk r (now (store .exit)) (now (area .exit))) ⌝ }
+    requires { ⌜ ValueAhead full (now s) kind size (desk c (now store) (now area)) ⌝ }
+    ensures { λ r. ⌜ WroteToken full (now (s .entry)) kind size (desk c (now (store .entry)) (now (area .entry))) (desk r (now (store .exit)) (now (area .exit))) ⌝ }
 {
     if kind < 14 {
         return write_token(s, full, store, area, c, kind, size);
@@ -332,8 +327,8 @@ fn write_found(
 
 // Values, until one fails: those of a loop, or of a tag, which in a text that is read has one.
 fn write_values(s: &[u8], full: bool, store: &mut [u8], area: &mut [u8], c: Cursor) -> Cursor
-    requires { ⌜ Going (now s) c × Room full (valueRecs (tokensAt inBlock (now s) (c .place .offset))) (desk c (now store) (now area)) ⌝ }
-    ensures { λ r. ⌜ Wrote full (now (s .entry)) (valueRecs (tokensAt inBlock (now (s .entry)) (c .place .offset))) (headAt (afterValues (tokensAt inBlock (now (s .entry)) (c .place .offset)))) (desk c (now (store .entry)) (now (area .entry))) (desk r (now (store .exit)) (now (area .exit))) ⌝ }
+    requires { ⌜ ValuesAhead full (now s) (desk c (now store) (now area)) ⌝ }
+    ensures { λ r. ⌜ WroteValues full (now (s .entry)) (desk c (now (store .entry)) (now (area .entry))) (desk r (now (store .exit)) (now (area .exit))) ⌝ }
 {
     let mut last = c;
     loop {
@@ -352,7 +347,7 @@ fn write_values(s: &[u8], full: bool, store: &mut [u8], area: &mut [u8], c: Curs
 // How many tags stand from an offset on.
 fn count_tags(s: &[u8], from: usize) -> usize
     requires { ⌜ from ≤ length (now s) ⌝ }
-    ensures { λ r. ⌜ r ≡ length (nameRecs (tokensAt inBlock (now (s .entry)) from)) ⌝ }
+    ensures { λ r. ⌜ r ≡ length (namesFrom (now (s .entry)) from) ⌝ }
 {
     let mut at = gaps::gap_end(s, from);
     let mut count: usize = 0;
@@ -365,8 +360,8 @@ fn count_tags(s: &[u8], from: usize) -> usize
 
 // The names of a loop, while tags stand.
 fn write_names(s: &[u8], full: bool, store: &mut [u8], area: &mut [u8], c: Cursor) -> Cursor
-    requires { ⌜ Going (now s) c × Room full (nameRecs (tokensAt inBlock (now s) (c .place .offset))) (desk c (now store) (now area)) ⌝ }
-    ensures { λ r. ⌜ Wrote full (now (s .entry)) (nameRecs (tokensAt inBlock (now (s .entry)) (c .place .offset))) (headAt (afterNames (tokensAt inBlock (now (s .entry)) (c .place .offset)))) (desk c (now (store .entry)) (now (area .entry))) (desk r (now (store .exit)) (now (area .exit))) ⌝ }
+    requires { ⌜ NamesAhead full (now s) (desk c (now store) (now area)) ⌝ }
+    ensures { λ r. ⌜ WroteNames full (now (s .entry)) (desk c (now (store .entry)) (now (area .entry))) (desk r (now (store .exit)) (now (area .exit))) ⌝ }
 {
     let mut last = c;
     loop {
@@ -467,8 +462,8 @@ fn next_in_frame(s: &[u8], at: usize) -> Next
 
 // The `save_` that closes a frame, where its items stopped.
 fn close_frame(s: &[u8], full: bool, store: &mut [u8], c: Cursor, stop: usize) -> Cursor
-    requires { ⌜ Going (now s) c × Closing (now s) (c .place .offset) stop × (c .at + storeLength full (recAt 3 stop 5 ∷ []) ≤ length (now store)) ⌝ }
-    ensures { λ r. ⌜ ((a : List ℕ) → Closed full (now (s .entry)) stop (desk c (now (store .entry)) a) (desk r (now (store .exit)) a)) ⌝ }
+    requires { ⌜ CloseAhead full (now s) stop c (now store) ⌝ }
+    ensures { λ r. ⌜ WroteClose full (now (s .entry)) stop c (now (store .entry)) r (now (store .exit)) ⌝ }
 {
     let place = c.place;
     let at = c.at;
@@ -484,7 +479,7 @@ fn close_frame(s: &[u8], full: bool, store: &mut [u8], c: Cursor, stop: usize) -
 // A frame: its heading, its items, its end.
 fn write_frame(s: &[u8], full: bool, store: &mut [u8], area: &mut [u8], c: Cursor) -> Cursor
     requires { ⌜ Ahead full (now s) none (desk c (now store) (now area)) × (startsAt keySave (now s) (c .place .offset) ≡ true) ⌝ }
-    ensures { λ r. ⌜ Moved full (now (s .entry)) none (desk c (now (store .entry)) (now (area .entry))) none (desk r (now (store .exit)) (now (area .exit))) ⌝ }
+    ensures { λ r. ⌜ MovedOn full (now (s .entry)) (desk c (now (store .entry)) (now (area .entry))) (desk r (now (store .exit)) (now (area .exit))) ⌝ }
 {
     let place = c.place;
     let start = place.offset;
@@ -503,7 +498,7 @@ fn write_frame(s: &[u8], full: bool, store: &mut [u8], area: &mut [u8], c: Curso
 // The item or the frame at the cursor.
 fn write_item_or_frame(s: &[u8], full: bool, store: &mut [u8], area: &mut [u8], c: Cursor) -> Cursor
     requires { ⌜ Ahead full (now s) none (desk c (now store) (now area)) × (c .place .offset < length (now s)) ⌝ }
-    ensures { λ r. ⌜ Moved full (now (s .entry)) none (desk c (now (store .entry)) (now (area .entry))) none (desk r (now (store .exit)) (now (area .exit))) ⌝ }
+    ensures { λ r. ⌜ MovedOn full (now (s .entry)) (desk c (now (store .entry)) (now (area .entry))) (desk r (now (store .exit)) (now (area .exit))) ⌝ }
 {
     let place = c.place;
     let offset = place.offset;
@@ -516,7 +511,7 @@ fn write_item_or_frame(s: &[u8], full: bool, store: &mut [u8], area: &mut [u8], 
 // Items and frames, to the end of the text.
 fn write_items(s: &[u8], full: bool, store: &mut [u8], area: &mut [u8], c: Cursor) -> Cursor
     requires { ⌜ Ahead full (now s) none (desk c (now store) (now area)) ⌝ }
-    ensures { λ r. ⌜ Wrote full (now (s .entry)) (recsLeft none (now (s .entry)) (c .place .offset)) (length (now (s .entry))) (desk c (now (store .entry)) (now (area .entry))) (desk r (now (store .exit)) (now (area .exit))) ⌝ }
+    ensures { λ r. ⌜ WroteRest full (now (s .entry)) (desk c (now (store .entry)) (now (area .entry))) (desk r (now (store .exit)) (now (area .exit))) ⌝ }
 {
     let mut here = c;
     loop {
@@ -531,8 +526,9 @@ fn write_items(s: &[u8], full: bool, store: &mut [u8], area: &mut [u8], c: Curso
 
 // The whole text: its heading, then its items and frames. Read copies contents (`full`), Outline does not.
 pub fn write_block(s: &[u8], full: bool, store: &mut [u8], area: &mut [u8])
-    requires { ⌜ (length (now s) ≤ limit) × (isDone (decided (now s)) ≡ true) × (storeLength full (answerRecs (decided (now s))) ≤ length (now store)) × (full ≡ true → areaSize (answerRecs (decided (now s))) ≤ length (now area)) ⌝ }
-    ensures { λ r. ⌜ (now (store .exit) ≡ front (storeOf full (now (s .entry)) 0 (answerRecs (decided (now (s .entry))))) (now (store .entry))) × (now (area .exit) ≡ front (areaIn full (now (s .entry)) (answerRecs (decided (now (s .entry))))) (now (area .entry))) ⌝ }
+    requires { ⌜ Fits full (now s) (now store) (now area) ⌝ }
+    ensures { λ r. ⌜ now (store .exit) ≡ front (storeBytes full (now (s .entry))) (now (store .entry)) ⌝ }
+    ensures { λ r. ⌜ now (area .exit) ≡ front (areaBytes full (now (s .entry))) (now (area .entry)) ⌝ }
 {
     let here = Cursor {
         place: trim_from(s, 0, 1, 1),

@@ -1,7 +1,7 @@
 -- `reading::judge`: the two limits first, then what the tokens say. Assumes nothing.
 use mathlib.Core.Path.{_∙_}
-use borrow.Author.Tests.{lt-ltb, le-ltb}
-use Rattle.items.specs.Reading.{outline, limit}
+use Rattle.items.specs.Reading.{limit}
+use Rattle.items.proofs.Told.{outline-long, outline-foreign, outline-decided}
 use Rattle.reading.specs.Services.{refusal, refusalReport}
 use Rattle.reading.specs.Judging.{judgement, judgedAs, noSizes}
 use Rattle.reading.proofs.Judgements.{declined-judgement}
@@ -10,8 +10,8 @@ use Rattle.reading.proofs.judge.Statement.{statement}
 use Rattle.reading.proofs.judge.Tie as tie
 
 returns : tie.Need-returns
-unfolding outline limit judgement judgedAs refusalReport refusal noSizes
-returns c = rw (lt-ltb _ _ (c .if1 .taken))
+unfolding limit judgement judgedAs refusalReport refusal noSizes
+returns c = rw (outline-long _ (c .if1 .taken))
 
 ascii-end-requires : tie.Need-ascii-end-requires
 ascii-end-requires c κs = search needs
@@ -20,9 +20,10 @@ place-at-requires : tie.Need-place-at-requires
 place-at-requires c κs = search needs
 
 returns-2 : tie.Need-returns-2
-unfolding outline limit judgement judgedAs refusalReport refusal noSizes
+unfolding limit judgement judgedAs refusalReport refusal noSizes
 returns-2 c =
-    rw (le-ltb _ _ (c .before .before .before .if1 .left), ← c .before .before .ascii-end .ensures, lt-ltb _ _ (c .before .if2 .taken), c .place-at .ensures)
+    let e = c .before .before .ascii-end .ensures in
+    rw (outline-foreign _ (c .before .before .before .if1 .left) (rw e at (c .before .if2 .taken)), c .place-at .ensures, e)
 
 lex-cif-requires : tie.Need-lex-cif-requires
 lex-cif-requires c κs = unfold limit in c .before .before .if1 .left
@@ -31,10 +32,11 @@ placed-requires : tie.Need-placed-requires
 placed-requires c κs = search needs
 
 returns-3 : tie.Need-returns-3
-unfolding outline limit
+unfolding limit
 returns-3 c =
+    let e = c .before .before .before .ascii-end .ensures in
     c .placed .ensures
-    ∙ rw (c .before .lex-cif .ensures, le-ltb _ _ (c .before .before .before .before .if1 .left), ← c .before .before .before .ascii-end .ensures, le-ltb _ _ (c .before .before .if2 .left)) (declined-judgement _ _)
+    ∙ rw (c .before .lex-cif .ensures, outline-decided _ (c .before .before .before .before .if1 .left) (rw e at (c .before .before .if2 .left))) (declined-judgement _ _)
 
 pub judge-spec : {M : Type 1} → statement M
 judge-spec =

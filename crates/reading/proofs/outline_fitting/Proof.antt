@@ -1,8 +1,6 @@
 -- `reading::outline_fitting`: by the room. Assumes nothing.
-use native.Mathlib.Omega.{arith}
-use mathlib.Core.Bool.{false, false≢true}
-use Rattle.writing.specs.Walk.{storeLength}
-use Rattle.reading.proofs.Served.{write-asks, writes, no-outline, all-outlined, need-outline}
+use mathlib.Core.Bool.{false}
+use Rattle.reading.proofs.Served.{outline-asks, stored, no-outline, all-outlined, need-outline}
 use borrow.Author.Needs.{needs}
 use Rattle.reading.proofs.outline_fitting.Statement.{statement}
 use Rattle.reading.proofs.outline_fitting.Tie as tie
@@ -18,7 +16,7 @@ slice-aggregate-write-block c = search needs
 write-block-requires : tie.Need-write-block-requires
 write-block-requires c κs =
     let i = c .before .before .before .before .before .pre in
-    write-asks false _ (i .records) _ _ (i .answer) (unfold storeLength in omega (arith, need-outline _ _ i, c .before .before .if1 .left)) (λ h. absurd (false≢true h))
+    outline-asks _ _ i _ _ (c .before .before .if1 .left)
 
 same-length : tie.Need-same-length
 same-length c = search needs
@@ -26,7 +24,7 @@ same-length c = search needs
 returns-2 : tie.Need-returns-2
 returns-2 c =
     let i = c .before .before .before .before .before .before .before .before .before .pre in
-    let w = rw (writes _ _ (i .answer)) at (c .before .before .before .write-block .ensures .0) in
+    let w = stored _ _ i false _ _ (c .before .before .before .write-block .ensures .0) in
     all-outlined _ _ (i .records) (i .answer) _ (need-outline _ _ i) _ (c .before .before .before .before .before .before .if1 .left) w
 
 pub outline-fitting-spec : {M : Type 1} → statement M

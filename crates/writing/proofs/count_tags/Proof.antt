@@ -9,7 +9,8 @@ use Rattle.words.specs.Words.{wordEnd}
 use Rattle.items.specs.Tokens.{inBlock}
 use Rattle.items.specs.Descent.{nameRecs}
 use Rattle.items.proofs.Offsets.{tokens-gap}
-use Rattle.writing.proofs.Lists.{namesFrom, gap-twice}
+use Rattle.gaps.proofs.Bare.{gap-twice}
+use Rattle.writing.specs.Walk.{namesFrom}
 use Rattle.writing.proofs.Items.{count-turn, count-none}
 use Rattle.writing.proofs.count_tags.Statement.{statement}
 use Rattle.writing.proofs.count_tags.Tie as tie

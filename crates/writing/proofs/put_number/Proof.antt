@@ -8,10 +8,10 @@ use borrow.Author.Tests.{not-true, not-false}
 use lib.ListN.{length}
 use Rattle.records.proofs.Forms.{length-place}
 use Rattle.records.proofs.Putting.{part-put}
-use Rattle.writing.specs.Walk.{recAt}
+use Rattle.writing.specs.Desk.{recAt}
 use Rattle.writing.proofs.Copy.{rest-room}
 use Rattle.writing.proofs.Ones.{place-small, one-length, number-read, number-outlined}
-use Rattle.writing.proofs.Turns.{number-turn, decimal-here}
+use Rattle.writing.proofs.Numbers.{number-token, decimal-here}
 use Rattle.writing.proofs.put_number.Statement.{statement}
 use Rattle.writing.proofs.put_number.Tie as tie
 
@@ -19,8 +19,8 @@ token-at-requires : tie.Need-token-at-requires
 token-at-requires c κs =
     let a = c .before .before .before .args in
     let p = c .before .before .before .pre in
-    let t = number-turn (a .s .now) (a .c .place .offset) (a .kind) (a .size) (p .1) (p .2) in
-    place-small (a .s .now) (a .c .place) (a .size) (p .0 .place) (p .0 .short) (omega (arith, t .turn .token .within))
+    let t = number-token (a .s .now) (a .c .place .offset) (a .kind) (a .size) (p .here) (p .number) in
+    place-small (a .s .now) (a .c .place) (a .size) (p .going .place) (p .going .short) (omega (arith, t .token .within))
 
 sub-write-place : tie.Need-sub-write-place
 sub-write-place c = search needs
@@ -35,10 +35,10 @@ write-place-requires : tie.Need-write-place-requires
 write-place-requires c κs =
     let a = c .before .before .before .before .before .before .args in
     let p = c .before .before .before .before .before .before .pre in
-    let t = number-turn (a .s .now) (a .c .place .offset) (a .kind) (a .size) (p .1) (p .2) in
+    let t = number-token (a .s .now) (a .c .place .offset) (a .kind) (a .size) (p .here) (p .number) in
     let e = not-true (a .full) (c .before .if1 .taken) in
-    let b = number-outlined (a .s .now) (a .c .place) (a .size) (a .c .area) 0 (a .kind) _ (p .0 .place) (p .2) (t .turn .most) (c .before .before .token-at .ensures) in
-    rest-room (a .c .at) 17 (a .store .now) (omega (arith, rw e at (p .3), length-place (a .kind) (c .before .before .token-at .result), ap length b, one-length false (a .s .now) (a .c .area) 0 (recAt (a .kind) (a .c .place .offset) (a .size))))
+    let b = number-outlined (a .s .now) (a .c .place) (a .size) (a .c .area) 0 (a .kind) _ (p .going .place) (p .number) (t .most) (c .before .before .token-at .ensures) in
+    rest-room (a .c .at) 17 (a .store .now) (omega (arith, rw e at (p .room), length-place (a .kind) (c .before .before .token-at .result), ap length b, one-length false (a .s .now) (a .c .area) 0 (recAt (a .kind) (a .c .place .offset) (a .size))))
 
 same-length : tie.Need-same-length
 same-length c = search needs
@@ -47,17 +47,17 @@ returns : tie.Need-returns
 returns c =
     let a = c .before .before .before .before .before .before .before .before .before .args in
     let p = c .before .before .before .before .before .before .before .before .before .pre in
-    let t = number-turn (a .s .now) (a .c .place .offset) (a .kind) (a .size) (p .1) (p .2) in
+    let t = number-token (a .s .now) (a .c .place .offset) (a .kind) (a .size) (p .here) (p .number) in
     let e = not-true (a .full) (c .before .before .before .before .if1 .taken) in
-    let b = number-outlined (a .s .now) (a .c .place) (a .size) (a .c .area) 0 (a .kind) _ (p .0 .place) (p .2) (t .turn .most) (c .before .before .before .before .before .token-at .ensures) in
+    let b = number-outlined (a .s .now) (a .c .place) (a .size) (a .c .area) 0 (a .kind) _ (p .going .place) (p .number) (t .most) (c .before .before .before .before .before .token-at .ensures) in
     rw (e, ← b) (part-put (a .c .at) _ (a .store .now) _ (c .before .before .write-place .ensures))
 
 add-end : tie.Need-add-end
 add-end c =
     let a = c .before .before .before .before .before .args in
     let p = c .before .before .before .before .before .pre in
-    let t = number-turn (a .s .now) (a .c .place .offset) (a .kind) (a .size) (p .1) (p .2) in
-    omega (arith, t .turn .token .within, p .0 .short)
+    let t = number-token (a .s .now) (a .c .place .offset) (a .kind) (a .size) (p .here) (p .number) in
+    omega (arith, t .token .within, p .going .short)
 
 sub-decimal-of : tie.Need-sub-decimal-of
 sub-decimal-of c = search needs
@@ -69,14 +69,14 @@ part-decimal-of-end : tie.Need-part-decimal-of-end
 part-decimal-of-end c =
     let a = c .before .before .before .before .before .before .args in
     let p = c .before .before .before .before .before .before .pre in
-    let t = number-turn (a .s .now) (a .c .place .offset) (a .kind) (a .size) (p .1) (p .2) in
-    omega (arith, t .turn .token .within)
+    let t = number-token (a .s .now) (a .c .place .offset) (a .kind) (a .size) (p .here) (p .number) in
+    omega (arith, t .token .within)
 
 decimal-of-requires : tie.Need-decimal-of-requires
 decimal-of-requires c κs =
     let a = c .before .before .before .before .before .before .before .args in
     let p = c .before .before .before .before .before .before .before .pre in
-    let t = number-turn (a .s .now) (a .c .place .offset) (a .kind) (a .size) (p .1) (p .2) in
+    let t = number-token (a .s .now) (a .c .place .offset) (a .kind) (a .size) (p .here) (p .number) in
     let z : a .c .place .offset + a .size - a .c .place .offset ≡ a .size = omega arith in
     rw z (t .limits)
 
@@ -84,11 +84,11 @@ put-decimal-requires : tie.Need-put-decimal-requires
 put-decimal-requires c κs =
     let a = c .before .before .before .before .before .before .before .before .args in
     let p = c .before .before .before .before .before .before .before .before .pre in
-    let t = number-turn (a .s .now) (a .c .place .offset) (a .kind) (a .size) (p .1) (p .2) in
+    let t = number-token (a .s .now) (a .c .place .offset) (a .kind) (a .size) (p .here) (p .number) in
     let e = not-false (a .full) (c .before .before .before .if1 .left) in
     let d = decimal-here (a .s .now) (a .c .place .offset) (a .kind) (a .size) (c .decimal-of .result) (c .decimal-of .ensures) in
-    let b = number-read (a .s .now) (a .c .place) (a .size) (a .c .area) 0 (a .kind) _ _ (p .0 .place) (t .kind) (c .before .before .before .before .token-at .ensures) d in
-    (omega (arith, rw e at (p .3), ap length b, one-length true (a .s .now) (a .c .area) 0 (recAt (a .kind) (a .c .place .offset) (a .size))), rw d (t .places))
+    let b = number-read (a .s .now) (a .c .place) (a .size) (a .c .area) 0 (a .kind) _ _ (p .going .place) (t .kind) (c .before .before .before .before .token-at .ensures) d in
+    (omega (arith, rw e at (p .room), ap length b, one-length true (a .s .now) (a .c .area) 0 (recAt (a .kind) (a .c .place .offset) (a .size))), rw d (t .places))
 
 same-length-2 : tie.Need-same-length-2
 same-length-2 c = search needs
@@ -97,10 +97,10 @@ returns-2 : tie.Need-returns-2
 returns-2 c =
     let a = c .before .before .before .before .before .before .before .before .before .before .before .args in
     let p = c .before .before .before .before .before .before .before .before .before .before .before .pre in
-    let t = number-turn (a .s .now) (a .c .place .offset) (a .kind) (a .size) (p .1) (p .2) in
+    let t = number-token (a .s .now) (a .c .place .offset) (a .kind) (a .size) (p .here) (p .number) in
     let e = not-false (a .full) (c .before .before .before .before .before .before .if1 .left) in
     let d = decimal-here (a .s .now) (a .c .place .offset) (a .kind) (a .size) (c .before .before .before .decimal-of .result) (c .before .before .before .decimal-of .ensures) in
-    let b = number-read (a .s .now) (a .c .place) (a .size) (a .c .area) 0 (a .kind) _ _ (p .0 .place) (t .kind) (c .before .before .before .before .before .before .before .token-at .ensures) d in
+    let b = number-read (a .s .now) (a .c .place) (a .size) (a .c .area) 0 (a .kind) _ _ (p .going .place) (t .kind) (c .before .before .before .before .before .before .before .token-at .ensures) d in
     rw (e, ← b) (c .before .before .put-decimal .ensures)
 
 pub put-number-spec : {M : Type 1} → statement M

@@ -3,7 +3,8 @@ use borrow.Author.Needs.{needs}
 use Prim.Native.Nat.{_+_}
 use mathlib.Core.Path.{ap, _∙_}
 use native.Mathlib.Omega.{arith}
-use Rattle.writing.proofs.Bytes.{body-short, outline-short, length-read, length-outlined}
+use Rattle.kinds.proofs.Marks.{body-short, outline-short}
+use Rattle.writing.proofs.Bytes.{length-read, length-outlined}
 use Rattle.writing.proofs.record_length.Statement.{statement}
 use Rattle.writing.proofs.record_length.Tie as tie
 

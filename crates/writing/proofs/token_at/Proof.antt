@@ -1,7 +1,7 @@
 -- `writing::token_at`: the three numbers and the length fit their fields. Assumes nothing.
 use borrow.Author.Needs.{needs}
 use mathlib.Core.Path.{refl}
-use Rattle.writing.specs.Writing.{tokenAt}
+use Rattle.writing.specs.Written.{tokenAt}
 use Rattle.writing.proofs.token_at.Statement.{statement}
 use Rattle.writing.proofs.token_at.Tie as tie
 

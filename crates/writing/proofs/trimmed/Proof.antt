@@ -2,8 +2,8 @@
 use borrow.Author.Needs.{needs}
 use mathlib.Core.Path.{ap}
 use Rattle.places.specs.declared.Place.{Place}
+use Rattle.writing.specs.Written.{placed}
 use Rattle.writing.specs.Walk.{behindGap}
-use Rattle.writing.specs.Writing.{placed}
 use Rattle.writing.proofs.trimmed.Statement.{statement}
 use Rattle.writing.proofs.trimmed.Tie as tie
 

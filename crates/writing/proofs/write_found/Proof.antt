@@ -9,8 +9,8 @@ write-token-requires : tie.Need-write-token-requires
 write-token-requires c κs =
     let a = c .before .before .before .before .before .before .args in
     let p = c .before .before .before .before .before .before .pre in
-    let t = here-turn (a .s .now) (a .c .place .offset) (a .kind) (a .size) (p .1) in
-    (p .0, t .token, t .least, omega arith, p .2)
+    let t = here-turn (a .s .now) (a .c .place .offset) (a .kind) (a .size) (p .here) in
+    record { going = p .going; token = t .token; least = t .least; most = omega arith; room = p .room }
 
 same-length : tie.Need-same-length
 same-length c = search needs
@@ -24,7 +24,7 @@ returns c = search needs
 write-number-requires : tie.Need-write-number-requires
 write-number-requires c κs =
     let p = c .before .before .before .before .before .pre in
-    (p .0, p .1, omega arith, p .2 .store)
+    record { going = p .going; here = p .here; number = omega arith; room = p .room .store }
 
 same-length-3 : tie.Need-same-length-3
 same-length-3 c = search needs

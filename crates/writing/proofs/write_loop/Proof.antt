@@ -5,8 +5,8 @@ use mathlib.Core.Path.{refl, ap, _∙_}
 use native.Mathlib.Omega.{arith}
 use lib.ListN.{length}
 use Rattle.records.specs.Put.{put}
-use Rattle.writing.specs.Walk.{recAt}
-use Rattle.writing.specs.Writing.{loopBytes}
+use Rattle.writing.specs.Written.{loopBytes}
+use Rattle.writing.specs.Desk.{recAt}
 use Rattle.writing.proofs.Ones.{place-small, kind-length, one-length, loop-here, loop-plain, plain-wrote}
 use Rattle.writing.proofs.write_loop.Statement.{statement}
 use Rattle.writing.proofs.write_loop.Tie as tie
@@ -15,7 +15,7 @@ token-at-requires : tie.Need-token-at-requires
 token-at-requires c κs =
     let a = c .before .before .before .before .args in
     let p = c .before .before .before .before .pre in
-    place-small (a .s .now) (a .c .place) 5 (p .0 .place) (p .0 .short) (omega (arith, p .1 .within))
+    place-small (a .s .now) (a .c .place) 5 (p .going .place) (p .going .short) (omega (arith, p .token .within))
 
 cast-put-loop : tie.Need-cast-put-loop
 cast-put-loop c = search needs
@@ -24,8 +24,8 @@ put-loop-requires : tie.Need-put-loop-requires
 put-loop-requires c κs =
     let a = c .before .before .before .before .before .args in
     let p = c .before .before .before .before .before .pre in
-    let t = ap (λ x. loopBytes (a .full) x (a .tags)) (c .token-at .ensures) ∙ loop-here (a .full) (a .s .now) (a .c .place) 5 (a .c .area) (a .tags) (p .0 .place) in
-    omega (arith, ap length t, one-length (a .full) (a .s .now) (a .c .area) (a .tags) (recAt 5 (a .c .place .offset) 5), p .3)
+    let t = ap (λ x. loopBytes (a .full) x (a .tags)) (c .token-at .ensures) ∙ loop-here (a .full) (a .s .now) (a .c .place) 5 (a .c .area) (a .tags) (p .going .place) in
+    omega (arith, ap length t, one-length (a .full) (a .s .now) (a .c .area) (a .tags) (recAt 5 (a .c .place .offset) 5), p .room)
 
 behind-requires : tie.Need-behind-requires
 behind-requires c κs = search needs
@@ -36,7 +36,7 @@ record-length-requires c κs = search needs
 add-t16 : tie.Need-add-t16
 add-t16 c =
     let a = c .before .before .before .before .before .before .before .before .before .before .args in
-    omega (arith, c .before .before .before .before .before .before .before .before .before .before .pre .3, c .record-length .ensures, kind-length (a .full) (recAt 5 (a .c .place .offset) 5))
+    omega (arith, c .before .before .before .before .before .before .before .before .before .before .pre .room, c .record-length .ensures, kind-length (a .full) (recAt 5 (a .c .place .offset) 5))
 
 same-length : tie.Need-same-length
 same-length c = search needs
@@ -45,9 +45,9 @@ returns : tie.Need-returns
 returns c =
     let a = c .before .before .before .before .before .before .before .before .before .before .args in
     let p = c .before .before .before .before .before .before .before .before .before .before .pre in
-    let t = ap (λ x. loopBytes (a .full) x (a .tags)) (c .before .before .before .before .before .token-at .ensures) ∙ loop-here (a .full) (a .s .now) (a .c .place) 5 (a .c .area) (a .tags) (p .0 .place) in
+    let t = ap (λ x. loopBytes (a .full) x (a .tags)) (c .before .before .before .before .before .token-at .ensures) ∙ loop-here (a .full) (a .s .now) (a .c .place) 5 (a .c .area) (a .tags) (p .going .place) in
     λ l. plain-wrote (a .full) (a .s .now) 5 5 (a .tags) (a .c) _ (a .store .now) _ l (loop-plain 5)
-    (p .0) (p .1) (c .before .behind .ensures) (ap (λ x. a .c .at + x) (c .record-length .ensures)) refl
+    (p .going) (p .token) (c .before .behind .ensures) (ap (λ x. a .c .at + x) (c .record-length .ensures)) refl
     (c .before .before .before .before .put-loop .ensures ∙ ap (λ x. put (a .c .at) x (a .store .now)) t)
 
 pub write-loop-spec : {M : Type 1} → statement M

@@ -2,7 +2,7 @@
 use borrow.Author.Needs.{needs}
 use Prim.Native.Nat.{_+_}
 use Rattle.places.proofs.Places.{place-offset}
-use Rattle.writing.specs.Walk.{desk}
+use Rattle.writing.specs.Desk.{desk}
 use Rattle.writing.proofs.SoFar.{room-first}
 use Rattle.writing.proofs.Items.{names-few, loop-names-room, loop-values-room, loop-token, loop-begun, loop-opened, loop-named, loop-valued, loop-ended}
 use Rattle.writing.proofs.write_loop_item.Statement.{statement}
@@ -30,7 +30,12 @@ write-loop-requires c κs =
     let h = c .before .before .before .before .before .before .pre .0 in
     let l = c .before .before .before .before .before .before .pre .1 in
     let e = c .before .count-tags .ensures in
-    (h .going, loop-token f s d h l, rw e (names-few s (a .c .place .offset + 5) (loop-token f s d h l .within) (h .going .short)), room-first f _ _ d (loop-begun f s d h l .room) .store)
+    record {
+      going = h .going;
+      token = loop-token f s d h l;
+      few = rw e (names-few s (a .c .place .offset + 5) (loop-token f s d h l .within) (h .going .short));
+      room = room-first f _ _ d (loop-begun f s d h l .room) .store;
+    }
 
 write-names-requires : tie.Need-write-names-requires
 write-names-requires c κs =
@@ -43,7 +48,7 @@ write-names-requires c κs =
     let w1 = c .before .before .before .before .write-loop .ensures (a .area .now) in
     let p1 = loop-opened f s d h l _ _ (c .before .before .before .before .before .before .count-tags .ensures) w1 in
     let o1 = place-offset s (c .before .before .before .before .write-loop .result .place) _ (w1 .place) in
-    (w1 .going, loop-names-room f s d h l _ p1 o1)
+    record { going = w1 .going; room = loop-names-room f s d h l _ p1 o1 }
 
 write-values-requires : tie.Need-write-values-requires
 write-values-requires c κs =
@@ -58,7 +63,7 @@ write-values-requires c κs =
     let o1 = place-offset s (c .before .before .before .before .before .before .before .before .before .before .before .write-loop .result .place) _ (w1 .place) in
     let w2 = c .before .before .before .before .before .before .write-names .ensures in
     let p2 = loop-named f s d h l _ _ p1 o1 w2 in
-    (w2 .going, loop-values-room f s d h l _ (p2 .0) (p2 .1))
+    record { going = w2 .going; room = loop-values-room f s d h l _ (p2 .0) (p2 .1) }
 
 write-end-requires : tie.Need-write-end-requires
 write-end-requires c κs =

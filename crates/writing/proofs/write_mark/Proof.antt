@@ -7,8 +7,8 @@ use Rattle.kinds.specs.Kinds.{isContent}
 use Rattle.records.specs.Put.{put}
 use Rattle.records.specs.Records.{placeRecord}
 use Rattle.records.proofs.Putting.{part-put}
-use Rattle.writing.specs.Writing.{recordBytes}
-use Rattle.writing.specs.Walk.{recAt}
+use Rattle.writing.specs.Written.{recordBytes}
+use Rattle.writing.specs.Desk.{recAt}
 use Rattle.writing.proofs.Copy.{rest-room}
 use Rattle.writing.proofs.Ones.{place-small, kind-length, mark-size, mark-bytes, no-content, plain-wrote}
 use Rattle.writing.proofs.write_mark.Statement.{statement}
@@ -18,7 +18,7 @@ token-at-requires : tie.Need-token-at-requires
 token-at-requires c κs =
     let a = c .before .before .before .args in
     let p = c .before .before .before .pre in
-    place-small (a .s .now) (a .c .place) (a .size) (p .0 .place) (p .0 .short) (omega (arith, p .1 .within))
+    place-small (a .s .now) (a .c .place) (a .size) (p .going .place) (p .going .short) (omega (arith, p .token .within))
 
 sub-write-place : tie.Need-sub-write-place
 sub-write-place c = search needs
@@ -33,7 +33,7 @@ write-place-requires : tie.Need-write-place-requires
 write-place-requires c κs =
     let a = c .before .before .before .before .before .args in
     let p = c .before .before .before .before .before .pre in
-    rest-room (a .c .at) 17 (a .store .now) (omega (arith, p .3, mark-size (a .full) (a .kind) (a .c .place .offset) (a .size) (p .2)))
+    rest-room (a .c .at) 17 (a .store .now) (omega (arith, p .room, mark-size (a .full) (a .kind) (a .c .place .offset) (a .size) (p .alone)))
 
 behind-requires : tie.Need-behind-requires
 behind-requires c κs = search needs
@@ -44,7 +44,7 @@ record-length-requires c κs = search needs
 add-t17 : tie.Need-add-t17
 add-t17 c =
     let a = c .before .before .before .before .before .before .before .before .before .before .args in
-    omega (arith, c .before .before .before .before .before .before .before .before .before .before .pre .3, c .record-length .ensures, kind-length (a .full) (recAt (a .kind) (a .c .place .offset) (a .size)))
+    omega (arith, c .before .before .before .before .before .before .before .before .before .before .pre .room, c .record-length .ensures, kind-length (a .full) (recAt (a .kind) (a .c .place .offset) (a .size)))
 
 same-length : tie.Need-same-length
 same-length c = search needs
@@ -56,9 +56,9 @@ returns c =
     let k = a .kind in
     let n = a .size in
     let b : placeRecord k (c .before .before .before .before .before .before .token-at .result) ≡ recordBytes (a .full) (a .s .now) (a .c .area) 0 (recAt k (a .c .place .offset) n) =
-    ap (placeRecord k) (c .before .before .before .before .before .before .token-at .ensures) ∙ mark-bytes (a .full) (a .s .now) (a .c .place) k n (a .c .area) 0 (p .0 .place) (p .2) in
-    λ l. plain-wrote (a .full) (a .s .now) k n 0 (a .c) _ (a .store .now) _ l (no-content k n (unfold isContent in rw (p .2)))
-    (p .0) (p .1) (c .before .behind .ensures) (ap (λ x. a .c .at + x) (c .record-length .ensures)) refl
+    ap (placeRecord k) (c .before .before .before .before .before .before .token-at .ensures) ∙ mark-bytes (a .full) (a .s .now) (a .c .place) k n (a .c .area) 0 (p .going .place) (p .alone) in
+    λ l. plain-wrote (a .full) (a .s .now) k n 0 (a .c) _ (a .store .now) _ l (no-content k n (unfold isContent in rw (p .alone)))
+    (p .going) (p .token) (c .before .behind .ensures) (ap (λ x. a .c .at + x) (c .record-length .ensures)) refl
     (part-put (a .c .at) _ (a .store .now) _ (c .before .before .before .before .write-place .ensures) ∙ ap (λ x. put (a .c .at) x (a .store .now)) b)
 
 pub write-mark-spec : {M : Type 1} → statement M

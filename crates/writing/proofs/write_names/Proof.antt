@@ -8,9 +8,10 @@ use lib.ListN.{length}
 use Rattle.kinds.specs.Kinds.{kindOf, shapeOf}
 use Rattle.gaps.proofs.Gaps.{gap-from}
 use Rattle.words.proofs.Words.{word-from}
-use Rattle.writing.specs.Walk.{desk}
+use Rattle.writing.specs.Desk.{desk}
+use Rattle.writing.specs.Walk.{namesFrom, behindNames}
 use Rattle.writing.proofs.SoFar.{SoFar, start}
-use Rattle.writing.proofs.Lists.{namesFrom, behindNames, name-room, name-next, name-gap, name-last, gap-again}
+use Rattle.writing.proofs.Lists.{name-room, name-next, name-gap, name-last, gap-again}
 use Rattle.writing.proofs.Values.{trim-offset}
 use Rattle.writing.proofs.write_names.Statement.{statement}
 use Rattle.writing.proofs.write_names.Tie as tie
@@ -24,7 +25,7 @@ abbrev μ-loop : tie.MeasureT-loop
 loop-holds : tie.Need-loop-holds Inv-loop μ-loop
 loop-holds c =
     let a = c .before .before .before .args in
-    start (a .full) (a .s .now) (namesFrom (a .s .now)) (behindNames (a .s .now)) (desk (a .c) (a .store .now) (a .area .now)) (c .before .before .before .pre .0) (c .before .before .before .pre .1)
+    start (a .full) (a .s .now) (namesFrom (a .s .now)) (behindNames (a .s .now)) (desk (a .c) (a .store .now) (a .area .now)) (c .before .before .before .pre .going) (c .before .before .before .pre .room)
 
 trimmed-requires : tie.Need-trimmed-requires Inv-loop μ-loop
 trimmed-requires c κs = c .loop .inv .going .place
@@ -67,7 +68,7 @@ write-text-requires c κs =
     let g = gap-again (a .s .now) (l .last) (h .result) (h .ensures) in
     let t = sym (c .before .before .before .before .at-tag .ensures) ∙ not-false (c .before .before .before .before .at-tag .result) (c .before .before .before .if1 .left) in
     let r = name-room (a .full) (a .s .now) d₀ d _ i g t (ap (λ x. x - h .result .place .offset) (c .before .before .long-word-end .ensures)) in
-    (i .going, r .0, unfold kindOf shapeOf in refl, r .1)
+    record { going = i .going; token = r .0; content = unfold kindOf shapeOf in refl; room = r .1 }
 
 loop-less : tie.Need-loop-less Inv-loop μ-loop
 loop-less c =

@@ -3,9 +3,9 @@ use borrow.Author.Needs.{needs}
 use Prim.Native.Nat.{_+_}
 use mathlib.Core.Path.{refl, ap}
 use native.Mathlib.Omega.{arith}
-use Rattle.writing.specs.Walk.{recAt}
+use Rattle.writing.specs.Desk.{recAt}
 use Rattle.writing.proofs.Ones.{kind-length, number-plain, plain-wrote}
-use Rattle.writing.proofs.Turns.{number-turn}
+use Rattle.writing.proofs.Numbers.{number-token}
 use Rattle.writing.proofs.write_number.Statement.{statement}
 use Rattle.writing.proofs.write_number.Tie as tie
 
@@ -16,8 +16,8 @@ behind-requires : tie.Need-behind-requires
 behind-requires c κs =
     let a = c .before .before .before .before .before .before .before .args in
     let p = c .before .before .before .before .before .before .before .pre in
-    let t = number-turn (a .s .now) (a .c .place .offset) (a .kind) (a .size) (p .1) (p .2) in
-    (p .0 .place, t .turn .token)
+    let t = number-token (a .s .now) (a .c .place .offset) (a .kind) (a .size) (p .here) (p .number) in
+    (p .going .place, t .token)
 
 record-length-requires : tie.Need-record-length-requires
 record-length-requires c κs = search needs
@@ -26,7 +26,7 @@ add-t15 : tie.Need-add-t15
 add-t15 c =
     let a = c .before .before .before .before .before .before .before .before .before .args in
     let p = c .before .before .before .before .before .before .before .before .before .pre in
-    omega (arith, p .3, c .record-length .ensures, kind-length (a .full) (recAt (a .kind) (a .c .place .offset) (a .size)))
+    omega (arith, p .room, c .record-length .ensures, kind-length (a .full) (recAt (a .kind) (a .c .place .offset) (a .size)))
 
 same-length : tie.Need-same-length
 same-length c = search needs
@@ -35,9 +35,9 @@ returns : tie.Need-returns
 returns c =
     let a = c .before .before .before .before .before .before .before .before .before .args in
     let p = c .before .before .before .before .before .before .before .before .before .pre in
-    let t = number-turn (a .s .now) (a .c .place .offset) (a .kind) (a .size) (p .1) (p .2) in
-    λ l. plain-wrote (a .full) (a .s .now) (a .kind) (a .size) 0 (a .c) _ (a .store .now) _ l (number-plain (a .kind) (a .size) (p .2) (t .turn .most))
-    (p .0) (t .turn .token) (c .before .behind .ensures) (ap (λ x. a .c .at + x) (c .record-length .ensures)) refl (c .before .before .before .before .put-number .ensures)
+    let t = number-token (a .s .now) (a .c .place .offset) (a .kind) (a .size) (p .here) (p .number) in
+    λ l. plain-wrote (a .full) (a .s .now) (a .kind) (a .size) 0 (a .c) _ (a .store .now) _ l (number-plain (a .kind) (a .size) (p .number) (t .most))
+    (p .going) (t .token) (c .before .behind .ensures) (ap (λ x. a .c .at + x) (c .record-length .ensures)) refl (c .before .before .before .before .put-number .ensures)
 
 pub write-number-spec : {M : Type 1} → statement M
 write-number-spec =

@@ -5,7 +5,7 @@ use mathlib.Core.Path.{refl, sym, ap, _∙_}
 use native.Mathlib.Omega.{arith}
 use Rattle.words.proofs.Words.{word-from}
 use Rattle.kinds.specs.Kinds.{kindOf, shapeOf}
-use Rattle.writing.specs.Walk.{desk}
+use Rattle.writing.specs.Desk.{desk}
 use Rattle.writing.proofs.Items.{tag-token, tag-room, tag-value-room, tag-done}
 use Rattle.writing.proofs.write_tag_item.Statement.{statement}
 use Rattle.writing.proofs.write_tag_item.Tie as tie
@@ -24,7 +24,7 @@ write-text-requires c κs =
     let d = desk (a .c) (a .store .now) (a .area .now) in
     let p = c .before .before .before .before .before .before .before .pre in
     let q = ap (λ x. x - a .c .place .offset) (c .before .before .long-word-end .ensures) in
-    (p .0 .going, tag-token (a .full) s d (p .0) (p .1) _ q, unfold kindOf shapeOf in refl, tag-room (a .full) s d (p .0) (p .1) _ q)
+    record { going = p .0 .going; token = tag-token (a .full) s d (p .0) (p .1) _ q; content = unfold kindOf shapeOf in refl; room = tag-room (a .full) s d (p .0) (p .1) _ q }
 
 write-values-requires : tie.Need-write-values-requires
 write-values-requires c κs =
@@ -33,7 +33,8 @@ write-values-requires c κs =
     let d = desk (a .c) (a .store .now) (a .area .now) in
     let p = c .before .before .before .before .before .before .before .before .before .before .before .before .before .before .pre in
     let q = ap (λ x. x - a .c .place .offset) (c .before .before .before .before .before .before .before .before .before .long-word-end .ensures) in
-    (c .before .before .before .before .before .before .write-text .ensures .going, tag-value-room (a .full) s d (p .0) (p .1) _ q _ (c .before .before .before .before .before .before .write-text .ensures))
+    let w = c .before .before .before .before .before .before .write-text .ensures in
+    record { going = w .going; room = tag-value-room (a .full) s d (p .0) (p .1) _ q _ w }
 
 same-length : tie.Need-same-length
 same-length c =

@@ -1,13 +1,13 @@
 -- `writing::write_token`: by the kind. Assumes nothing.
 use borrow.Author.Needs.{needs}
-use Rattle.writing.proofs.Turns.{mark-kind, text-kind}
+use Rattle.writing.proofs.Numbers.{mark-kind, text-kind}
 use Rattle.writing.proofs.write_token.Statement.{statement}
 use Rattle.writing.proofs.write_token.Tie as tie
 
 write-mark-requires : tie.Need-write-mark-requires
 write-mark-requires c κs =
     let p = c .before .before .before .before .before .pre in
-    (p .0, p .1, mark-kind (c .before .before .before .before .before .args .kind) (p .2) (c .before .if1 .taken), p .4 .store)
+    record { going = p .going; token = p .token; alone = mark-kind (c .before .before .before .before .before .args .kind) (p .least) (c .before .if1 .taken); room = p .room .store }
 
 same-length : tie.Need-same-length
 same-length c = search needs
@@ -18,7 +18,7 @@ returns c = c .before .before .write-mark .ensures (c .before .before .before .b
 write-text-requires : tie.Need-write-text-requires
 write-text-requires c κs =
     let p = c .before .before .before .before .before .before .pre in
-    (p .0, p .1, text-kind (c .before .before .before .before .before .before .args .kind) (c .before .before .if1 .left) (p .3), p .4)
+    record { going = p .going; token = p .token; content = text-kind (c .before .before .before .before .before .before .args .kind) (c .before .before .if1 .left) (p .most); room = p .room }
 
 same-length-2 : tie.Need-same-length-2
 same-length-2 c = search needs

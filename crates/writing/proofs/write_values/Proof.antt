@@ -6,9 +6,10 @@ use lib.ListN.{length}
 use Rattle.gaps.proofs.Gaps.{gap-from}
 use Rattle.items.specs.Reading.{limit}
 use Rattle.items.proofs.Packs.{unpack, no-value-packed}
-use Rattle.writing.specs.Walk.{desk}
+use Rattle.writing.specs.Desk.{desk}
+use Rattle.writing.specs.Walk.{valuesFrom, behindValues}
 use Rattle.writing.proofs.SoFar.{SoFar, start}
-use Rattle.writing.proofs.Lists.{valuesFrom, behindValues, value-room, value-next, value-gap, value-last, trim-bare}
+use Rattle.writing.proofs.Lists.{value-room, value-next, value-gap, value-last, trim-bare}
 use Rattle.writing.proofs.Turns.{value-here}
 use Rattle.writing.proofs.Values.{trim-offset}
 use Rattle.writing.proofs.write_values.Statement.{statement}
@@ -23,7 +24,7 @@ abbrev μ-loop : tie.MeasureT-loop
 loop-holds : tie.Need-loop-holds Inv-loop μ-loop
 loop-holds c =
     let a = c .before .before .before .args in
-    start (a .full) (a .s .now) (valuesFrom (a .s .now)) (behindValues (a .s .now)) (desk (a .c) (a .store .now) (a .area .now)) (c .before .before .before .pre .0) (c .before .before .before .pre .1)
+    start (a .full) (a .s .now) (valuesFrom (a .s .now)) (behindValues (a .s .now)) (desk (a .c) (a .store .now) (a .area .now)) (c .before .before .before .pre .going) (c .before .before .before .pre .room)
 
 trimmed-requires : tie.Need-trimmed-requires Inv-loop μ-loop
 trimmed-requires c κs = c .loop .inv .going .place
@@ -62,7 +63,7 @@ write-found-requires c κs =
     let i = value-gap (a .full) (a .s .now) d₀ (l .last) (h .result) (l .store) (l .area) (l .inv) (h .ensures) in
     let g = trim-bare (a .s .now) (l .last) (h .result) (h .ensures) in
     let v = value-here (a .s .now) (h .result .place .offset) _ _ g (sym (unpack (a .s .now) (h .result .place .offset) _ (c .before .before .before .pack-value .ensures) (c .before .before .if1 .left))) in
-    (i .going, v, value-room (a .full) (a .s .now) d₀ d _ _ i v)
+    record { going = i .going; here = v; room = value-room (a .full) (a .s .now) d₀ d _ _ i v }
 
 loop-less : tie.Need-loop-less Inv-loop μ-loop
 loop-less c =
