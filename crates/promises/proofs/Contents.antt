@@ -33,7 +33,7 @@ use Rattle.stores.specs.Contents.{isKind, isAlone, isName, readableBy, readable
 use Rattle.items.specs.Tokens.{inBlock, inFrame, lex}
 use Rattle.items.specs.Machine.{Rec, loopEnd}
 use Rattle.items.specs.Sizes.{contentSize}
-use Rattle.writing.specs.Written.{contentOf}
+use Rattle.putting.specs.Written.{contentOf}
 use Rattle.promises.proofs.Lines.{modeOf}
 use Rattle.promises.proofs.Lexing.{never, Worded, keyTag, heading-word, opening-word, tag-word, plainKey, key-word}
 use Rattle.promises.proofs.Taken.{Took, Outline}

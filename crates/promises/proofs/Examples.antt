@@ -14,9 +14,10 @@ use Rattle.records.specs.Records.{tokenBytes, decimalBytes, endRecord, placeRec
 use Rattle.records.specs.Put.{front}
 use Rattle.entries.specs.Entries.{de32, de64, noParts, tokenOf as tokenAt, partsOf, plainFields, partsFields, fieldsOf, isKind, entryOf, entryAt}
 use Rattle.items.specs.Machine.{Rec}
-use Rattle.writing.specs.Written.{tokenOf, tokenText, decimalOf, shaped, shapeIn, recordBytes}
-use Rattle.writing.specs.Writing.{tagsOf, storeOf}
-use Rattle.reading.specs.Services.{writtenIf, readStoreBy, readStore, readAreaBy, readArea}
+use Rattle.putting.specs.Written.{tokenOf, tokenText, decimalOf, shaped, shapeIn, recordBytes}
+use Rattle.walking.specs.Writing.{tagsOf, storeOf}
+use Rattle.reading.specs.Services.{readStoreBy, readStore, readAreaBy, readArea}
+use Rattle.refusals.specs.Answers.{writtenIf}
 use Rattle.stores.specs.Walk.{onward, entriesFrom, entries}
 use Rattle.stores.specs.Nesting.{isValueKind, opensLoop, atItems, afterName, atNames, atValues, standing, ended, follow, nestedFrom, nested}
 use Rattle.stores.specs.Contents.{isKind as isKindAlone, isAlone, isName, readableBy, readable, exponentKept, partsKept, contentLength, contentBytes, contentKept, ownRule, takes, filledFrom, filled}

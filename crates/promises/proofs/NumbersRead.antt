@@ -37,8 +37,8 @@ use Rattle.entries.specs.Entries.{stored}
 use Rattle.values.specs.Values.{Class, Reason, value, overLimit, nothing, openQuote, openField, Lexed, lexed, numberOr, wordOr, closed, lexValue, lexAsValue}
 use Rattle.items.specs.Machine.{Rec, loopEnd}
 use Rattle.items.proofs.Lexes.{pick}
-use Rattle.writing.specs.Written.{tokenOf, tokenText, decimalOf as readDecimal}
-use Rattle.writing.specs.Writing.{tagsOf}
+use Rattle.putting.specs.Written.{tokenOf, tokenText, decimalOf as readDecimal}
+use Rattle.walking.specs.Writing.{tagsOf}
 use Rattle.reading.specs.Services.{readAnswer}
 use Rattle.stores.specs.Walk.{entries}
 use Rattle.stores.specs.Nesting.{isValueKind}

@@ -21,9 +21,10 @@ use Rattle.entries.specs.Entries.{stored}
 use Rattle.items.specs.Machine.{Rec, Answer, refused, done}
 use Rattle.items.specs.Reading.{outline}
 use Rattle.items.specs.Sizes.{contentSize, storeSize, areaSize}
-use Rattle.writing.specs.Written.{tokenOf, contentOf, decimalOf}
-use Rattle.writing.specs.Writing.{tagsOf, storeOf, areaOf}
-use Rattle.reading.specs.Services.{refusal, readRoom, readBy, readAnswer}
+use Rattle.putting.specs.Written.{tokenOf, contentOf, decimalOf}
+use Rattle.walking.specs.Writing.{tagsOf, storeOf, areaOf}
+use Rattle.reading.specs.Services.{readRoom, readBy, readAnswer}
+use Rattle.refusals.specs.Answers.{refusal}
 use Rattle.stores.specs.Walk.{entries}
 use Rattle.stores.specs.Nesting.{nested}
 use Rattle.stores.specs.Contents.{readable, exponentKept, partsKept, contentLength, contentKept, ownRule, takes, filledFrom, filled}

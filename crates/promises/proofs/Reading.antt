@@ -14,9 +14,10 @@ use Rattle.records.specs.Put.{front}
 use Rattle.items.specs.Machine.{Rec, done}
 use Rattle.items.specs.Reading.{outline}
 use Rattle.items.specs.Sizes.{contentSize, storeSize, areaSize}
-use Rattle.writing.specs.Written.{contentOf, shaped, shapeIn, recordBytes}
-use Rattle.writing.specs.Writing.{tagsOf, storeOf, areaOf}
-use Rattle.reading.specs.Services.{readRoom, readBy, readAnswer, writtenIf, readStoreBy, readStore, readAreaBy, readArea}
+use Rattle.putting.specs.Written.{contentOf, shaped, shapeIn, recordBytes}
+use Rattle.walking.specs.Writing.{tagsOf, storeOf, areaOf}
+use Rattle.reading.specs.Services.{readRoom, readBy, readAnswer, readStoreBy, readStore, readAreaBy, readArea}
+use Rattle.refusals.specs.Answers.{writtenIf}
 use Rattle.promises.specs.Results.{storeBytes, areaBytes}
 use Rattle.promises.proofs.Taken.{Outline, outline-taken}
 use Rattle.promises.proofs.Sources.{Each, none, also, each-map, sources, Facts, facts}

@@ -33,7 +33,7 @@ use Rattle.items.specs.Reading.{limit, decided, outline}
 use Rattle.items.specs.Sizes.{storeSize, areaSize}
 use Rattle.items.proofs.Ended.{word-ended, starts-ended, noLf}
 use Rattle.items.proofs.Advance.{advance₀}
-use Rattle.writing.specs.Writing.{storeOf, areaOf}
+use Rattle.walking.specs.Writing.{storeOf, areaOf}
 use Rattle.reading.specs.Services.{readAnswer}
 use Rattle.stores.specs.Walk.{entries}
 use Rattle.stores.specs.declared.Stand.the-variants.{Stands, Falls}

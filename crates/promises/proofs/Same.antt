@@ -28,7 +28,7 @@ use Rattle.records.specs.Bytes.{flag}
 use Rattle.entries.specs.Entries.{noParts, stored, isKind}
 use Rattle.items.specs.Machine.{Rec, loopEnd}
 use Rattle.items.specs.Sizes.{contentSize, storeSize, areaSize}
-use Rattle.writing.specs.Written.{tokenText as textOf, contentOf, decimalOf as readDecimal}
+use Rattle.putting.specs.Written.{tokenText as textOf, contentOf, decimalOf as readDecimal}
 use Rattle.stores.specs.Contents.{partsKept, contentLength, contentBytes, takes}
 use Rattle.rendering.specs.Rendering.{decimalOf, tokenText, isEnd}
 use Rattle.promises.specs.Sayings.{Saying, says, contentIn, saying}

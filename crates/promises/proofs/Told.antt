@@ -16,8 +16,8 @@ use Rattle.kinds.specs.Kinds.{kindOf, shapeOf, marksOf, opening, isContent, has
 use Rattle.entries.specs.Entries.{stored, noParts}
 use Rattle.items.specs.Machine.{Rec}
 use Rattle.items.specs.Sizes.{contentSize}
-use Rattle.writing.specs.Written.{tokenOf, contentOf, decimalOf}
-use Rattle.writing.specs.Writing.{storeOf, areaOf, tagsOf}
+use Rattle.putting.specs.Written.{tokenOf, contentOf, decimalOf}
+use Rattle.walking.specs.Writing.{storeOf, areaOf, tagsOf}
 use Rattle.stores.specs.Walk.{entries}
 use Rattle.stores.specs.Contents.{contentLength, contentBytes}
 use Rattle.promises.specs.Sayings.{Saying, says, nothing, contentIn, saying, sayings}

@@ -15,7 +15,7 @@ use Rattle.values.specs.Values.{value}
 use Rattle.values.proofs.Laws.{Lies, value-lies}
 use Rattle.items.specs.Machine.{Rec, loopEnd}
 use Rattle.items.specs.Sizes.{contentSize}
-use Rattle.writing.specs.Writing.{tagsOf}
+use Rattle.walking.specs.Writing.{tagsOf}
 use Rattle.stores.specs.declared.Stand.{Stand}
 use Rattle.stores.specs.declared.Stand.the-variants.{Stands, Falls}
 use Rattle.stores.specs.declared.Where.{Where}

@@ -32,8 +32,8 @@ use Rattle.entries.proofs.Back.{Fits, Small, end-back, place-back, content-back
 use Rattle.items.specs.Machine.{Rec}
 use Rattle.items.specs.Sizes.{contentSize}
 use Rattle.items.proofs.Room.{content-small}
-use Rattle.writing.specs.Written.{tokenOf, decimalOf, tokenText, shaped, shapeIn, recordBytes}
-use Rattle.writing.specs.Writing.{tagsOf, storeOf}
+use Rattle.putting.specs.Written.{tokenOf, decimalOf, tokenText, shaped, shapeIn, recordBytes}
+use Rattle.walking.specs.Writing.{tagsOf, storeOf}
 use Rattle.stores.specs.Walk.{onward, entriesFrom, entries}
 use Rattle.promises.proofs.Lexing.{NumberWord}
 use Rattle.promises.proofs.Taken.{bytesOf, Read, Outline}

@@ -1,62 +1,33 @@
--- What the services answer and leave behind, case by case. Assumes nothing.
+-- What Read answers and leaves behind, case by case. Assumes nothing.
 use Prim.Native.Nat.{ℕ, _≤_, _<_}
-use mathlib.Core.Path.{_≡_, refl, sym, ap, _∙_}
-use mathlib.Core.Bool.{Bool, true, false, cond, true≢false, false≢true}
+use mathlib.Core.Path.{_≡_, ap, _∙_}
+use mathlib.Core.Bool.{true, false}
 use mathlib.Core.List.{List}
 use native.Mathlib.Omega.{arith}
 use borrow.Author.Tests.{lt-ltb, le-ltb}
-use lib.Dec.{ltb, eqb}
+use lib.Dec.{ltb}
 use lib.ListN.{length}
 use Rattle.places.specs.Reports.{success, noRoom}
 use Rattle.records.specs.Put.{front}
 use Rattle.items.specs.declared.Sizes.{Sizes}
-use Rattle.items.specs.Machine.{Rec, Answer, refused, done}
+use Rattle.items.specs.Machine.{Rec, done}
 use Rattle.items.specs.Reading.{outline, decided, limit}
-use Rattle.items.specs.Sizes.{storeSize, outlineSize, areaSize}
+use Rattle.items.specs.Sizes.{storeSize, areaSize}
 use Rattle.items.proofs.Told.{sizes-of, outline-read}
-use Rattle.writing.specs.Writing.{storeOf, areaOf}
-use Rattle.writing.specs.Block.{Fits as Fitting, storeBytes, areaBytes}
-use Rattle.writing.proofs.Answers.{read-fits, outline-fits, store-bytes, area-bytes}
-use Rattle.reading.specs.declared.Refusal.{Refusal}
-use Rattle.reading.specs.declared.Judged.{Judged}
-use Rattle.reading.specs.declared.Judged.the-variants.{Fits, Declines}
+use Rattle.walking.specs.Writing.{storeOf, areaOf}
+use Rattle.writing.specs.Block.{Fits, storeBytes, areaBytes}
+use Rattle.writing.proofs.Answers.{read-fits, store-bytes, area-bytes}
+use Rattle.refusals.specs.declared.Refusal.{Refusal}
 use Rattle.reading.specs.declared.Reading.the-variants.{Done, Refused, StoreFull, AreaFull}
-use Rattle.reading.specs.declared.Outlined.the-variants.{Written, Declined, NoRoom}
-use Rattle.reading.specs.Services.{refusal, refusalReport, readRoom, readBy, readAnswer, writtenIf, readStoreBy, readAreaBy, readStore, readArea, outlineRoom, outlineBy, outlineAnswer, outlineStoreBy, outlineStore, readingReport, outlinedReport}
-use Rattle.reading.specs.Judging.{Judgement, judgement, judgedAs, IsRead}
+use Rattle.refusals.specs.Answers.{writtenIf}
+use Rattle.judging.specs.Judging.{IsRead}
+use Rattle.reading.specs.Services.{readRoom, readBy, readAnswer, readStoreBy, readAreaBy, readStore, readArea, readingReport}
+use Rattle.judging.proofs.Judgements.{Refuses}
 
--- a judgement that a text fits
-fits : (s : List ℕ) (a : Answer) (z : Sizes) → outline s ≡ a → judgedAs (Fits z) ≡ judgement s a → IsRead s z
-unfolding judgedAs judgement
-fits s (refused n o d) z p e = absurd (true≢false (ap (λ (x : Judgement). x .isRead) e))
-fits s (done rs) z p e = record { records = rs; answer = p; sizes = ap (λ (x : Judgement). x .sizes) e }
-
-pub fits-read : (s : List ℕ) (j : Judged) (z : Sizes) → judgedAs j ≡ judgement s (outline s) → j ≡ Fits z → IsRead s z
-fits-read s j z e q = fits s (outline s) z refl (ap judgedAs (sym q) ∙ e)
-
--- a judgement that it is refused
-pub record Refuses (s : List ℕ) (r : Refusal) : Type 0 where
-  pub number : ℕ
-  pub offset : ℕ
-  pub detail : ℕ
-  pub answer : outline s ≡ refused number offset detail
-  pub report : refusalReport r ≡ refusal s number offset detail
-
-refuses : (s : List ℕ) (a : Answer) (r : Refusal) → outline s ≡ a → judgedAs (Declines r) ≡ judgement s a → Refuses s r
-unfolding judgedAs judgement
-refuses s (refused n o d) r p e = record { number = n; offset = o; detail = d; answer = p; report = ap (λ (x : Judgement). x .report) e }
-refuses s (done rs) r p e = absurd (false≢true (ap (λ (x : Judgement). x .isRead) e))
-
-pub declines-refuses : (s : List ℕ) (j : Judged) (r : Refusal) → judgedAs j ≡ judgement s (outline s) → j ≡ Declines r → Refuses s r
-declines-refuses s j r e q = refuses s (outline s) r refl (ap judgedAs (sym q) ∙ e)
-
+-- a text that is refused
 pub read-refused : (s l a : List ℕ) (r : Refusal) → Refuses s r → (readingReport (Refused r) ≡ readAnswer s (length l) (length a)) × ((l ≡ readStore s l (length a)) × (a ≡ readArea s (length l) a))
 unfolding readingReport readAnswer readStore readArea readBy readStoreBy readAreaBy
 read-refused s l a r i = (rw (i .answer) (i .report), (rw (i .answer), rw (i .answer)))
-
-pub outline-refused : (s l : List ℕ) (r : Refusal) → Refuses s r → (outlinedReport (Declined r) ≡ outlineAnswer s (length l)) × (l ≡ outlineStore s l)
-unfolding outlinedReport outlineAnswer outlineStore outlineBy outlineStoreBy
-outline-refused s l r i = (rw (i .answer) (i .report), rw (i .answer))
 
 -- room, for records whose lengths are m and k
 module _ (s l a : List ℕ) (rs : List Rec) (e : outline s ≡ done rs) (m k : ℕ) (p : m ≡ storeSize rs) (q : k ≡ areaSize rs) where
@@ -81,19 +52,6 @@ module _ (s l a : List ℕ) (rs : List Rec) (e : outline s ≡ done rs) (m k : �
       let u : ltb (length a) (areaSize rs) ≡ false = le-ltb (length a) (areaSize rs) (omega arith) in
       (rw (e, t, u, p, q), (rw (e, t, u) v, rw (e, t, u) w))
 
-module _ (s l : List ℕ) (rs : List Rec) (e : outline s ≡ done rs) (m : ℕ) (p : m ≡ outlineSize rs) where
-  pub no-outline : length l < m → (outlinedReport (NoRoom m) ≡ outlineAnswer s (length l)) × (l ≡ outlineStore s l)
-  unfolding outlinedReport outlineAnswer outlineStore outlineBy outlineStoreBy outlineRoom writtenIf noRoom
-  no-outline h =
-      let t : ltb (length l) (outlineSize rs) ≡ true = lt-ltb (length l) (outlineSize rs) (omega arith) in
-      (rw (e, t, p), rw (e, t))
-
-  pub all-outlined : (l′ : List ℕ) → m ≤ length l → l′ ≡ front (storeOf false s 0 rs) l → (outlinedReport (Written m) ≡ outlineAnswer s (length l)) × (l′ ≡ outlineStore s l)
-  unfolding outlinedReport outlineAnswer outlineStore outlineBy outlineStoreBy outlineRoom writtenIf success
-  all-outlined l′ h v =
-      let t : ltb (length l) (outlineSize rs) ≡ false = le-ltb (length l) (outlineSize rs) (omega arith) in
-      (rw (e, t, p), rw (e, t) v)
-
 -- the lengths that a read text needs
 pub need-store : (s : List ℕ) (z : Sizes) (i : IsRead s z) → z .store ≡ storeSize (i .records)
 need-store s z i = ap (λ (x : Sizes). x .store) (i .sizes ∙ sizes-of (i .records))
@@ -101,22 +59,16 @@ need-store s z i = ap (λ (x : Sizes). x .store) (i .sizes ∙ sizes-of (i .reco
 pub need-area : (s : List ℕ) (z : Sizes) (i : IsRead s z) → z .area ≡ areaSize (i .records)
 need-area s z i = ap (λ (x : Sizes). x .area) (i .sizes ∙ sizes-of (i .records))
 
-pub need-outline : (s : List ℕ) (z : Sizes) (i : IsRead s z) → z .outline ≡ outlineSize (i .records)
-need-outline s z i = ap (λ (x : Sizes). x .outline) (i .sizes ∙ sizes-of (i .records))
-
 -- what the write pass asks, and what it leaves behind, where there is room for the records
 module _ (s : List ℕ) (z : Sizes) (i : IsRead s z) where
   abbrev text : (length s ≤ limit) × (decided s ≡ done (i .records))
   text = outline-read s (i .records) (i .answer)
 
-  pub read-asks : (l a : List ℕ) → z .store ≤ length l → z .area ≤ length a → Fitting true s l a
+  pub read-asks : (l a : List ℕ) → z .store ≤ length l → z .area ≤ length a → Fits true s l a
   read-asks l a h k = read-fits s (i .records) (text .1) l a (text .0) (omega (arith, need-store s z i)) (omega (arith, need-area s z i))
 
-  pub outline-asks : (l a : List ℕ) → z .outline ≤ length l → Fitting false s l a
-  outline-asks l a h = outline-fits s (i .records) (text .1) l a (text .0) (omega (arith, need-outline s z i))
-
-  pub stored : (full : Bool) (l m : List ℕ) → m ≡ front (storeBytes full s) l → m ≡ front (storeOf full s 0 (i .records)) l
-  stored full l m e = e ∙ ap (λ (x : List ℕ). front x l) (store-bytes s (i .records) (text .1) full)
+  pub stored : (l m : List ℕ) → m ≡ front (storeBytes true s) l → m ≡ front (storeOf true s 0 (i .records)) l
+  stored l m e = e ∙ ap (λ (x : List ℕ). front x l) (store-bytes s (i .records) (text .1) true)
 
   pub copied : (l m : List ℕ) → m ≡ front (areaBytes true s) l → m ≡ front (areaOf s (i .records)) l
   copied l m e = e ∙ ap (λ (x : List ℕ). front x l) (area-bytes s (i .records) (text .1))

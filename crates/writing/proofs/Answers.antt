@@ -7,8 +7,8 @@ use lib.ListN.{length}
 use Rattle.items.specs.Machine.{Rec, done}
 use Rattle.items.specs.Reading.{limit, decided}
 use Rattle.items.specs.Sizes.{storeSize, outlineSize, areaSize}
-use Rattle.writing.specs.Writing.{storeOf, areaOf, areaIn}
-use Rattle.writing.specs.Desk.{storeLength}
+use Rattle.walking.specs.Writing.{storeOf, areaOf, areaIn}
+use Rattle.putting.specs.Desk.{storeLength}
 use Rattle.writing.specs.Block.{answerRecs, isDone, recordsOf, storeBytes, areaBytes, Fits}
 
 module _ (s : List ℕ) (rs : List Rec) (e : decided s ≡ done rs) where

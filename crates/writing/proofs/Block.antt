@@ -22,17 +22,17 @@ use Rattle.items.specs.Machine.{Rec}
 use Rattle.items.specs.Sizes.{areaSize}
 use Rattle.items.specs.Reading.{limit, decided}
 use Rattle.items.specs.Frames.{left}
-use Rattle.writing.specs.declared.Cursor.{Cursor}
-use Rattle.writing.specs.Writing.{tagsOf, storeOf, areaIn}
-use Rattle.writing.specs.Desk.{storeLength, Desk, desk, Going, Room, IsToken, recAt, WroteOne}
-use Rattle.writing.specs.Walk.{Wrote, Onward, behindGap}
+use Rattle.putting.specs.declared.Cursor.{Cursor}
+use Rattle.walking.specs.Writing.{tagsOf, storeOf, areaIn}
+use Rattle.putting.specs.Desk.{storeLength, Desk, desk, Going, Room, IsToken, recAt, WroteOne}
+use Rattle.walking.specs.Walk.{Wrote, Onward, behindGap}
 use Rattle.writing.specs.Block.{Fits, recordsOf, storeBytes, areaBytes, answerRecs, isDone, recsLeft, Ahead}
 use Rattle.writing.proofs.Frames.{onward-trim}
-use Rattle.writing.proofs.Lines.{part-token}
-use Rattle.writing.proofs.Onward.{room-onward, one-onward}
+use Rattle.putting.proofs.Lines.{part-token}
+use Rattle.walking.proofs.Onward.{room-onward, one-onward}
 use Rattle.writing.proofs.Rest.{heading}
-use Rattle.writing.proofs.SoFar.{isCount, any-count, room-first}
-use Rattle.writing.proofs.Values.{trim-at, trim-area, trim-offset, trim-going}
+use Rattle.walking.proofs.SoFar.{isCount, any-count, room-first}
+use Rattle.walking.proofs.Values.{trim-at, trim-area, trim-offset, trim-going}
 
 -- the text's start
 abbrev pub atStart : Cursor

@@ -25,21 +25,21 @@ use Rattle.items.specs.Sizes.{contentSize, areaSize}
 use Rattle.items.specs.Decisions.{headAt}
 use Rattle.items.specs.Answers.{itemAt}
 use Rattle.items.specs.Frames.{left}
-use Rattle.writing.specs.declared.Cursor.{Cursor}
+use Rattle.putting.specs.declared.Cursor.{Cursor}
 use Rattle.writing.specs.declared.Next.the-variants.{Item as Item′, Stop}
-use Rattle.writing.specs.Writing.{tagsOf, storeOf}
-use Rattle.writing.specs.Desk.{Desk, desk, Going, Room, IsToken, recAt, WroteOne}
-use Rattle.writing.specs.Walk.{Wrote, Onward, behindGap, itemRecs, itemRest, isTaken, itemOf, ItemHere, WroteItem, namesFrom, behindNames, valuesFrom}
+use Rattle.walking.specs.Writing.{tagsOf, storeOf}
+use Rattle.putting.specs.Desk.{Desk, desk, Going, Room, IsToken, recAt, WroteOne}
+use Rattle.walking.specs.Walk.{Wrote, Onward, behindGap, itemRecs, itemRest, isTaken, itemOf, ItemHere, WroteItem, namesFrom, behindNames, valuesFrom}
 use Rattle.writing.specs.Block.{recsLeft, isDone, Ahead, Moved, Closing, Closed, nextOf}
-use Rattle.writing.proofs.Bytes.{store-append, area-size-append}
-use Rattle.writing.proofs.Items.{loop-parts, tag-parts, tag-here, room-prefix}
-use Rattle.writing.proofs.Lines.{part-token}
-use Rattle.writing.proofs.Lists.{value-free}
-use Rattle.writing.proofs.Onward.{onward-here, onward-then, room-onward, wrote-before, one-onward, onward-wrote}
+use Rattle.walking.proofs.Appends.{store-append, area-size-append}
+use Rattle.walking.proofs.Items.{loop-parts, tag-parts, tag-here, room-prefix}
+use Rattle.putting.proofs.Lines.{part-token}
+use Rattle.walking.proofs.Lists.{value-free}
+use Rattle.walking.proofs.Onward.{onward-here, onward-then, room-onward, wrote-before, one-onward, onward-wrote}
 use Rattle.writing.proofs.Rest.{Steps, item-passes, frame-item-steps, block-item-steps, open-steps, close-steps, next-item, next-stop, end-none, no-value-left}
-use Rattle.writing.proofs.SoFar.{isCount, bytes-free, any-count, room-first}
-use Rattle.writing.proofs.Turns.{value-turn}
-use Rattle.writing.proofs.Values.{trim-at, trim-area, trim-offset, trim-going}
+use Rattle.walking.proofs.SoFar.{isCount, bytes-free, any-count, room-first}
+use Rattle.walking.proofs.Turns.{value-turn}
+use Rattle.walking.proofs.Values.{trim-at, trim-area, trim-offset, trim-going}
 
 -- records whose last is neither a loop nor a loop's tag: what follows does not change their bytes
 record Shut (xs : List Rec) : Type 0 where

@@ -1,17 +1,4 @@
-pub mod Copy
-pub mod Forms
-pub mod Bytes
-pub mod Onward
-pub mod Places
-pub mod Lines
-pub mod Numbers
-pub mod Ones
-pub mod Turns
-pub mod Values
-pub mod SoFar
-pub mod Lists
 pub mod Nexts
-pub mod Items
 pub mod Prefix
 pub mod Rest
 pub mod Frames

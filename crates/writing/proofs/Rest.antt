@@ -30,8 +30,8 @@ use Rattle.items.proofs.Wanted.{wanted, found-wanted}
 use Rattle.items.proofs.Passes.{AlikeItem, alike-taken, alike-ragged, alike-alone, alike-absent, alike-unnamed, alike-over, item-alike}
 use Rattle.items.proofs.Onward.{DroppedAt, PassedInside, item-inside, frame-item, block-item, left-from, plain, open-reads, left-gap, open-answer, close-answer, begin-reads, end-answer, failed-stops, no-data, decided-from}
 use Rattle.writing.specs.declared.Next.the-variants.{Item as Item′, Stop}
-use Rattle.writing.specs.Desk.{recAt}
-use Rattle.writing.specs.Walk.{itemRecs, itemRest, isTaken, itemOf}
+use Rattle.putting.specs.Desk.{recAt}
+use Rattle.walking.specs.Walk.{itemRecs, itemRest, isTaken, itemOf}
 use Rattle.writing.specs.Block.{answerRecs, isDone, recsLeft, nextOf}
 use Rattle.writing.proofs.Prefix.{prefixed, started, run-after}
 

@@ -13,12 +13,12 @@ use Rattle.items.specs.Reading.{limit, decided}
 use Rattle.items.specs.declared.Item.{Item as Answered}
 use Rattle.items.specs.declared.Item.the-variants.{Loop, Single, Ragged, NoValue, NoItem, NoNames, Over}
 use Rattle.items.specs.Sizes.{areaSize}
-use Rattle.writing.specs.declared.Cursor.{Cursor}
+use Rattle.putting.specs.declared.Cursor.{Cursor}
 use Rattle.writing.specs.declared.Next.{Next}
 use Rattle.writing.specs.declared.Next.the-variants.{Item, Stop}
-use Rattle.writing.specs.Writing.{storeOf, areaIn}
-use Rattle.writing.specs.Desk.{storeLength, Desk, desk, Going, Room, StoreRoom, recAt, WroteOne}
-use Rattle.writing.specs.Walk.{Wrote, Onward, behindGap}
+use Rattle.walking.specs.Writing.{storeOf, areaIn}
+use Rattle.putting.specs.Desk.{storeLength, Desk, desk, Going, Room, StoreRoom, recAt, WroteOne}
+use Rattle.walking.specs.Walk.{Wrote, Onward, behindGap}
 
 -- the records of an answer, and whether it has them
 unfoldable pub answerRecs : Answer → List Rec

@@ -30,7 +30,7 @@ returns-3 : tie.Need-returns-3
 returns-3 c =
     let i = c .before .before .before .before .before .before .before .before .before .before .before .before .pre in
     let w = c .before .before .before .before .write-block .ensures in
-    all-read _ _ _ (i .records) (i .answer) _ _ (need-store _ _ i) (need-area _ _ i) _ _ (c .before .before .before .before .before .before .before .before .if1 .left) (c .before .before .before .before .before .before .before .if2 .left) (stored _ _ i true _ _ (w .0)) (copied _ _ i _ _ (w .1))
+    all-read _ _ _ (i .records) (i .answer) _ _ (need-store _ _ i) (need-area _ _ i) _ _ (c .before .before .before .before .before .before .before .before .if1 .left) (c .before .before .before .before .before .before .before .if2 .left) (stored _ _ i _ _ (w .0)) (copied _ _ i _ _ (w .1))
 
 pub read-fitting-spec : {M : Type 1} → statement M
 read-fitting-spec =

@@ -6,8 +6,8 @@ use native.Mathlib.Omega.{arith}
 use Rattle.places.proofs.Places.{is-start}
 use Rattle.words.proofs.Words.{word-from}
 use Rattle.kinds.specs.Kinds.{kindOf, shapeOf}
-use Rattle.writing.specs.declared.Cursor.{Cursor}
-use Rattle.writing.specs.Written.{placed}
+use Rattle.putting.specs.declared.Cursor.{Cursor}
+use Rattle.putting.specs.Written.{placed}
 use Rattle.writing.proofs.Block.{begun, begins, block-going, block-token, block-room, block-ahead, block-stored, block-copied}
 use Rattle.writing.proofs.write_block.Statement.{statement}
 use Rattle.writing.proofs.write_block.Tie as tie
