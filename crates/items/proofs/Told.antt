@@ -9,10 +9,10 @@ use lib.Dec.{ltb}
 use lib.ListN.{length}
 use Rattle.text.specs.Bytes.{isAscii}
 use Rattle.text.specs.Runs.{span}
-use Rattle.items.specs.Machine.{Rec, Answer, refused, done}
-use Rattle.items.specs.Reading.{limit, decided, outline}
-use Rattle.items.specs.Sizes.{storeSize, outlineSize, areaSize, sizesOf}
-use Rattle.items.specs.Decisions.{Told, refusal, room, tells}
+use Rattle.grammar.specs.Machine.{Rec, Answer, refused, done}
+use Rattle.grammar.specs.Reading.{limit, decided, outline}
+use Rattle.sizes.specs.Sizes.{storeSize, outlineSize, areaSize, sizesOf}
+use Rattle.deciding.specs.Decisions.{Told, refusal, room, tells}
 
 -- a refusal tells its number, its offset and its detail
 pub tells-refused : (n o d : ℕ) → tells (refused n o d) ≡ refusal n o d

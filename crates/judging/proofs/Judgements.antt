@@ -3,10 +3,10 @@ use Prim.Native.Nat.{ℕ}
 use mathlib.Core.Path.{_≡_, refl, sym, ap, _∙_}
 use mathlib.Core.Bool.{true≢false, false≢true}
 use mathlib.Core.List.{List}
-use Rattle.items.specs.declared.Sizes.{Sizes}
-use Rattle.items.specs.Machine.{Answer, refused, done}
-use Rattle.items.specs.Decisions.{tells, refusal as toldRefusal, room}
-use Rattle.items.specs.Reading.{outline}
+use Rattle.sizes.specs.declared.Sizes.{Sizes}
+use Rattle.grammar.specs.Machine.{Answer, refused, done}
+use Rattle.deciding.specs.Decisions.{tells, refusal as toldRefusal, room}
+use Rattle.grammar.specs.Reading.{outline}
 use Rattle.items.proofs.Told.{tells-refused, tells-done, sizes-of}
 use Rattle.refusals.specs.declared.Refusal.{Refusal}
 use Rattle.judging.specs.declared.Judged.{Judged}

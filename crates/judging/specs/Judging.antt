@@ -5,11 +5,11 @@ use mathlib.Core.Path.{_≡_}
 use mathlib.Core.List.{List}
 use Rattle.places.specs.declared.Report.{Report}
 use Rattle.places.specs.Reports.{success}
-use Rattle.items.specs.Machine.{Rec, Answer, refused, done}
-use Rattle.items.specs.Decisions.{Told}
-use Rattle.items.specs.Reading.{outline}
-use Rattle.items.specs.Sizes.{sizesOf}
-use Rattle.items.specs.declared.Sizes.{Sizes}
+use Rattle.grammar.specs.Machine.{Rec, Answer, refused, done}
+use Rattle.deciding.specs.Decisions.{Told}
+use Rattle.grammar.specs.Reading.{outline}
+use Rattle.sizes.specs.Sizes.{sizesOf}
+use Rattle.sizes.specs.declared.Sizes.{Sizes}
 use Rattle.refusals.specs.Answers.{refusal, refusalReport}
 use Rattle.judging.specs.declared.Judged.{Judged}
 use Rattle.judging.specs.declared.Judged.the-variants.{Fits, Declines}

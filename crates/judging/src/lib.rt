@@ -1,10 +1,10 @@
 // What a text comes to before any room is looked at: its refusal, 1 to 9, with its place, or the room that its records need.
 ghost use mathlib.Core.Path.{_≡_};
-ghost use Rattle.items.specs.Reading.{outline as outlineOf};
-ghost use Rattle.items.specs.Decisions.{told};
+ghost use Rattle.grammar.specs.Reading.{outline as outlineOf};
+ghost use Rattle.deciding.specs.Decisions.{told};
 ghost use Rattle.judging.specs.Judging.{judgement, judgedAs, declined};
-use items::Decision;
-use items::Sizes;
+use deciding::Decision;
+use sizes::Sizes;
 use refusals::Refusal;
 
 // The bytes of the largest text.
@@ -78,5 +78,5 @@ pub fn judge(s: &[u8]) -> Judged
             },
         };
     }
-    placed(s, items::lex_cif(s))
+    placed(s, deciding::lex_cif(s))
 }

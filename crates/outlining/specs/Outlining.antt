@@ -7,9 +7,9 @@ use lib.Dec.{eqb, ltb}
 use lib.ListN.{length}
 use Rattle.places.specs.Reports.{success, noRoom}
 use Rattle.places.specs.declared.Report.{Report}
-use Rattle.items.specs.Machine.{Rec, Answer, refused, done}
-use Rattle.items.specs.Reading.{outline}
-use Rattle.items.specs.Sizes.{outlineSize}
+use Rattle.grammar.specs.Machine.{Rec, Answer, refused, done}
+use Rattle.grammar.specs.Reading.{outline}
+use Rattle.sizes.specs.Sizes.{outlineSize}
 use Rattle.walking.specs.Writing.{storeOf}
 use Rattle.outlining.specs.declared.Outlined.{Outlined}
 use Rattle.outlining.specs.declared.Outlined.the-variants.{Written, Declined, NoRoom}

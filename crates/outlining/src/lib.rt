@@ -3,7 +3,7 @@ ghost use mathlib.Core.Path.{_≡_};
 ghost use lib.ListN.{length};
 ghost use Rattle.outlining.specs.Outlining.{outlineAnswer, outlineStore, outlinedReport};
 ghost use Rattle.judging.specs.Judging.{IsRead};
-use items::Sizes;
+use sizes::Sizes;
 use judging::Judged;
 use places::Report;
 use refusals::Refusal;

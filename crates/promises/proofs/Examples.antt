@@ -13,16 +13,19 @@ use Rattle.records.specs.Bytes.{le32, le64, signed32, flag}
 use Rattle.records.specs.Records.{tokenBytes, decimalBytes, endRecord, placeRecord, contentRecord, loopRecord, numberRecord, uncertainRecord}
 use Rattle.records.specs.Put.{front}
 use Rattle.entries.specs.Entries.{de32, de64, noParts, tokenOf as tokenAt, partsOf, plainFields, partsFields, fieldsOf, isKind, entryOf, entryAt}
-use Rattle.items.specs.Machine.{Rec}
+use Rattle.grammar.specs.Machine.{Rec}
 use Rattle.putting.specs.Written.{tokenOf, tokenText, decimalOf, shaped, shapeIn, recordBytes}
 use Rattle.walking.specs.Writing.{tagsOf, storeOf}
 use Rattle.reading.specs.Services.{readStoreBy, readStore, readAreaBy, readArea}
 use Rattle.refusals.specs.Answers.{writtenIf}
-use Rattle.stores.specs.Walk.{onward, entriesFrom, entries}
-use Rattle.stores.specs.Nesting.{isValueKind, opensLoop, atItems, afterName, atNames, atValues, standing, ended, follow, nestedFrom, nested}
-use Rattle.stores.specs.Contents.{isKind as isKindAlone, isAlone, isName, readableBy, readable, exponentKept, partsKept, contentLength, contentBytes, contentKept, ownRule, takes, filledFrom, filled}
+use Rattle.entries.specs.Walk.{onward, entriesFrom, entries}
+use Rattle.nesting.specs.Nesting.{isValueKind, opensLoop, atItems, afterName, atNames, atValues, standing, ended, follow, nestedFrom, nested}
+use Rattle.contents.specs.Contents.{isName, readableBy, readable, exponentKept, partsKept, contentLength, contentBytes, contentKept, ownRule}
+use Rattle.values.specs.Alone.{isKind as isKindAlone, isAlone}
+use Rattle.stores.specs.Soundness.{takes, filledFrom, filled}
 use Rattle.stores.specs.Soundness.{sound}
-use Rattle.rendering.specs.Rendering.{decimalOf as renderedDecimal, tokenText as renderedText, isEnd, lineOf, linesOf, rendering, limit as renderLimit, renderRoom, renderAnswer, renderOut}
+use Rattle.rendering.specs.Rendering.{linesOf, rendering, limit as renderLimit, renderRoom, renderAnswer, renderOut}
+use Rattle.record_lines.specs.Lines.{decimalOf as renderedDecimal, tokenText as renderedText, isEnd, lineOf}
 use Rattle.promises.specs.Differences.{isMark, isQuoted, insideRec, insideRecs, Swap, same, digits, inside, Differ, DigitsDiffer, ContentsDiffer}
 use Rattle.promises.specs.Readings.{bytes}
 use Rattle.promises.specs.Results.{renderedBytes, storeBytes, areaBytes, tokenIn}

@@ -7,9 +7,9 @@ use lib.Dec.{eqb}
 use Rattle.places.specs.Reports.{success, refusedAt, refusedBare, noRoom}
 use Rattle.places.specs.declared.Place.{Place}
 use Rattle.places.specs.declared.Report.{Report}
-use Rattle.items.specs.declared.Decision.{Decision}
-use Rattle.items.specs.declared.Decision.the-variants.{Fits, NoData as NoBlock, OpenFrame as FrameOpen, Ragged as RaggedLoop, NoValue as ValueAbsent, NoItem as ItemAbsent, NoNames as NamesAbsent, Over}
-use Rattle.items.specs.Decisions.{Told, refusal, room, told}
+use Rattle.deciding.specs.declared.Decision.{Decision}
+use Rattle.deciding.specs.declared.Decision.the-variants.{Fits, NoData as NoBlock, OpenFrame as FrameOpen, Ragged as RaggedLoop, NoValue as ValueAbsent, NoItem as ItemAbsent, NoNames as NamesAbsent, Over}
+use Rattle.deciding.specs.Decisions.{Told, refusal, room, told}
 use Rattle.rendering.specs.declared.Rendered.{Rendered}
 use Rattle.rendering.specs.declared.Rendered.the-variants.{Done as DoneText, NotSound, TooLong as TooLongText, NoRoom as NoRoomText}
 use Rattle.rendering.specs.Rendering.{renderedReport}

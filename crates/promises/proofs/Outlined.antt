@@ -9,9 +9,9 @@ use Rattle.places.specs.Places.{placeAt}
 use Rattle.kinds.specs.declared.Shape.{Shape}
 use Rattle.kinds.specs.declared.Shape.the-variants.{Empty, Place, Content, Count, Parts, PartsUncertain}
 use Rattle.kinds.specs.Kinds.{kindOf, shapeOf, outlineShape}
-use Rattle.items.specs.Machine.{Rec, Answer, refused, done}
-use Rattle.items.specs.Sizes.{contentSize}
-use Rattle.items.specs.Reading.{outline}
+use Rattle.grammar.specs.Machine.{Rec, Answer, refused, done}
+use Rattle.sizes.specs.Sizes.{contentSize}
+use Rattle.grammar.specs.Reading.{outline}
 use Rattle.putting.specs.Written.{tokenOf, shaped, shapeIn, recordBytes}
 use Rattle.walking.specs.Writing.{tagsOf, storeOf}
 use Rattle.refusals.specs.Answers.{refusal}

@@ -11,9 +11,9 @@ use lib.Seq.{take-at}
 use Rattle.places.specs.Reports.{success}
 use Rattle.kinds.specs.Kinds.{kindOf, shapeOf, bodyLength}
 use Rattle.records.specs.Put.{front}
-use Rattle.items.specs.Machine.{Rec, done}
-use Rattle.items.specs.Reading.{outline}
-use Rattle.items.specs.Sizes.{contentSize, storeSize, areaSize}
+use Rattle.grammar.specs.Machine.{Rec, done}
+use Rattle.grammar.specs.Reading.{outline}
+use Rattle.sizes.specs.Sizes.{contentSize, storeSize, areaSize}
 use Rattle.putting.specs.Written.{contentOf, shaped, shapeIn, recordBytes}
 use Rattle.walking.specs.Writing.{tagsOf, storeOf, areaOf}
 use Rattle.reading.specs.Services.{readRoom, readBy, readAnswer, readStoreBy, readStore, readAreaBy, readArea}

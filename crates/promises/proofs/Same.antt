@@ -26,11 +26,12 @@ use Rattle.kinds.specs.declared.Shape.the-variants.{Parts as PartsShape, PartsU
 use Rattle.kinds.specs.Kinds.{kindOf, numberOf, shapeOf, shapeLength, bodyLength, marksOf, opening, isContent, hasContent}
 use Rattle.records.specs.Bytes.{flag}
 use Rattle.entries.specs.Entries.{noParts, stored, isKind}
-use Rattle.items.specs.Machine.{Rec, loopEnd}
-use Rattle.items.specs.Sizes.{contentSize, storeSize, areaSize}
+use Rattle.grammar.specs.Machine.{Rec, loopEnd}
+use Rattle.sizes.specs.Sizes.{contentSize, storeSize, areaSize}
 use Rattle.putting.specs.Written.{tokenText as textOf, contentOf, decimalOf as readDecimal}
-use Rattle.stores.specs.Contents.{partsKept, contentLength, contentBytes, takes}
-use Rattle.rendering.specs.Rendering.{decimalOf, tokenText, isEnd}
+use Rattle.contents.specs.Contents.{partsKept, contentLength, contentBytes}
+use Rattle.stores.specs.Soundness.{takes}
+use Rattle.record_lines.specs.Lines.{decimalOf, tokenText, isEnd}
 use Rattle.promises.specs.Sayings.{Saying, says, contentIn, saying}
 use Rattle.promises.proofs.Lines.{Line, line, ending, render, recsAt}
 use Rattle.promises.proofs.Told.{partsIn, told}

@@ -14,12 +14,12 @@ use Rattle.kinds.specs.declared.Shape.{Shape}
 use Rattle.kinds.specs.declared.Shape.the-variants.{Empty, Place, Content, Count, Parts as PartsShape, PartsUncertain}
 use Rattle.kinds.specs.Kinds.{kindOf, shapeOf, marksOf, opening, isContent, hasContent}
 use Rattle.entries.specs.Entries.{stored, noParts}
-use Rattle.items.specs.Machine.{Rec}
-use Rattle.items.specs.Sizes.{contentSize}
+use Rattle.grammar.specs.Machine.{Rec}
+use Rattle.sizes.specs.Sizes.{contentSize}
 use Rattle.putting.specs.Written.{tokenOf, contentOf, decimalOf}
 use Rattle.walking.specs.Writing.{storeOf, areaOf, tagsOf}
-use Rattle.stores.specs.Walk.{entries}
-use Rattle.stores.specs.Contents.{contentLength, contentBytes}
+use Rattle.entries.specs.Walk.{entries}
+use Rattle.contents.specs.Contents.{contentLength, contentBytes}
 use Rattle.promises.specs.Sayings.{Saying, says, nothing, contentIn, saying, sayings}
 use Rattle.promises.proofs.Taken.{Read, Outline}
 use Rattle.promises.proofs.Sources.{Each, none, also, each-map, sources, Facts, facts}

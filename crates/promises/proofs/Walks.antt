@@ -13,14 +13,14 @@ use Rattle.entries.specs.declared.Entry.the-variants.{Record, Nothing}
 use Rattle.kinds.specs.Kinds.{kindOf, numberOf, shapeOf}
 use Rattle.values.specs.Values.{value}
 use Rattle.values.proofs.Laws.{Lies, value-lies}
-use Rattle.items.specs.Machine.{Rec, loopEnd}
-use Rattle.items.specs.Sizes.{contentSize}
+use Rattle.grammar.specs.Machine.{Rec, loopEnd}
+use Rattle.sizes.specs.Sizes.{contentSize}
 use Rattle.walking.specs.Writing.{tagsOf}
-use Rattle.stores.specs.declared.Stand.{Stand}
-use Rattle.stores.specs.declared.Stand.the-variants.{Stands, Falls}
-use Rattle.stores.specs.declared.Where.{Where}
-use Rattle.stores.specs.declared.Where.the-variants.{Start, Items, Names, Values, Wants}
-use Rattle.stores.specs.Nesting.{isValueKind, opensLoop, atItems, afterName, atNames, atValues, standing, ended, follow, nestedFrom, nested}
+use Rattle.nesting.specs.declared.Stand.{Stand}
+use Rattle.nesting.specs.declared.Stand.the-variants.{Stands, Falls}
+use Rattle.nesting.specs.declared.Where.{Where}
+use Rattle.nesting.specs.declared.Where.the-variants.{Start, Items, Names, Values, Wants}
+use Rattle.nesting.specs.Nesting.{isValueKind, opensLoop, atItems, afterName, atNames, atValues, standing, ended, follow, nestedFrom, nested}
 use Rattle.promises.proofs.Lines.{modeOf}
 use Rattle.promises.proofs.Taken.{Took, Tags, opens, named, Rows, first, next, Taken, heading, single, rows, no-rows, opened, shut, Read, Outline}
 use Rattle.promises.proofs.Sources.{Each, none, also, each-map, sources, value-reads, Facts, facts}

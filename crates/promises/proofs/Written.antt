@@ -29,12 +29,12 @@ use Rattle.records.specs.Records.{endRecord}
 use Rattle.entries.specs.Entries.{stored, noParts, noFields, entryAt}
 use Rattle.records.proofs.Forms.{length-place, length-content, length-loop, length-number, length-uncertain}
 use Rattle.entries.proofs.Back.{Fits, Small, end-back, place-back, content-back, loop-back, number-back, uncertain-back}
-use Rattle.items.specs.Machine.{Rec}
-use Rattle.items.specs.Sizes.{contentSize}
-use Rattle.items.proofs.Room.{content-small}
+use Rattle.grammar.specs.Machine.{Rec}
+use Rattle.sizes.specs.Sizes.{contentSize}
+use Rattle.sizes.proofs.Room.{content-small}
 use Rattle.putting.specs.Written.{tokenOf, decimalOf, tokenText, shaped, shapeIn, recordBytes}
 use Rattle.walking.specs.Writing.{tagsOf, storeOf}
-use Rattle.stores.specs.Walk.{onward, entriesFrom, entries}
+use Rattle.entries.specs.Walk.{onward, entriesFrom, entries}
 use Rattle.promises.proofs.Lexing.{NumberWord}
 use Rattle.promises.proofs.Taken.{bytesOf, Read, Outline}
 use Rattle.promises.proofs.Sources.{Each, none, also, each-map, sources, Facts, facts}

@@ -13,8 +13,8 @@ use Rattle.numbers.specs.declared.Decimal.{Decimal}
 use Rattle.values.specs.declared.Value.{Value}
 use Rattle.values.specs.declared.Value.the-variants.{Token, Number, Over}
 use Rattle.values.specs.Answers.{valueAnswer}
-use Rattle.items.specs.Machine.{Rec, Answer, refused, done}
-use Rattle.items.specs.Reading.{outline}
+use Rattle.grammar.specs.Machine.{Rec, Answer, refused, done}
+use Rattle.grammar.specs.Reading.{outline}
 use Rattle.walking.specs.Writing.{areaOf}
 use Rattle.reading.specs.Services.{readAnswer}
 

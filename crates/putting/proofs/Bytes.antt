@@ -10,8 +10,8 @@ use Rattle.kinds.specs.declared.Shape.the-variants.{Empty, Place, Content, Coun
 use Rattle.kinds.specs.Kinds.{kindOf, shapeOf, shapeLength, outlineShape, bodyLength, outlineLength, marksOf, opening, hasContent}
 use Rattle.kinds.proofs.Marks.{opening-marks}
 use Rattle.records.proofs.Forms.{length-place, length-content, length-loop, length-number, length-uncertain}
-use Rattle.items.specs.Machine.{Rec}
-use Rattle.items.specs.Sizes.{contentSize, storeSize, outlineSize}
+use Rattle.grammar.specs.Machine.{Rec}
+use Rattle.sizes.specs.Sizes.{contentSize, storeSize, outlineSize}
 use Rattle.putting.specs.Written.{tokenOf, decimalOf, shaped, shapeIn, recordBytes, contentOf}
 use Rattle.putting.specs.Desk.{storeLength, recordLength}
 

@@ -15,8 +15,8 @@ use Rattle.kinds.specs.Kinds.{kindOf, shapeOf, shapeLength, outlineShape, marks
 use Rattle.records.specs.Put.{put}
 use Rattle.records.specs.Records.{endRecord, placeRecord}
 use Rattle.records.proofs.Forms.{end-kind}
-use Rattle.items.specs.Sizes.{contentSize, storeSize, outlineSize, areaSize}
-use Rattle.items.specs.Machine.{Rec, loopEnd}
+use Rattle.sizes.specs.Sizes.{contentSize, storeSize, outlineSize, areaSize}
+use Rattle.grammar.specs.Machine.{Rec, loopEnd}
 use Rattle.putting.specs.declared.Cursor.{Cursor}
 use Rattle.putting.specs.Written.{tokenAt, tokenOf, contentBytes, loopBytes, numberBytes, contentOf, decimalOf, shapeIn, shaped, recordBytes}
 use Rattle.putting.specs.Desk.{storeLength, recordLength, Desk, desk, Going, IsToken, recAt, WroteOne}

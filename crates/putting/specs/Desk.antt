@@ -13,8 +13,8 @@ use Rattle.kinds.specs.Kinds.{kindOf, shapeOf, shapeLength, marksOf}
 use Rattle.records.specs.Put.{put}
 use Rattle.items.specs.declared.Found.the-variants.{Value}
 use Rattle.items.specs.Answers.{foundAt}
-use Rattle.items.specs.Machine.{Rec, loopEnd}
-use Rattle.items.specs.Sizes.{contentSize, storeSize, outlineSize, areaSize}
+use Rattle.grammar.specs.Machine.{Rec, loopEnd}
+use Rattle.sizes.specs.Sizes.{contentSize, storeSize, outlineSize, areaSize}
 use Rattle.putting.specs.declared.Cursor.{Cursor}
 use Rattle.putting.specs.Written.{shapeIn, recordBytes, contentOf}
 

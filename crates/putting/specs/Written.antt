@@ -14,8 +14,8 @@ use Rattle.kinds.specs.declared.Shape.the-variants.{Empty, Place as PlaceAlone,
 use Rattle.records.specs.declared.Token.{Token}
 use Rattle.kinds.specs.Kinds.{kindOf, shapeOf, outlineShape, opening}
 use Rattle.records.specs.Records.{placeRecord, contentRecord, loopRecord, numberRecord, uncertainRecord}
-use Rattle.items.specs.Machine.{Rec}
-use Rattle.items.specs.Sizes.{contentSize}
+use Rattle.grammar.specs.Machine.{Rec}
+use Rattle.sizes.specs.Sizes.{contentSize}
 
 -- P of a record: the place of the whole token, marks included
 unfoldable pub tokenOf : List ℕ → Rec → Token

@@ -6,7 +6,7 @@ ghost use Prim.Native.Nat.{_+_, _≤_, _<_, _^_};
 ghost use lib.ListN.{length, take, drop};
 ghost use Rattle.places.specs.Places.{IsPlace, placeAt};
 ghost use Rattle.records.specs.Put.{put};
-ghost use Rattle.items.specs.Machine.{loopEnd};
+ghost use Rattle.grammar.specs.Machine.{loopEnd};
 ghost use Rattle.putting.specs.Written.{tokenAt, contentBytes, loopBytes, numberBytes};
 ghost use Rattle.putting.specs.Desk.{recordLength, desk, IsToken, StoreRoom, recordHere, TextAhead, MarkAhead, NumberAhead, LoopAhead, WroteToken, WrotePlain, WroteLoop, WroteEnd};
 use kinds::Kind;
@@ -135,7 +135,7 @@ fn put_number(s: &[u8], full: bool, store: &mut [u8], c: Cursor, kind: u8, size:
     }
     let offset = place.offset;
     let end = offset + size;
-    put_decimal(store, at, token, numbers::decimal_of(&s[offset..end]));
+    put_decimal(store, at, token, decimals::decimal_of(&s[offset..end]));
 }
 
 // A token that has content.

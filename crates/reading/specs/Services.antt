@@ -7,9 +7,9 @@ use lib.Dec.{eqb, ltb}
 use lib.ListN.{length}
 use Rattle.places.specs.Reports.{success, noRoom}
 use Rattle.places.specs.declared.Report.{Report}
-use Rattle.items.specs.Machine.{Rec, Answer, refused, done}
-use Rattle.items.specs.Reading.{outline}
-use Rattle.items.specs.Sizes.{storeSize, areaSize}
+use Rattle.grammar.specs.Machine.{Rec, Answer, refused, done}
+use Rattle.grammar.specs.Reading.{outline}
+use Rattle.sizes.specs.Sizes.{storeSize, areaSize}
 use Rattle.walking.specs.Writing.{storeOf, areaOf}
 use Rattle.reading.specs.declared.Reading.{Reading}
 use Rattle.reading.specs.declared.Reading.the-variants.{Done, Refused, StoreFull, AreaFull}

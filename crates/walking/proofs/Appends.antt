@@ -6,8 +6,8 @@ use mathlib.Core.List.{List, [], _∷_, _++_, append-assoc}
 use native.Mathlib.Omega.{arith}
 use native.Mathlib.Nat.{add-zero}
 use lib.ListN.{length, length-append}
-use Rattle.items.specs.Machine.{Rec}
-use Rattle.items.specs.Sizes.{contentSize, storeSize, outlineSize, areaSize}
+use Rattle.grammar.specs.Machine.{Rec}
+use Rattle.sizes.specs.Sizes.{contentSize, storeSize, outlineSize, areaSize}
 use Rattle.putting.specs.Written.{recordBytes}
 use Rattle.walking.specs.Writing.{tagsOf, storeOf, areaOf}
 use Rattle.putting.specs.Desk.{storeLength}

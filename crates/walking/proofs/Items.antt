@@ -20,15 +20,16 @@ use Rattle.values.specs.Values.{Class, block, loop, save, tag, value, overLimit
 use Rattle.kinds.specs.Kinds.{kindOf, marksOf}
 use Rattle.items.specs.declared.Found.{Found}
 use Rattle.items.specs.declared.Found.the-variants.{Value, Over, Missing}
-use Rattle.items.specs.Tokens.{inBlock, lexIn, lex, after, Tok, tok}
-use Rattle.items.specs.Machine.{Rec, rec, loopEnd}
-use Rattle.items.specs.Descent.{nameRecs, afterNames, valueRecs, afterValues, Item, taken, failed, broken, isOver, rows, loopBy, loopItem, single, tagItem, itemBy, item}
-use Rattle.items.specs.Sizes.{storeSize, sizesOf}
-use Rattle.items.specs.Decisions.{tokensAt, headAt}
+use Rattle.grammar.specs.Tokens.{inBlock, lexIn, lex, after, Tok, tok}
+use Rattle.grammar.specs.Machine.{Rec, rec, loopEnd}
+use Rattle.grammar.specs.Descent.{nameRecs, afterNames, valueRecs, afterValues, Item, taken, failed, broken, isOver, rows, loopBy, loopItem, single, tagItem, itemBy, item}
+use Rattle.sizes.specs.Sizes.{storeSize, sizesOf}
+use Rattle.grammar.specs.Tokens.{tokensAt, headAt}
 use Rattle.items.specs.declared.Item.the-variants.{NoItem}
-use Rattle.items.specs.Answers.{tagAt, foundAt, itemAnswer, itemAt}
-use Rattle.items.proofs.Descent.{NoName, name-or-not, names-more, names-none}
-use Rattle.items.proofs.Offsets.{tokens-gap, Met, met-loop, met-tag, first, both, both-spot}
+use Rattle.items.specs.Answers.{foundAt, itemAnswer, itemAt}
+use Rattle.grammar.specs.Tokens.{tagAt}
+use Rattle.grammar.proofs.Descent.{NoName, name-or-not, names-more, names-none}
+use Rattle.grammar.proofs.Offsets.{tokens-gap, Met, met-loop, met-tag, first, both, both-spot}
 use Rattle.items.proofs.Items.{head-at, item-none}
 use Rattle.items.proofs.Lists.{met-value}
 use Rattle.items.proofs.Wanted.{wanted, found-wanted}

@@ -12,13 +12,14 @@ use Rattle.places.proofs.Places.{place-offset}
 use Rattle.words.specs.Words.{wordEnd}
 use Rattle.kinds.specs.Kinds.{kindOf, shapeOf}
 use Rattle.items.specs.declared.Found.the-variants.{Value}
-use Rattle.items.specs.Tokens.{inBlock, Tok}
-use Rattle.items.specs.Machine.{Rec}
-use Rattle.items.specs.Descent.{nameRecs, afterNames, valueRecs, afterValues}
-use Rattle.items.specs.Decisions.{tokensAt, headAt}
-use Rattle.items.specs.Answers.{tagAt, foundAt}
+use Rattle.grammar.specs.Tokens.{inBlock, Tok}
+use Rattle.grammar.specs.Machine.{Rec}
+use Rattle.grammar.specs.Descent.{nameRecs, afterNames, valueRecs, afterValues}
+use Rattle.grammar.specs.Tokens.{tokensAt, headAt}
+use Rattle.items.specs.Answers.{foundAt}
+use Rattle.grammar.specs.Tokens.{tagAt}
 use Rattle.items.proofs.Items.{head-at}
-use Rattle.items.proofs.Offsets.{tokens-gap}
+use Rattle.grammar.proofs.Offsets.{tokens-gap}
 use Rattle.putting.specs.declared.Cursor.{Cursor}
 use Rattle.putting.specs.Desk.{Desk, desk, Going, Room, IsToken, recAt, WroteOne, ValueHere}
 use Rattle.walking.specs.Walk.{Wrote, behindGap, namesFrom, behindNames, valuesFrom, behindValues}

@@ -6,9 +6,9 @@ use mathlib.Core.List.{List, [], _∷_, _++_}
 use native.Mathlib.Omega.{arith}
 use lib.ListN.{length, length-append}
 use Rattle.records.specs.Put.{put}
-use Rattle.items.specs.Machine.{Rec}
+use Rattle.grammar.specs.Machine.{Rec}
 use Rattle.places.specs.Places.{placeAt}
-use Rattle.items.specs.Sizes.{contentSize, areaSize}
+use Rattle.sizes.specs.Sizes.{contentSize, areaSize}
 use Rattle.putting.specs.Written.{recordBytes, contentOf}
 use Rattle.walking.specs.Writing.{tagsOf, storeOf, areaOf, areaIn}
 use Rattle.putting.specs.Desk.{storeLength, Desk, Going, Room, WroteOne}

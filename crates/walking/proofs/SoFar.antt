@@ -10,9 +10,9 @@ use Rattle.places.proofs.Places.{place-offset}
 use Rattle.kinds.specs.declared.Shape.{Shape}
 use Rattle.kinds.specs.declared.Shape.the-variants.{Empty, Place, Content, Count, Parts, PartsUncertain}
 use Rattle.kinds.specs.Kinds.{kindOf, shapeOf, outlineShape}
-use Rattle.items.specs.Tokens.{Tok}
-use Rattle.items.specs.Machine.{Rec}
-use Rattle.items.specs.Sizes.{areaSize}
+use Rattle.grammar.specs.Tokens.{Tok}
+use Rattle.grammar.specs.Machine.{Rec}
+use Rattle.sizes.specs.Sizes.{areaSize}
 use Rattle.putting.specs.declared.Cursor.{Cursor}
 use Rattle.putting.specs.Written.{shaped, shapeIn, recordBytes}
 use Rattle.walking.specs.Writing.{tagsOf}

@@ -15,17 +15,18 @@ use Rattle.words.proofs.Words.{word-end}
 use Rattle.values.specs.Values.{tag, value, lexed}
 use Rattle.kinds.specs.Kinds.{kindOf, marksOf}
 use Rattle.items.specs.declared.Found.the-variants.{Value}
-use Rattle.items.specs.Tokens.{inBlock, lexIn, lex, after, tok}
-use Rattle.items.specs.Machine.{rec}
-use Rattle.items.specs.Descent.{nameRecs, afterNames, valueRecs, afterValues}
-use Rattle.items.specs.Decisions.{tokensAt}
-use Rattle.items.specs.Answers.{tagAt, foundAt}
-use Rattle.items.proofs.Descent.{names-more, names-none, values-more, values-none}
+use Rattle.grammar.specs.Tokens.{inBlock, lexIn, lex, after, tok}
+use Rattle.grammar.specs.Machine.{rec}
+use Rattle.grammar.specs.Descent.{nameRecs, afterNames, valueRecs, afterValues}
+use Rattle.grammar.specs.Tokens.{tokensAt}
+use Rattle.items.specs.Answers.{foundAt}
+use Rattle.grammar.specs.Tokens.{tagAt}
+use Rattle.grammar.proofs.Descent.{names-more, names-none, values-more, values-none}
 use Rattle.items.proofs.First.{found-lies}
-use Rattle.items.proofs.Lexes.{no-name}
+use Rattle.grammar.proofs.Lexes.{no-name}
 use Rattle.items.proofs.Wanted.{found-wanted}
 use Rattle.items.proofs.Lists.{met-value, no-value}
-use Rattle.items.proofs.Offsets.{tokens-gap, Met, met-tag, first}
+use Rattle.grammar.proofs.Offsets.{tokens-gap, Met, met-tag, first}
 use Rattle.putting.specs.declared.Cursor.{Cursor}
 use Rattle.putting.specs.Desk.{IsToken, Going, ValueHere, recAt}
 use Rattle.putting.proofs.Lines.{part-token, value-token}

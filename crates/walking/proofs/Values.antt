@@ -6,7 +6,7 @@ use mathlib.Core.List.{List}
 use Rattle.gaps.specs.Gaps.{gapEnd}
 use Rattle.places.specs.Places.{placeAt}
 use Rattle.places.proofs.Places.{place-offset}
-use Rattle.items.specs.Machine.{Rec}
+use Rattle.grammar.specs.Machine.{Rec}
 use Rattle.putting.specs.declared.Cursor.{Cursor}
 use Rattle.putting.specs.Desk.{Desk, desk, Going, Room, WroteOne}
 use Rattle.walking.specs.Walk.{Wrote, behindGap}

@@ -10,11 +10,11 @@ use Rattle.places.specs.Places.{placeAt}
 use Rattle.records.specs.Put.{put}
 use Rattle.items.specs.declared.Found.the-variants.{Value}
 use Rattle.items.specs.Answers.{foundAt}
-use Rattle.items.specs.Tokens.{Tok, inBlock}
-use Rattle.items.specs.Machine.{Rec}
-use Rattle.items.specs.Descent.{Item, taken, failed, broken, item, nameRecs, afterNames, valueRecs, afterValues}
-use Rattle.items.specs.Decisions.{tokensAt, headAt}
-use Rattle.items.specs.Sizes.{areaSize}
+use Rattle.grammar.specs.Tokens.{Tok, inBlock}
+use Rattle.grammar.specs.Machine.{Rec}
+use Rattle.grammar.specs.Descent.{Item, taken, failed, broken, item, nameRecs, afterNames, valueRecs, afterValues}
+use Rattle.grammar.specs.Tokens.{tokensAt, headAt}
+use Rattle.sizes.specs.Sizes.{areaSize}
 use Rattle.putting.specs.declared.Cursor.{Cursor}
 use Rattle.walking.specs.Writing.{storeOf, areaOf, areaIn}
 use Rattle.putting.specs.Desk.{storeLength, Desk, Going, Room, IsToken, recAt, ValueHere}

@@ -6,7 +6,7 @@ ghost use lib.ListN.{length};
 ghost use Rattle.places.specs.Places.{IsPlace, placeAt};
 ghost use Rattle.gaps.specs.Gaps.{gapEnd};
 ghost use Rattle.keywords.specs.Keywords.{startsAt, keyLoop};
-ghost use Rattle.items.specs.Answers.{tagAt};
+ghost use Rattle.grammar.specs.Tokens.{tagAt};
 ghost use Rattle.putting.specs.Written.{placed};
 ghost use Rattle.putting.specs.Desk.{desk, WroteToken};
 ghost use Rattle.walking.specs.Walk.{behindGap, TokenAhead, ValueAhead, namesFrom, NamesAhead, ValuesAhead, WroteNames, WroteValues, ItemHere, WroteItem};

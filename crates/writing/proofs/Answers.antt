@@ -4,9 +4,9 @@ use mathlib.Core.Path.{_≡_, ap, _∙_}
 use mathlib.Core.Bool.{Bool, true, false, false≢true}
 use mathlib.Core.List.{List}
 use lib.ListN.{length}
-use Rattle.items.specs.Machine.{Rec, done}
-use Rattle.items.specs.Reading.{limit, decided}
-use Rattle.items.specs.Sizes.{storeSize, outlineSize, areaSize}
+use Rattle.grammar.specs.Machine.{Rec, done}
+use Rattle.grammar.specs.Reading.{limit, decided}
+use Rattle.sizes.specs.Sizes.{storeSize, outlineSize, areaSize}
 use Rattle.walking.specs.Writing.{storeOf, areaOf, areaIn}
 use Rattle.putting.specs.Desk.{storeLength}
 use Rattle.writing.specs.Block.{answerRecs, isDone, recordsOf, storeBytes, areaBytes, Fits}

@@ -18,10 +18,10 @@ use Rattle.words.proofs.Words.{word-end}
 use Rattle.kinds.specs.Kinds.{kindOf, shapeOf, marksOf}
 use Rattle.records.specs.Put.{front, put}
 use Rattle.records.proofs.Putting.{put-zero}
-use Rattle.items.specs.Machine.{Rec}
-use Rattle.items.specs.Sizes.{areaSize}
-use Rattle.items.specs.Reading.{limit, decided}
-use Rattle.items.specs.Frames.{left}
+use Rattle.grammar.specs.Machine.{Rec}
+use Rattle.sizes.specs.Sizes.{areaSize}
+use Rattle.grammar.specs.Reading.{limit, decided}
+use Rattle.deciding.specs.Frames.{left}
 use Rattle.putting.specs.declared.Cursor.{Cursor}
 use Rattle.walking.specs.Writing.{tagsOf, storeOf, areaIn}
 use Rattle.putting.specs.Desk.{storeLength, Desk, desk, Going, Room, IsToken, recAt, WroteOne}

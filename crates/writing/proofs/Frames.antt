@@ -20,11 +20,11 @@ use Rattle.keywords.specs.Keywords.{startsAt, keyLoop, keySave}
 use Rattle.keywords.proofs.Keywords.{save-word}
 use Rattle.words.proofs.Words.{word-end}
 use Rattle.kinds.specs.Kinds.{kindOf, shapeOf, marksOf}
-use Rattle.items.specs.Machine.{Rec, loopEnd}
-use Rattle.items.specs.Sizes.{contentSize, areaSize}
-use Rattle.items.specs.Decisions.{headAt}
+use Rattle.grammar.specs.Machine.{Rec, loopEnd}
+use Rattle.sizes.specs.Sizes.{contentSize, areaSize}
+use Rattle.grammar.specs.Tokens.{headAt}
 use Rattle.items.specs.Answers.{itemAt}
-use Rattle.items.specs.Frames.{left}
+use Rattle.deciding.specs.Frames.{left}
 use Rattle.putting.specs.declared.Cursor.{Cursor}
 use Rattle.writing.specs.declared.Next.the-variants.{Item as Item′, Stop}
 use Rattle.walking.specs.Writing.{tagsOf, storeOf}

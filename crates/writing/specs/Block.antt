@@ -7,12 +7,12 @@ use mathlib.Core.Option.{Option, none, some}
 use lib.ListN.{length, drop}
 use Rattle.gaps.specs.Gaps.{gap}
 use Rattle.keywords.specs.Keywords.{startsAt, keySave}
-use Rattle.items.specs.Machine.{Rec, Answer, refused, done}
-use Rattle.items.specs.Frames.{left}
-use Rattle.items.specs.Reading.{limit, decided}
+use Rattle.grammar.specs.Machine.{Rec, Answer, refused, done}
+use Rattle.deciding.specs.Frames.{left}
+use Rattle.grammar.specs.Reading.{limit, decided}
 use Rattle.items.specs.declared.Item.{Item as Answered}
 use Rattle.items.specs.declared.Item.the-variants.{Loop, Single, Ragged, NoValue, NoItem, NoNames, Over}
-use Rattle.items.specs.Sizes.{areaSize}
+use Rattle.sizes.specs.Sizes.{areaSize}
 use Rattle.putting.specs.declared.Cursor.{Cursor}
 use Rattle.writing.specs.declared.Next.{Next}
 use Rattle.writing.specs.declared.Next.the-variants.{Item, Stop}

@@ -1,6 +1,6 @@
 -- `judging::placed`: case by case, each offset as its place. Assumes nothing.
 use Rattle.places.specs.Reports.{success}
-use Rattle.items.specs.Decisions.{told, refusal as toldRefusal, room}
+use Rattle.deciding.specs.Decisions.{told, refusal as toldRefusal, room}
 use Rattle.refusals.specs.Answers.{refusal, refusalReport}
 use Rattle.judging.specs.Judging.{judgedAs, declined, noSizes}
 use borrow.Author.Needs.{needs}

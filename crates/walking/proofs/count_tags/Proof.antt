@@ -6,9 +6,9 @@ use lib.ListN.{length}
 use Rattle.gaps.specs.Gaps.{gapEnd}
 use Rattle.gaps.proofs.Gaps.{gap-from, gap-within}
 use Rattle.words.specs.Words.{wordEnd}
-use Rattle.items.specs.Tokens.{inBlock}
-use Rattle.items.specs.Descent.{nameRecs}
-use Rattle.items.proofs.Offsets.{tokens-gap}
+use Rattle.grammar.specs.Tokens.{inBlock}
+use Rattle.grammar.specs.Descent.{nameRecs}
+use Rattle.grammar.proofs.Offsets.{tokens-gap}
 use Rattle.gaps.proofs.Bare.{gap-twice}
 use Rattle.walking.specs.Walk.{namesFrom}
 use Rattle.walking.proofs.Items.{count-turn, count-none}
