@@ -62,7 +62,7 @@ fn read(text: &[u8], store: &mut [u8], m: usize, area: &mut [u8], k: usize) -> R
 
 fn outline(text: &[u8], store: &mut [u8], m: usize) -> Report {
     let stores = parts::least(m, store.len());
-    reading::outline(text, &mut store[..stores]).report()
+    outlining::outline(text, &mut store[..stores]).report()
 }
 
 fn try_read(text: &[u8], m: usize, k: usize) {

@@ -4,7 +4,8 @@ ghost use mathlib.Core.Bool.{cond};
 ghost use lib.Dec.{eqb};
 ghost use Prim.Native.Nat.{ℕ, _≤_};
 ghost use lib.ListN.{length};
-ghost use Rattle.reading.specs.Services.{readAnswer, readStore, readArea, outlineAnswer, outlineStore};
+ghost use Rattle.reading.specs.Services.{readAnswer, readStore, readArea};
+ghost use Rattle.outlining.specs.Outlining.{outlineAnswer, outlineStore};
 ghost use Rattle.stores.specs.Content.{contentAt, contentReport};
 ghost use Rattle.stores.specs.Records.{walkedAt};
 ghost use Rattle.naming.specs.Names.{nameCheck, namingReport};
@@ -198,7 +199,7 @@ pub extern "C" fn chuntarek_outline(text: &[u8], store: &mut [u8]) -> Answer
     ensures answers { λ r. ⌜ r ≡ exported (outlineAnswer (now (text .entry)) (length (now (store .entry)))) ⌝ }
     ensures writes { λ r. ⌜ now (store .exit) ≡ outlineStore (now (text .entry)) (now (store .entry)) ⌝ }
 {
-    numbers_of(reading::outline(text, store).report())
+    numbers_of(outlining::outline(text, store).report())
 }
 
 #[no_mangle]

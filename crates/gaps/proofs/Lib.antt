@@ -1,3 +1,4 @@
 pub mod Gaps
 pub mod Shape
 pub mod Starts
+pub mod Bare

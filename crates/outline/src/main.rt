@@ -89,7 +89,7 @@ fn say_outline(text: &[u8]) {
         return;
     }
     let mut store = [0u8; LIMIT];
-    let report = reading::outline(text, &mut store).report();
+    let report = outlining::outline(text, &mut store).report();
     if report.number != 0 {
         say_refusal(report);
         return;

@@ -34,7 +34,7 @@ use Rattle.values.specs.Alone.{isKind, isAlone}
 use Rattle.grammar.specs.Tokens.{inBlock, inFrame, lex}
 use Rattle.grammar.specs.Machine.{Rec, loopEnd}
 use Rattle.sizes.specs.Sizes.{contentSize}
-use Rattle.writing.specs.Writing.{contentOf}
+use Rattle.putting.specs.Written.{contentOf}
 use Rattle.promises.proofs.Lines.{modeOf}
 use Rattle.promises.proofs.Lexing.{never, Worded, keyTag, heading-word, opening-word, tag-word, plainKey, key-word}
 use Rattle.promises.proofs.Taken.{Took, Outline}

@@ -14,13 +14,15 @@ use Rattle.records.specs.Records.{tokenBytes, decimalBytes, endRecord, placeRec
 use Rattle.records.specs.Put.{front}
 use Rattle.entries.specs.Entries.{de32, de64, noParts, tokenOf as tokenAt, partsOf, plainFields, partsFields, fieldsOf, isKind, entryOf, entryAt}
 use Rattle.grammar.specs.Machine.{Rec}
-use Rattle.writing.specs.Writing.{tokenOf, tokenText, decimalOf, shaped, shapeIn, recordBytes, tagsOf, storeOf}
-use Rattle.reading.specs.Services.{writtenIf, readStoreBy, readStore, readAreaBy, readArea}
+use Rattle.putting.specs.Written.{tokenOf, tokenText, decimalOf, shaped, shapeIn, recordBytes}
+use Rattle.walking.specs.Writing.{tagsOf, storeOf}
+use Rattle.reading.specs.Services.{readStoreBy, readStore, readAreaBy, readArea}
+use Rattle.refusals.specs.Answers.{writtenIf}
 use Rattle.entries.specs.Walk.{onward, entriesFrom, entries}
 use Rattle.nesting.specs.Nesting.{isValueKind, opensLoop, atItems, afterName, atNames, atValues, standing, ended, follow, nestedFrom, nested}
 use Rattle.contents.specs.Contents.{isName, readableBy, readable, exponentKept, partsKept, contentLength, contentBytes, lies, isInside, isReadable}
-use Rattle.stores.specs.Soundness.{eachReadable, eachInside, follows, takes, laidOut, filledFrom, filled}
 use Rattle.values.specs.Alone.{isKind as isKindAlone, isAlone}
+use Rattle.stores.specs.Soundness.{takes, filledFrom, filled, eachReadable, eachInside, follows, laidOut}
 use Rattle.stores.specs.Soundness.{sound}
 use Rattle.rendering.specs.Rendering.{linesOf, rendering, limit as renderLimit, renderRoom, renderAnswer, renderOut}
 use Rattle.record_lines.specs.Lines.{decimalOf as renderedDecimal, tokenText as renderedText, isEnd, lineOf}

@@ -38,7 +38,8 @@ use Rattle.entries.specs.Entries.{stored}
 use Rattle.values.specs.Values.{Class, Reason, value, overLimit, nothing, openQuote, openField, Lexed, lexed, numberOr, wordOr, closed, lexValue, lexAsValue}
 use Rattle.grammar.specs.Machine.{Rec, loopEnd}
 use Rattle.grammar.proofs.Lexes.{pick}
-use Rattle.writing.specs.Writing.{tokenOf, tokenText, tagsOf, decimalOf as readDecimal}
+use Rattle.putting.specs.Written.{tokenOf, tokenText, decimalOf as readDecimal}
+use Rattle.walking.specs.Writing.{tagsOf}
 use Rattle.reading.specs.Services.{readAnswer}
 use Rattle.entries.specs.Walk.{entries}
 use Rattle.nesting.specs.Nesting.{isValueKind}

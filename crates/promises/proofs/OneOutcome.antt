@@ -13,13 +13,15 @@ use Rattle.deciding.specs.Decisions.{Told, refusal, room, told}
 use Rattle.rendering.specs.declared.Rendered.{Rendered}
 use Rattle.rendering.specs.declared.Rendered.the-variants.{Done as DoneText, NotSound, TooLong as TooLongText, NoRoom as NoRoomText}
 use Rattle.rendering.specs.Rendering.{renderedReport}
-use Rattle.reading.specs.declared.Refusal.{Refusal}
-use Rattle.reading.specs.declared.Refusal.the-variants.{TooLong, NotAscii, NoData, OpenFrame, Ragged, NoValue, NoItem, NoNames, OverLimit}
+use Rattle.refusals.specs.declared.Refusal.{Refusal}
+use Rattle.refusals.specs.declared.Refusal.the-variants.{TooLong, NotAscii, NoData, OpenFrame, Ragged, NoValue, NoItem, NoNames, OverLimit}
 use Rattle.reading.specs.declared.Reading.{Reading}
 use Rattle.reading.specs.declared.Reading.the-variants.{Done, Refused, StoreFull, AreaFull}
-use Rattle.reading.specs.declared.Outlined.{Outlined}
-use Rattle.reading.specs.declared.Outlined.the-variants.{Written, Declined, NoRoom}
-use Rattle.reading.specs.Services.{refusalReport, readingReport, outlinedReport}
+use Rattle.outlining.specs.declared.Outlined.{Outlined}
+use Rattle.outlining.specs.declared.Outlined.the-variants.{Written, Declined, NoRoom}
+use Rattle.reading.specs.Services.{readingReport}
+use Rattle.refusals.specs.Answers.{refusalReport}
+use Rattle.outlining.specs.Outlining.{outlinedReport}
 
 unfoldable placeIn : Report → Place
 placeIn p = record { offset = p .offset; line = p .line; column = p .column }

@@ -12,8 +12,10 @@ use Rattle.kinds.specs.Kinds.{kindOf, shapeOf, outlineShape}
 use Rattle.grammar.specs.Machine.{Rec, Answer, refused, done}
 use Rattle.sizes.specs.Sizes.{contentSize}
 use Rattle.grammar.specs.Reading.{outline}
-use Rattle.writing.specs.Writing.{tokenOf, shaped, shapeIn, recordBytes, tagsOf, storeOf}
-use Rattle.reading.specs.Services.{refusal, outlineBy, outlineAnswer, outlineStoreBy, outlineStore}
+use Rattle.putting.specs.Written.{tokenOf, shaped, shapeIn, recordBytes}
+use Rattle.walking.specs.Writing.{tagsOf, storeOf}
+use Rattle.refusals.specs.Answers.{refusal}
+use Rattle.outlining.specs.Outlining.{outlineBy, outlineAnswer, outlineStoreBy, outlineStore}
 use Rattle.promises.specs.Differences.{insideRecs, DigitsDiffer, ContentsDiffer}
 use Rattle.promises.proofs.Demand3.{digits-hidden, contents-hidden, places-stay}
 

@@ -21,12 +21,11 @@ use Rattle.entries.specs.Entries.{stored}
 use Rattle.grammar.specs.Machine.{Rec, Answer, refused, done}
 use Rattle.grammar.specs.Reading.{outline}
 use Rattle.sizes.specs.Sizes.{contentSize, storeSize, areaSize}
-use Rattle.writing.specs.Writing.{tokenOf, contentOf, decimalOf, tagsOf, storeOf, areaOf}
-use Rattle.reading.specs.Services.{refusal, readRoom, readBy, readAnswer}
-use Rattle.entries.specs.Walk.{entries}
-use Rattle.nesting.specs.Nesting.{nested}
-use Rattle.contents.specs.Contents.{readable, exponentKept, partsKept, contentLength, contentBytes, lies, isInside, isReadable, ownRule}
-use Rattle.stores.specs.Soundness.{follows, takes, filledFrom, filled, kept, sound}
+use Rattle.putting.specs.Written.{tokenOf, contentOf, decimalOf}
+use Rattle.walking.specs.Writing.{tagsOf, storeOf, areaOf}
+use Rattle.reading.specs.Services.{readAnswer}
+use Rattle.contents.specs.Contents.{readable, exponentKept, partsKept, contentLength, ownRule, contentBytes, lies, isInside, isReadable}
+use Rattle.stores.specs.Soundness.{takes, filledFrom, filled, sound, follows, kept}
 use Rattle.stores.proofs.Filling.{filled-record, filled-none}
 use Rattle.promises.specs.Results.{storeBytes, areaBytes}
 use Rattle.promises.proofs.Taken.{Read, Outline, outline-taken}

@@ -14,8 +14,10 @@ use Rattle.records.specs.Put.{front}
 use Rattle.grammar.specs.Machine.{Rec, done}
 use Rattle.grammar.specs.Reading.{outline}
 use Rattle.sizes.specs.Sizes.{contentSize, storeSize, areaSize}
-use Rattle.writing.specs.Writing.{contentOf, shaped, shapeIn, recordBytes, tagsOf, storeOf, areaOf}
-use Rattle.reading.specs.Services.{readRoom, readBy, readAnswer, writtenIf, readStoreBy, readStore, readAreaBy, readArea}
+use Rattle.putting.specs.Written.{contentOf, shapeIn, recordBytes}
+use Rattle.walking.specs.Writing.{tagsOf, storeOf, areaOf}
+use Rattle.reading.specs.Services.{readRoom, readBy, readAnswer, readStoreBy, readStore, readAreaBy, readArea}
+use Rattle.refusals.specs.Answers.{writtenIf}
 use Rattle.promises.specs.Results.{storeBytes, areaBytes}
 use Rattle.promises.proofs.Taken.{Outline, outline-taken}
 use Rattle.promises.proofs.Sources.{Each, none, also, each-map, sources, Facts, facts}

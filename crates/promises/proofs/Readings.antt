@@ -19,8 +19,10 @@ use Rattle.grammar.specs.Tokens.{saveSize, lexIn, lex, after, tok, emit, step, 
 use Rattle.grammar.specs.Machine.{config, rec, loopEnd, closes, fails, atItem, loopEnds, atValue, noMoreNames, atName, atWant, atStart, move, follow, run}
 use Rattle.sizes.specs.Sizes.{contentSize, storeSize, areaSize}
 use Rattle.grammar.specs.Reading.{limit, decided, outline}
-use Rattle.writing.specs.Writing.{contentOf, areaOf}
-use Rattle.reading.specs.Services.{refusal, readRoom, readBy, readAnswer}
+use Rattle.putting.specs.Written.{contentOf}
+use Rattle.walking.specs.Writing.{areaOf}
+use Rattle.reading.specs.Services.{readRoom, readBy, readAnswer}
+use Rattle.refusals.specs.Answers.{refusal}
 use Rattle.promises.specs.Readings.{bytes, rowOf, seen, asked, reads, means, done-with, decimal, whole, readings, ReadingsHold}
 
 -- one name for all that a reading computes with: to unfold it is to unfold whatever its line names

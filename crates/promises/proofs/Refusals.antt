@@ -17,7 +17,8 @@ use Rattle.grammar.specs.Tokens.{Tok, tokens}
 use Rattle.grammar.specs.Machine.{Rec, Answer, refused, done, State, start, items, names, values, wants, Config, config, Outcome, go, stop, rec, loopEnd, closes, fails, atItem, loopEnds, atValue, noMoreNames, atName, atWant, atStart, move, follow, run}
 use Rattle.grammar.specs.Reading.{limit, decided, outline}
 use Rattle.sizes.specs.Sizes.{storeSize, areaSize}
-use Rattle.reading.specs.Services.{refusal, readRoom, readBy, readAnswer}
+use Rattle.reading.specs.Services.{readRoom, readBy, readAnswer}
+use Rattle.refusals.specs.Answers.{refusal}
 use Rattle.promises.proofs.Lexing.{never}
 
 Numbered : Answer → Type 0

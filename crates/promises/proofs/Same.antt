@@ -28,7 +28,7 @@ use Rattle.records.specs.Bytes.{flag}
 use Rattle.entries.specs.Entries.{noParts, stored, isKind}
 use Rattle.grammar.specs.Machine.{Rec, loopEnd}
 use Rattle.sizes.specs.Sizes.{contentSize, storeSize, areaSize}
-use Rattle.writing.specs.Writing.{tokenText as textOf, contentOf, decimalOf as readDecimal}
+use Rattle.putting.specs.Written.{tokenText as textOf, contentOf, decimalOf as readDecimal}
 use Rattle.contents.specs.Contents.{partsKept, contentLength, contentBytes}
 use Rattle.stores.specs.Soundness.{takes}
 use Rattle.record_lines.specs.Lines.{decimalOf, tokenText, isEnd}

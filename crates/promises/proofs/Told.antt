@@ -16,7 +16,8 @@ use Rattle.kinds.specs.Kinds.{kindOf, shapeOf, marksOf, opening, isContent, has
 use Rattle.entries.specs.Entries.{stored, noParts}
 use Rattle.grammar.specs.Machine.{Rec}
 use Rattle.sizes.specs.Sizes.{contentSize}
-use Rattle.writing.specs.Writing.{tokenOf, contentOf, decimalOf, storeOf, areaOf, tagsOf}
+use Rattle.putting.specs.Written.{tokenOf, contentOf, decimalOf}
+use Rattle.walking.specs.Writing.{storeOf, areaOf, tagsOf}
 use Rattle.entries.specs.Walk.{entries}
 use Rattle.contents.specs.Contents.{contentLength, contentBytes}
 use Rattle.promises.specs.Sayings.{Saying, says, nothing, contentIn, saying, sayings}

@@ -15,7 +15,7 @@ use Rattle.values.specs.Values.{value}
 use Rattle.values.proofs.Laws.{Lies, value-lies}
 use Rattle.grammar.specs.Machine.{Rec, loopEnd}
 use Rattle.sizes.specs.Sizes.{contentSize}
-use Rattle.writing.specs.Writing.{tagsOf}
+use Rattle.walking.specs.Writing.{tagsOf}
 use Rattle.nesting.specs.declared.Stand.{Stand}
 use Rattle.nesting.specs.declared.Stand.the-variants.{Stands, Falls}
 use Rattle.nesting.specs.declared.Where.{Where}

@@ -15,7 +15,7 @@ use Rattle.values.specs.declared.Value.the-variants.{Token, Number, Over}
 use Rattle.values.specs.Answers.{valueAnswer}
 use Rattle.grammar.specs.Machine.{Rec, Answer, refused, done}
 use Rattle.grammar.specs.Reading.{outline}
-use Rattle.writing.specs.Writing.{areaOf}
+use Rattle.walking.specs.Writing.{areaOf}
 use Rattle.reading.specs.Services.{readAnswer}
 
 unfoldable pub bytes : String → List ℕ

@@ -118,3 +118,8 @@ pub parts-next : (k : ℕ) (t : Token) (d : Decimal) (ws l : List ℕ) → put 3
 parts-next k t d ws l =
     front-next 35 (k ∷ (tokenBytes t ++ decimalBytes d)) ws l (unfold tokenBytes decimalBytes le64 signed32 le32 in refl)
     ∙ rw append-assoc
+
+-- a loop's end is its kind alone
+pub end-kind : endRecord ≡ 7 ∷ []
+unfolding endRecord
+end-kind = refl

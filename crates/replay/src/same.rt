@@ -185,7 +185,7 @@ fn same_refusal(a: Report, b: Report) -> bool {
 // Whether Outline answers as Read did, which left this store.
 fn outlines(text: &[u8], read: Report, store: &[u8]) -> bool {
     let mut room = [0u8; 4096];
-    let outlined = reading::outline(text, &mut room).report();
+    let outlined = outlining::outline(text, &mut room).report();
     if !same_refusal(read, outlined) {
         return false;
     }

@@ -5,3 +5,4 @@ pub mod Laws
 pub mod Tokens
 pub mod Ended
 pub mod Alone
+pub mod Kept

@@ -20,17 +20,19 @@ use Rattle.records.specs.Put.{front, put}
 use Rattle.records.proofs.Putting.{put-zero}
 use Rattle.grammar.specs.Machine.{Rec}
 use Rattle.sizes.specs.Sizes.{areaSize}
-use Rattle.grammar.specs.Reading.{decided}
+use Rattle.grammar.specs.Reading.{limit}
 use Rattle.deciding.specs.Frames.{left}
-use Rattle.writing.specs.declared.Cursor.{Cursor}
-use Rattle.writing.specs.Writing.{tagsOf, storeOf, areaIn}
-use Rattle.writing.specs.Walk.{storeLength, Desk, desk, Going, Room, IsToken, recAt, WroteOne, Wrote, Onward, behindGap, answerRecs, isDone, recsLeft, Ahead}
+use Rattle.putting.specs.declared.Cursor.{Cursor}
+use Rattle.walking.specs.Writing.{tagsOf, storeOf, areaIn}
+use Rattle.putting.specs.Desk.{Desk, desk, Going, Room, IsToken, recAt, WroteOne}
+use Rattle.walking.specs.Walk.{Wrote, Onward, behindGap}
+use Rattle.writing.specs.Block.{Fits, recordsOf, storeBytes, areaBytes, isDone, recsLeft, Ahead}
 use Rattle.writing.proofs.Frames.{onward-trim}
-use Rattle.writing.proofs.Lines.{part-token}
-use Rattle.writing.proofs.Onward.{room-onward, one-onward}
+use Rattle.putting.proofs.Lines.{part-token}
+use Rattle.walking.proofs.Onward.{room-onward, one-onward}
 use Rattle.writing.proofs.Rest.{heading}
-use Rattle.writing.proofs.SoFar.{isCount, any-count, room-first}
-use Rattle.writing.proofs.Values.{trim-at, trim-area, trim-offset, trim-going}
+use Rattle.walking.proofs.SoFar.{isCount, any-count, room-first}
+use Rattle.walking.proofs.Values.{trim-at, trim-area, trim-offset, trim-going}
 
 -- the text's start
 abbrev pub atStart : Cursor
@@ -47,13 +49,6 @@ begins s p e = ap begun e
 pub start-going : (s : List ℕ) → length s ≤ 16777216 → Going s atStart
 start-going s h = record { place = is-start s; short = h; behind = omega arith }
 
--- what the caller knows
-pub record Fits (full : Bool) (s store area : List ℕ) : Type 0 where
-  pub short : length s ≤ 16777216
-  pub reads : isDone (decided s) ≡ true
-  pub inStore : storeLength full (answerRecs (decided s)) ≤ length store
-  pub inArea : full ≡ true → areaSize (answerRecs (decided s)) ≤ length area
-
 module _ (full : Bool) (s store area : List ℕ) (f : Fits full s store area) (h : Cursor) (q : h ≡ behindGap s atStart) (w : ℕ) (z : w ≡ wordEnd s (h .place .offset) - h .place .offset) where
   abbrev o : ℕ
   o = h .place .offset
@@ -62,7 +57,7 @@ module _ (full : Bool) (s store area : List ℕ) (f : Fits full s store area) (h
   d = desk h store area
 
   abbrev recs : List Rec
-  recs = answerRecs (decided s)
+  recs = recordsOf s
 
   size : w ≡ word (drop o s)
   size = omega (arith, word-end s o)
@@ -71,6 +66,7 @@ module _ (full : Bool) (s store area : List ℕ) (f : Fits full s store area) (h
   read = heading s o w (trim-offset s atStart h q) size (f .reads)
 
   pub block-going : Going s h
+  unfolding limit
   block-going = trim-going s atStart h q (start-going s (f .short))
 
   pub block-token : IsToken s 1 o w
@@ -118,7 +114,8 @@ module _ (full : Bool) (s store area : List ℕ) (f : Fits full s store area) (h
           room = rw same (room-onward full s _ _ d e′ rest-room onward);
         }
 
-    pub block-stored : (r : Desk) → Wrote full s (recsLeft none s (k .place .offset)) (length s) e′ r → r .store ≡ front (storeOf full s 0 recs) store
+    pub block-stored : (r : Desk) → Wrote full s (recsLeft none s (k .place .offset)) (length s) e′ r → r .store ≡ front (storeBytes full s) store
+    unfolding storeBytes
     block-stored r v =
         let a = trim-at s atStart h q in
         let b = trim-area s atStart h q in
@@ -126,7 +123,8 @@ module _ (full : Bool) (s store area : List ℕ) (f : Fits full s store area) (h
         let y : put (h .at) (storeOf full s (h .area) (recAt 1 o w ∷ recsLeft none s (gapEnd s (o + w)))) store ≡ front (storeOf full s 0 recs) store = rw (a, b, ← read .1) (put-zero (storeOf full s 0 recs) store) in
         x ∙ onward .store ∙ y
 
-    pub block-copied : (r : Desk) → Wrote full s (recsLeft none s (k .place .offset)) (length s) e′ r → r .area ≡ front (areaIn full s recs) area
+    pub block-copied : (r : Desk) → Wrote full s (recsLeft none s (k .place .offset)) (length s) e′ r → r .area ≡ front (areaBytes full s) area
+    unfolding areaBytes
     block-copied r v =
         let b = trim-area s atStart h q in
         let x : r .area ≡ put (k .area) (areaIn full s (recsLeft none s (gapEnd s (o + w)))) (e .area) = v .area ∙ ap (λ (y : List Rec). put (k .area) (areaIn full s y) (e .area)) same in

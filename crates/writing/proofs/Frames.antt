@@ -13,8 +13,9 @@ use Rattle.places.specs.Places.{placeAt, Whole}
 use Rattle.gaps.proofs.Gaps.{gap-from, gap-none}
 use Rattle.places.proofs.Places.{place-offset, place-own}
 use Rattle.gaps.proofs.Gaps.{gap-whole}
+use Rattle.gaps.proofs.Bare.{gap-bare}
 use Rattle.places.specs.declared.Place.{Place}
-use Rattle.text.proofs.Ranges.{fails}
+
 use Rattle.words.specs.Words.{word, wordEnd}
 use Rattle.keywords.specs.Keywords.{startsAt, keyLoop, keySave}
 use Rattle.keywords.proofs.Keywords.{save-word}
@@ -25,19 +26,21 @@ use Rattle.sizes.specs.Sizes.{contentSize, areaSize}
 use Rattle.grammar.specs.Tokens.{headAt}
 use Rattle.items.specs.Answers.{itemAt}
 use Rattle.deciding.specs.Frames.{left}
-use Rattle.writing.specs.declared.Cursor.{Cursor}
+use Rattle.putting.specs.declared.Cursor.{Cursor}
 use Rattle.writing.specs.declared.Next.the-variants.{Item as Item′, Stop}
-use Rattle.writing.specs.Writing.{tagsOf, storeOf}
-use Rattle.writing.specs.Walk.{Desk, desk, Going, Room, IsToken, recAt, WroteOne, Wrote, Onward, behindGap, itemRecs, itemRest, isTaken, itemOf, ItemHere, WroteItem, recsLeft, isDone, Ahead, Moved, Closing, Closed, nextOf}
-use Rattle.writing.proofs.Bytes.{store-append, area-size-append}
-use Rattle.writing.proofs.Items.{loop-parts, tag-parts, tag-here, room-prefix}
-use Rattle.writing.proofs.Lines.{part-token}
-use Rattle.writing.proofs.Lists.{namesFrom, behindNames, valuesFrom}
-use Rattle.writing.proofs.Onward.{onward-here, onward-then, room-onward, wrote-before, one-onward, onward-wrote}
+use Rattle.walking.specs.Writing.{tagsOf, storeOf}
+use Rattle.putting.specs.Desk.{Desk, desk, Going, Room, IsToken, recAt, WroteOne}
+use Rattle.walking.specs.Walk.{Wrote, Onward, behindGap, itemRecs, itemRest, isTaken, itemOf, ItemHere, WroteItem, namesFrom, behindNames, valuesFrom}
+use Rattle.writing.specs.Block.{recsLeft, isDone, Ahead, Moved, Closing, Closed, nextOf}
+use Rattle.walking.proofs.Appends.{store-append, area-size-append}
+use Rattle.walking.proofs.Items.{loop-parts, tag-parts, tag-here, room-prefix}
+use Rattle.putting.proofs.Lines.{part-token}
+use Rattle.walking.proofs.Lists.{value-free}
+use Rattle.walking.proofs.Onward.{onward-here, onward-then, room-onward, wrote-before, one-onward, onward-wrote}
 use Rattle.writing.proofs.Rest.{Steps, item-passes, frame-item-steps, block-item-steps, open-steps, close-steps, next-item, next-stop, end-none, no-value-left}
-use Rattle.writing.proofs.SoFar.{isCount, bytes-free, any-count, room-first}
-use Rattle.writing.proofs.Turns.{value-turn}
-use Rattle.writing.proofs.Values.{trim-at, trim-area, trim-offset, trim-going}
+use Rattle.walking.proofs.SoFar.{isCount, bytes-free, any-count, room-first}
+use Rattle.walking.proofs.Turns.{value-turn}
+use Rattle.walking.proofs.Values.{trim-at, trim-area, trim-offset, trim-going}
 
 -- records whose last is neither a loop nor a loop's tag: what follows does not change their bytes
 record Shut (xs : List Rec) : Type 0 where
@@ -70,8 +73,7 @@ shut-store full s a xs ys h = rw (h .same) (shut-append full s a (h .init) (h .l
 
 -- an item's records are such
 value-last : (k : ℕ) → 8 ≤ k → k ≤ 15 → (eqb k 6 ≡ false) × (isCount (shapeOf (kindOf k)) ≡ false)
-unfolding isCount kindOf shapeOf
-value-last k l h = (ne-eqb k 6 (λ e. omega arith), fails (λ j. isCount (shapeOf (kindOf j))) 8 8 refl k l (omega arith))
+value-last k l h = (ne-eqb k 6 (λ e. omega arith), value-free k l h)
 
 item-shut : (s : List ℕ) (o : ℕ) → o ≤ length s → gap (drop o s) ≡ 0 → isTaken (itemOf s o) ≡ true → Shut (itemRecs (itemOf s o))
 item-shut s o h g t = by (startsAt keyLoop s o) refl
@@ -272,7 +274,7 @@ block-ended full s rs d₀ d a l o =
 -- where no space stands no line end is parted
 whole-bare : (s : List ℕ) (o : ℕ) → gap (drop o s) ≡ 0 → Whole s o
 whole-bare s o e =
-    let z : gapEnd s o ≡ o = unfold gapEnd in omega (arith, e) in
+    let z : gapEnd s o ≡ o = gap-bare s o e in
     rw z at (gap-whole s o)
 
 -- the cursor is moved to where the items stopped

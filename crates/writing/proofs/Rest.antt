@@ -12,6 +12,7 @@ use Rattle.gaps.specs.Gaps.{gap, gapEnd}
 use Rattle.gaps.proofs.Gaps.{gap-none}
 use Rattle.words.specs.Words.{word}
 use Rattle.keywords.specs.Keywords.{startsAt, keySave, keyData}
+use Rattle.keywords.proofs.Offsets.{starts-drop}
 use Rattle.values.specs.Values.{Class, lexed, block, loop, save, tag, value, overLimit, nothing}
 use Rattle.items.specs.declared.Item.{Item as Answered}
 use Rattle.items.specs.declared.Item.the-variants.{Loop, Single, Ragged, NoValue, NoItem, NoNames, Over}
@@ -31,7 +32,9 @@ use Rattle.items.proofs.Wanted.{wanted, found-wanted}
 use Rattle.items.proofs.Passes.{AlikeItem, alike-taken, alike-ragged, alike-alone, alike-absent, alike-unnamed, alike-over, item-alike}
 use Rattle.deciding.proofs.Onward.{DroppedAt, PassedInside, item-inside, frame-item, block-item, left-from, plain, open-reads, left-gap, open-answer, close-answer, begin-reads, end-answer, failed-stops, no-data, decided-from}
 use Rattle.writing.specs.declared.Next.the-variants.{Item as Item′, Stop}
-use Rattle.writing.specs.Walk.{recAt, itemRecs, itemRest, isTaken, itemOf, answerRecs, isDone, recsLeft, nextOf}
+use Rattle.putting.specs.Desk.{recAt}
+use Rattle.walking.specs.Walk.{itemRecs, itemRest, isTaken, itemOf}
+use Rattle.writing.specs.Block.{answerRecs, isDone, recsLeft, nextOf}
 use Rattle.writing.proofs.Prefix.{prefixed, started, run-after}
 
 -- what is kept already comes before the rest
@@ -105,9 +108,8 @@ block-taken alike-over e = absurd (false≢true e)
 
 pub block-item-steps : (s : List ℕ) (o : ℕ) → o < length s → gap (drop o s) ≡ 0 → startsAt keySave s o ≡ false → isDone (left none s o []) ≡ true
     → (isTaken (itemOf s o) ≡ true) × Steps s none o none (headAt (itemRest (itemOf s o))) (itemRecs (itemOf s o))
-unfolding startsAt
 block-item-steps s o h g e d =
-    let i : left none s o [] ≡ itemRun none [] (itemOf s o) = block-item s o [] g (plain (drop o s) (omega (arith, length-drop o s)) e) in
+    let i : left none s o [] ≡ itemRun none [] (itemOf s o) = block-item s o [] g (plain (drop o s) (omega (arith, length-drop o s)) (sym (starts-drop keySave s o) ∙ e)) in
     let t : isTaken (itemOf s o) ≡ true = block-taken (item-alike (both s o (omega arith))) (rw i at d) in
     (t, steps s none o none _ _ d (i ∙ item-passes s o (omega arith) t .inBlock []))
 

@@ -1,5 +1,6 @@
 -- `reading::read`: by the judgement. Assumes nothing.
-use Rattle.reading.proofs.Served.{fits-read, declines-refuses, read-refused}
+use Rattle.judging.proofs.Judgements.{fits-read, declines-refuses}
+use Rattle.reading.proofs.Served.{read-refused}
 use borrow.Author.Needs.{needs}
 use Rattle.reading.proofs.read.Statement.{statement}
 use Rattle.reading.proofs.read.Tie as tie

@@ -1,8 +1,6 @@
 -- `reading::read_fitting`: by the room of store and area. Assumes nothing.
 use mathlib.Core.Bool.{true}
-use native.Mathlib.Omega.{arith}
-use Rattle.writing.specs.Walk.{storeLength}
-use Rattle.reading.proofs.Served.{write-asks, writes, no-store, no-area, all-read, need-store, need-area}
+use Rattle.reading.proofs.Served.{read-asks, stored, copied, no-store, no-area, all-read, need-store, need-area}
 use borrow.Author.Needs.{needs}
 use Rattle.reading.proofs.read_fitting.Statement.{statement}
 use Rattle.reading.proofs.read_fitting.Tie as tie
@@ -20,8 +18,7 @@ returns-2 c =
 write-block-requires : tie.Need-write-block-requires
 write-block-requires c κs =
     let i = c .before .before .before .before .before .before .before .pre in
-    write-asks true _ (i .records) _ _ (i .answer) (unfold storeLength in omega (arith, need-store _ _ i, c .before .before .before .if1 .left))
-    (λ h. omega (arith, need-area _ _ i, c .before .before .if2 .left))
+    read-asks _ _ i _ _ (c .before .before .before .if1 .left) (c .before .before .if2 .left)
 
 same-length : tie.Need-same-length
 same-length c = search needs
@@ -32,8 +29,8 @@ same-length-2 c = search needs
 returns-3 : tie.Need-returns-3
 returns-3 c =
     let i = c .before .before .before .before .before .before .before .before .before .before .before .before .pre in
-    let w = rw (writes _ _ (i .answer)) at (c .before .before .before .before .write-block .ensures) in
-    all-read _ _ _ (i .records) (i .answer) _ _ (need-store _ _ i) (need-area _ _ i) _ _ (c .before .before .before .before .before .before .before .before .if1 .left) (c .before .before .before .before .before .before .before .if2 .left) (w .0) (w .1)
+    let w = c .before .before .before .before .write-block .ensures in
+    all-read _ _ _ (i .records) (i .answer) _ _ (need-store _ _ i) (need-area _ _ i) _ _ (c .before .before .before .before .before .before .before .before .if1 .left) (c .before .before .before .before .before .before .before .if2 .left) (stored _ _ i _ _ (w .0)) (copied _ _ i _ _ (w .1))
 
 pub read-fitting-spec : {M : Type 1} → statement M
 read-fitting-spec =

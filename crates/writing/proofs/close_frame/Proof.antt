@@ -14,8 +14,8 @@ write-mark-requires : tie.Need-write-mark-requires
 write-mark-requires c κs =
     let a = c .before .before .before .before .before .args in
     let p = c .before .before .before .before .before .pre in
-    let k = closing-place (a .s .now) (a .c) (a .stop) (c .before .advance .result) (p .0) (p .1) (c .before .advance .ensures) in
-    (k .0, rw (k .1) (closing-token (a .s .now) (a .c .place .offset) (a .stop) (p .1)), unfold kindOf shapeOf in refl, rw (k .1) (p .2))
+    let k = closing-place (a .s .now) (a .c) (a .stop) (c .before .advance .result) (p .going) (p .closing) (c .before .advance .ensures) in
+    record { going = k .0; token = rw (k .1) (closing-token (a .s .now) (a .c .place .offset) (a .stop) (p .closing)); alone = unfold kindOf shapeOf in refl; room = rw (k .1) (p .room) }
 
 trimmed-requires : tie.Need-trimmed-requires
 trimmed-requires c κs = c .before .before .write-mark .ensures [] .going .place
@@ -27,7 +27,7 @@ returns : tie.Need-returns
 returns c =
     let a = c .before .before .before .before .before .before .before .before .before .args in
     let p = c .before .before .before .before .before .before .before .before .before .pre in
-    let k = closing-place (a .s .now) (a .c) (a .stop) (c .before .before .before .before .before .advance .result) (p .0) (p .1) (c .before .before .before .before .before .advance .ensures) in
+    let k = closing-place (a .s .now) (a .c) (a .stop) (c .before .before .before .before .before .advance .result) (p .going) (p .closing) (c .before .before .before .before .before .advance .ensures) in
     λ l. closed (a .full) (a .s .now) (a .stop) (a .c) _ _ (c .trimmed .result) (a .store .now) _ l (k .1) refl refl (c .before .before .before .write-mark .ensures l) (c .trimmed .ensures)
 
 pub close-frame-spec : {M : Type 1} → statement M

@@ -1,7 +1,7 @@
 -- `writing::decide_next`: case by case, as `parse_data_item` decides. Assumes nothing.
 use borrow.Author.Needs.{needs}
 use mathlib.Core.Path.{sym, ap, _∙_}
-use Rattle.writing.specs.Walk.{nextOf}
+use Rattle.writing.specs.Block.{nextOf}
 use Rattle.writing.proofs.decide_next.Statement.{statement}
 use Rattle.writing.proofs.decide_next.Tie as tie
 

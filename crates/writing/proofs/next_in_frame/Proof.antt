@@ -3,7 +3,7 @@ use borrow.Author.Needs.{needs}
 use mathlib.Core.Path.{refl, sym, ap, _∙_}
 use borrow.Author.Tests.{not-false}
 use Rattle.items.proofs.Packs.{unpack, no-value-packed}
-use Rattle.writing.specs.Walk.{nextOf}
+use Rattle.writing.specs.Block.{nextOf}
 use Rattle.writing.proofs.Nexts.{next-value, next-alone}
 use Rattle.writing.proofs.next_in_frame.Statement.{statement}
 use Rattle.writing.proofs.next_in_frame.Tie as tie

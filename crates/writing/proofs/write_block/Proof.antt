@@ -6,10 +6,9 @@ use native.Mathlib.Omega.{arith}
 use Rattle.places.proofs.Places.{is-start}
 use Rattle.words.proofs.Words.{word-from}
 use Rattle.kinds.specs.Kinds.{kindOf, shapeOf}
-use Rattle.grammar.specs.Reading.{limit}
-use Rattle.writing.specs.declared.Cursor.{Cursor}
-use Rattle.writing.specs.Writing.{placed}
-use Rattle.writing.proofs.Block.{Fits, begun, begins, block-going, block-token, block-room, block-ahead, block-stored, block-copied}
+use Rattle.putting.specs.declared.Cursor.{Cursor}
+use Rattle.putting.specs.Written.{placed}
+use Rattle.writing.proofs.Block.{begun, begins, block-going, block-token, block-room, block-ahead, block-stored, block-copied}
 use Rattle.writing.proofs.write_block.Statement.{statement}
 use Rattle.writing.proofs.write_block.Tie as tie
 use Rattle.writing.proofs.write_block.Reads as reads
@@ -27,12 +26,16 @@ sub-write-text c = omega (arith, c .before .before .parse-identifier .ensures, w
 write-text-requires : tie.Need-write-text-requires
 write-text-requires c κs =
     let a = c .before .before .before .before .before .before .before .before .args in
-    let p = c .before .before .before .before .before .before .before .before .pre in
-    let f : Fits (a .full) (a .s .now) (a .store .now) (a .area .now) = unfold limit in record { short = p .0; reads = p .1; inStore = p .2; inArea = p .3 } in
+    let f = c .before .before .before .before .before .before .before .before .pre in
     let h : Cursor = begun (c .before .before .before .before .trim-from .result) in
     let e = begins (a .s .now) (c .before .before .before .before .trim-from .result) (c .before .before .before .before .trim-from .ensures) in
     let z = ap (λ x. x - h .place .offset) (c .before .before .parse-identifier .ensures) in
-    (block-going (a .full) (a .s .now) (a .store .now) (a .area .now) f h e _ z, block-token (a .full) (a .s .now) (a .store .now) (a .area .now) f h e _ z, unfold kindOf shapeOf in refl, block-room (a .full) (a .s .now) (a .store .now) (a .area .now) f h e _ z)
+    record {
+      going = block-going (a .full) (a .s .now) (a .store .now) (a .area .now) f h e _ z;
+      token = block-token (a .full) (a .s .now) (a .store .now) (a .area .now) f h e _ z;
+      content = unfold kindOf shapeOf in refl;
+      room = block-room (a .full) (a .s .now) (a .store .now) (a .area .now) f h e _ z;
+    }
 
 trimmed-requires : tie.Need-trimmed-requires
 trimmed-requires c κs = search needs
@@ -40,8 +43,7 @@ trimmed-requires c κs = search needs
 write-items-requires : tie.Need-write-items-requires
 write-items-requires c κs =
     let a = c .before .before .before .before .before .before .before .before .before .before .before .before .before .before .before .before .args in
-    let p = c .before .before .before .before .before .before .before .before .before .before .before .before .before .before .before .before .pre in
-    let f : Fits (a .full) (a .s .now) (a .store .now) (a .area .now) = unfold limit in record { short = p .0; reads = p .1; inStore = p .2; inArea = p .3 } in
+    let f = c .before .before .before .before .before .before .before .before .before .before .before .before .before .before .before .before .pre in
     let h : Cursor = begun (c .before .before .before .before .before .before .before .before .before .before .before .before .trim-from .result) in
     let e = begins (a .s .now) (c .before .before .before .before .before .before .before .before .before .before .before .before .trim-from .result) (c .before .before .before .before .before .before .before .before .before .before .before .before .trim-from .ensures) in
     let z = ap (λ x. x - h .place .offset) (c .before .before .before .before .before .before .before .before .before .before .parse-identifier .ensures) in
@@ -56,8 +58,7 @@ same-length-2 c = search needs
 returns : tie.Need-returns
 returns c =
     let a = c .before .before .before .before .before .before .before .before .before .before .before .before .before .before .before .before .before .before .before .before .before .args in
-    let p = c .before .before .before .before .before .before .before .before .before .before .before .before .before .before .before .before .before .before .before .before .before .pre in
-    let f : Fits (a .full) (a .s .now) (a .store .now) (a .area .now) = unfold limit in record { short = p .0; reads = p .1; inStore = p .2; inArea = p .3 } in
+    let f = c .before .before .before .before .before .before .before .before .before .before .before .before .before .before .before .before .before .before .before .before .before .pre in
     let h : Cursor = begun (c .before .before .before .before .before .before .before .before .before .before .before .before .before .before .before .before .before .trim-from .result) in
     let e = begins (a .s .now) (c .before .before .before .before .before .before .before .before .before .before .before .before .before .before .before .before .before .trim-from .result) (c .before .before .before .before .before .before .before .before .before .before .before .before .before .before .before .before .before .trim-from .ensures) in
     let z = ap (λ x. x - h .place .offset) (c .before .before .before .before .before .before .before .before .before .before .before .before .before .before .before .parse-identifier .ensures) in

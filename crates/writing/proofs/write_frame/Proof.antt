@@ -7,7 +7,7 @@ use lib.ListN.{length}
 use Rattle.words.proofs.Words.{word-from}
 use Rattle.kinds.specs.Kinds.{kindOf, shapeOf}
 use Rattle.grammar.specs.Reading.{limit}
-use Rattle.writing.specs.Walk.{desk}
+use Rattle.putting.specs.Desk.{desk}
 use Rattle.writing.proofs.Frames.{Inside, inside-start, inside-next, frame-all, heading-token, heading-room, heading-moved, frame-item-here, frame-item-moved, frame-closing, frame-closed}
 use Rattle.writing.proofs.write_frame.Statement.{statement}
 use Rattle.writing.proofs.write_frame.Tie as tie
@@ -32,7 +32,7 @@ write-text-requires c κs =
     let d₀ = desk (a .c) (a .store .now) (a .area .now) in
     let p = c .before .before .before .before .before .before .before .pre in
     let q = ap (λ x. x - a .c .place .offset) (c .before .before .parse-identifier .ensures) in
-    (p .0 .going, heading-token f s d₀ (p .0) (p .1) _ q, unfold kindOf shapeOf in refl, heading-room f s d₀ (p .0) (p .1) _ q)
+    record { going = p .0 .going; token = heading-token f s d₀ (p .0) (p .1) _ q; content = unfold kindOf shapeOf in refl; room = heading-room f s d₀ (p .0) (p .1) _ q }
 
 trimmed-requires : tie.Need-trimmed-requires Inv-loop μ-loop
 trimmed-requires c κs = c .before .before .before .before .write-text .ensures .going .place
@@ -76,7 +76,7 @@ close-frame-requires c κs =
     let h = l .inv .ahead in
     let n = sym (c .before .before .before .before .next-in-frame .ensures) ∙ c .before .before .at .given .1 in
     let k = frame-closing f s b d h _ n in
-    (h .going, k .0, k .1 .store)
+    record { going = h .going; closing = k .0; room = k .1 .store }
 
 same-length : tie.Need-same-length Inv-loop μ-loop
 same-length c =

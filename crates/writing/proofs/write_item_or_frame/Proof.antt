@@ -1,7 +1,7 @@
 -- `writing::write_item_or_frame`: by whether `save_` stands there. Assumes nothing.
 use borrow.Author.Needs.{needs}
 use mathlib.Core.Path.{sym, _∙_}
-use Rattle.writing.specs.Walk.{desk}
+use Rattle.putting.specs.Desk.{desk}
 use Rattle.writing.proofs.Frames.{block-item-here, block-item-moved}
 use Rattle.writing.proofs.write_item_or_frame.Statement.{statement}
 use Rattle.writing.proofs.write_item_or_frame.Tie as tie

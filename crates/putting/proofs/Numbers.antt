@@ -1,0 +1,94 @@
+-- Numbers that are found, and the shapes of values' records. Assumes nothing.
+use Prim.Native.Nat.{ℕ, zero, suc, _+_, _-_, _≤_, _<_}
+use mathlib.Core.Path.{_≡_, refl}
+use mathlib.Core.Bool.{true}
+use mathlib.Core.List.{List}
+use native.Mathlib.Omega.{arith}
+use lib.ListN.{take, drop}
+use Rattle.numbers.specs.declared.Decimal.{Decimal}
+use Rattle.numbers.specs.Parts.{parts, within}
+use Rattle.numbers.specs.Meaning.{meaning}
+use Rattle.numbers.proofs.Facts.{is-number, number-facts}
+use Rattle.values.specs.Answers.{valueAt}
+use Rattle.values.specs.declared.Value.{Value as Found}
+use Rattle.values.specs.declared.Value.the-variants.{Token, Number, Over, Missing}
+use Rattle.values.proofs.Laws.{value-token}
+use Rattle.values.proofs.Kept.{number-kept}
+use Rattle.kinds.specs.declared.Shape.the-variants.{Place as PlaceAlone, Content}
+use Rattle.kinds.specs.Kinds.{kindOf, shapeOf}
+use Rattle.items.specs.declared.Found.the-variants.{Value}
+use Rattle.items.specs.Answers.{foundOf, foundAt, kindOfNumber}
+use Rattle.items.proofs.First.{found-lies}
+use Rattle.putting.specs.Written.{decimalOf, tokenText}
+use Rattle.putting.specs.Desk.{IsToken, ValueHere, recAt}
+use Rattle.putting.proofs.Lines.{value-token as found-token}
+
+-- a value of kind 14 or 15 is a number
+record FoundNumber (s : List ℕ) (o k n : ℕ) : Type 0 where
+  decimal : Decimal
+  value : valueAt s o ≡ Number decimal n
+  kind : k ≡ kindOfNumber decimal
+
+found-number : (s : List ℕ) (o k n : ℕ) → foundAt s o ≡ Value k n → 14 ≤ k → FoundNumber s o k n
+found-number s o k n f l = by (valueAt s o) refl f
+  where
+    by : (v : Found) → valueAt s o ≡ v → foundOf v ≡ Value k n → FoundNumber s o k n
+    by (Token j m) q e =
+        let z : j ≡ k = cc in
+        absurd (omega (arith, value-token s o j m q .high))
+    by (Number d m) q e =
+        let z : m ≡ n = cc in
+        let y : k ≡ kindOfNumber d = cc in
+        record { decimal = d; value = rw (← z) q; kind = y }
+    by Over q e = let z : _≡_ {A = ℕ} 0 1 = cc in absurd (omega arith)
+    by (Missing w) q e = let z : _≡_ {A = ℕ} 0 1 = cc in absurd (omega arith)
+
+-- what Read and Outline want of a number
+pub record NumberToken (s : List ℕ) (o k n : ℕ) : Type 0 where
+  pub token : IsToken s k o n
+  pub most : k ≤ 15
+  pub kind : k ≡ kindOfNumber (decimalOf s (recAt k o n))
+  pub limits : within (parts (take n (drop o s))) ≡ true
+  pub places : decimalOf s (recAt k o n) .places < 256
+
+pub number-token : (s : List ℕ) (o k n : ℕ) → ValueHere s o k n → 14 ≤ k → NumberToken s o k n
+unfolding decimalOf tokenText
+number-token s o k n h l =
+    let f = found-number s o k n (h .found) l in
+    let i = is-number (take n (drop o s)) (f .decimal) (number-kept s o (f .decimal) n (f .value)) in
+    let b = number-facts (take n (drop o s)) (f .decimal) (number-kept s o (f .decimal) n (f .value)) in
+    record {
+      token = found-token s o k n (h .found);
+      most = found-lies s o k n (h .found) .high;
+      kind = rw (i .means) (f .kind);
+      limits = i .kept;
+      places = rw (i .means) (omega (arith, b .places));
+    }
+
+-- a part of the text means what its record says
+pub decimal-here : (s : List ℕ) (o k n : ℕ) (d : Decimal) → d ≡ meaning (parts (take (o + n - o) (drop o s))) → d ≡ decimalOf s (recAt k o n)
+unfolding decimalOf tokenText
+decimal-here s o k n d e =
+    let z : o + n - o ≡ n = omega arith in
+    rw z at e
+
+-- the shape of a value's record
+pub mark-kind : (k : ℕ) → 8 ≤ k → k < 10 → shapeOf (kindOf k) ≡ PlaceAlone
+unfolding kindOf shapeOf
+mark-kind k l h = by (k - 8) (omega arith)
+  where
+    by : (j : ℕ) → k ≡ 8 + j → shapeOf (kindOf k) ≡ PlaceAlone
+    by zero e = rw e
+    by (suc zero) e = rw e
+    by (suc (suc j)) e = absurd (omega arith)
+
+pub text-kind : (k : ℕ) → 10 ≤ k → k ≤ 13 → shapeOf (kindOf k) ≡ Content
+unfolding kindOf shapeOf
+text-kind k l h = by (k - 10) (omega arith)
+  where
+    by : (j : ℕ) → k ≡ 10 + j → shapeOf (kindOf k) ≡ Content
+    by zero e = rw e
+    by (suc zero) e = rw e
+    by (suc (suc zero)) e = rw e
+    by (suc (suc (suc zero))) e = rw e
+    by (suc (suc (suc (suc j)))) e = absurd (omega arith)

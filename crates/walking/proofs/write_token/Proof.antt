@@ -1,0 +1,42 @@
+-- `walking::write_token`: by the kind. Assumes nothing.
+use borrow.Author.Needs.{needs}
+use Rattle.putting.proofs.Numbers.{mark-kind, text-kind}
+use Rattle.walking.proofs.write_token.Statement.{statement}
+use Rattle.walking.proofs.write_token.Tie as tie
+
+write-mark-requires : tie.Need-write-mark-requires
+write-mark-requires c κs =
+    let p = c .before .before .before .before .before .pre in
+    record { going = p .going; token = p .token; alone = mark-kind (c .before .before .before .before .before .args .kind) (p .least) (c .before .if1 .taken); room = p .room .store }
+
+same-length : tie.Need-same-length
+same-length c = search needs
+
+returns : tie.Need-returns
+returns c = c .before .before .write-mark .ensures (c .before .before .before .before .before .before .before .before .args .area .now)
+
+write-text-requires : tie.Need-write-text-requires
+write-text-requires c κs =
+    let p = c .before .before .before .before .before .before .pre in
+    record { going = p .going; token = p .token; content = text-kind (c .before .before .before .before .before .before .args .kind) (c .before .before .if1 .left) (p .most); room = p .room }
+
+same-length-2 : tie.Need-same-length-2
+same-length-2 c = search needs
+
+same-length-3 : tie.Need-same-length-3
+same-length-3 c = search needs
+
+returns-2 : tie.Need-returns-2
+returns-2 c = search needs
+
+pub write-token-spec : {M : Type 1} → statement M
+write-token-spec =
+    tie.close
+    (tie.spec
+    write-mark-requires
+    same-length
+    returns
+    write-text-requires
+    same-length-2
+    same-length-3
+    returns-2)

@@ -1,0 +1,108 @@
+-- `walking::write_values`: what is written so far and the values from the cursor on are the values from the start on. Assumes nothing.
+use Prim.Native.Nat.{_-_}
+use mathlib.Core.Path.{_≡_, sym, _∙_}
+use native.Mathlib.Omega.{arith}
+use lib.ListN.{length}
+use Rattle.gaps.proofs.Gaps.{gap-from}
+use Rattle.grammar.specs.Reading.{limit}
+use Rattle.items.proofs.Packs.{unpack, no-value-packed}
+use Rattle.putting.specs.Desk.{desk}
+use Rattle.walking.specs.Walk.{valuesFrom, behindValues}
+use Rattle.walking.proofs.SoFar.{SoFar, start}
+use Rattle.walking.proofs.Lists.{value-room, value-next, value-gap, value-last, trim-bare}
+use Rattle.walking.proofs.Turns.{value-here}
+use Rattle.walking.proofs.Values.{trim-offset}
+use Rattle.walking.proofs.write_values.Statement.{statement}
+use Rattle.walking.proofs.write_values.Tie as tie
+
+abbrev Inv-loop : tie.InvT-loop
+Inv-loop s full store₀ area₀ last₀ store area last = SoFar full s (valuesFrom s) (behindValues s) (desk last₀ store₀ area₀) (desk last store area)
+
+abbrev μ-loop : tie.MeasureT-loop
+μ-loop s full store₀ area₀ last₀ store area last = length s - last .place .offset
+
+loop-holds : tie.Need-loop-holds Inv-loop μ-loop
+loop-holds c =
+    let a = c .before .before .before .args in
+    start (a .full) (a .s .now) (valuesFrom (a .s .now)) (behindValues (a .s .now)) (desk (a .c) (a .store .now) (a .area .now)) (c .before .before .before .pre .going) (c .before .before .before .pre .room)
+
+trimmed-requires : tie.Need-trimmed-requires Inv-loop μ-loop
+trimmed-requires c κs = c .loop .inv .going .place
+
+pack-value-requires : tie.Need-pack-value-requires Inv-loop μ-loop
+unfolding limit
+pack-value-requires c κs = c .before .before .loop .inv .going .short
+
+same-length : tie.Need-same-length Inv-loop μ-loop
+same-length c = c .before .before .before .before .loop .inv .onward .store-length
+
+same-length-2 : tie.Need-same-length-2 Inv-loop μ-loop
+same-length-2 c = c .before .before .before .before .loop .inv .onward .area-length
+
+returns : tie.Need-returns Inv-loop μ-loop
+returns c =
+    let l = c .before .before .before .before .loop in
+    let a = c .before .before .before .before .before .before .before .before .args in
+    let h = c .before .before .before .trimmed in
+    let d₀ = desk (a .c) (a .store .now) (a .area .now) in
+    let d = desk (h .result) (l .store) (l .area) in
+    let i = value-gap (a .full) (a .s .now) d₀ (l .last) (h .result) (l .store) (l .area) (l .inv) (h .ensures) in
+    let g = trim-bare (a .s .now) (l .last) (h .result) (h .ensures) in
+    value-last (a .full) (a .s .now) d₀ d i g (no-value-packed (a .s .now) (h .result .place .offset) (sym (c .before .pack-value .ensures) ∙ c .if1 .taken))
+
+cast-write-found : tie.Need-cast-write-found Inv-loop μ-loop
+cast-write-found c = omega arith
+
+write-found-requires : tie.Need-write-found-requires Inv-loop μ-loop
+write-found-requires c κs =
+    let l = c .before .before .before .before .before .before .loop in
+    let a = c .before .before .before .before .before .before .before .before .before .before .args in
+    let h = c .before .before .before .before .before .trimmed in
+    let d₀ = desk (a .c) (a .store .now) (a .area .now) in
+    let d = desk (h .result) (l .store) (l .area) in
+    let i = value-gap (a .full) (a .s .now) d₀ (l .last) (h .result) (l .store) (l .area) (l .inv) (h .ensures) in
+    let g = trim-bare (a .s .now) (l .last) (h .result) (h .ensures) in
+    let v = value-here (a .s .now) (h .result .place .offset) _ _ g (sym (unpack (a .s .now) (h .result .place .offset) _ (c .before .before .before .pack-value .ensures) (c .before .before .if1 .left))) in
+    record { going = i .going; here = v; room = value-room (a .full) (a .s .now) d₀ d _ _ i v }
+
+loop-less : tie.Need-loop-less Inv-loop μ-loop
+loop-less c =
+    let l = c .before .before .before .before .before .before .before .before .before .before .before .loop in
+    let a = c .before .before .before .before .before .before .before .before .before .before .before .before .before .before .before .args in
+    let h = c .before .before .before .before .before .before .before .before .before .before .trimmed in
+    let d₀ = desk (a .c) (a .store .now) (a .area .now) in
+    let d = desk (h .result) (l .store) (l .area) in
+    let i = value-gap (a .full) (a .s .now) d₀ (l .last) (h .result) (l .store) (l .area) (l .inv) (h .ensures) in
+    let g = trim-bare (a .s .now) (l .last) (h .result) (h .ensures) in
+    let v = value-here (a .s .now) (h .result .place .offset) _ _ g (sym (unpack (a .s .now) (h .result .place .offset) _ (c .before .before .before .before .before .before .before .before .pack-value .ensures) (c .before .before .before .before .before .before .before .if1 .left))) in
+    let n = value-next (a .full) (a .s .now) d₀ d _ _ _ i v (c .before .before .before .before .write-found .ensures) in
+    omega (arith, n .1, n .2, trim-offset (a .s .now) (l .last) (h .result) (h .ensures), gap-from (a .s .now) (l .last .place .offset))
+
+loop-again : tie.Need-loop-again Inv-loop μ-loop
+loop-again c =
+    let l = c .before .before .before .before .before .before .before .before .before .before .before .loop in
+    let a = c .before .before .before .before .before .before .before .before .before .before .before .before .before .before .before .args in
+    let h = c .before .before .before .before .before .before .before .before .before .before .trimmed in
+    let d₀ = desk (a .c) (a .store .now) (a .area .now) in
+    let d = desk (h .result) (l .store) (l .area) in
+    let i = value-gap (a .full) (a .s .now) d₀ (l .last) (h .result) (l .store) (l .area) (l .inv) (h .ensures) in
+    let g = trim-bare (a .s .now) (l .last) (h .result) (h .ensures) in
+    let v = value-here (a .s .now) (h .result .place .offset) _ _ g (sym (unpack (a .s .now) (h .result .place .offset) _ (c .before .before .before .before .before .before .before .before .pack-value .ensures) (c .before .before .before .before .before .before .before .if1 .left))) in
+    value-next (a .full) (a .s .now) d₀ d _ _ _ i v (c .before .before .before .before .write-found .ensures) .0
+
+pub write-values-spec : {M : Type 1} → statement M
+write-values-spec =
+    tie.close
+    (tie.spec
+    Inv-loop
+    μ-loop
+    loop-holds
+    trimmed-requires
+    pack-value-requires
+    same-length
+    same-length-2
+    returns
+    cast-write-found
+    write-found-requires
+    loop-less
+    loop-again)

@@ -1,0 +1,122 @@
+-- From token to token: what must hold before names, values and an item are written, and what holds afterwards. `Onward` says that the buffers will be the same in the
+-- end when the records that are left are written from here. Assumes nothing.
+use Prim.Native.Nat.{ℕ, _+_, _≤_}
+use mathlib.Core.Path.{_≡_}
+use mathlib.Core.Bool.{Bool, true, false}
+use mathlib.Core.List.{List, [], _∷_}
+use lib.ListN.{length, drop}
+use Rattle.gaps.specs.Gaps.{gap, gapEnd}
+use Rattle.places.specs.Places.{placeAt}
+use Rattle.records.specs.Put.{put}
+use Rattle.items.specs.declared.Found.the-variants.{Value}
+use Rattle.items.specs.Answers.{foundAt}
+use Rattle.grammar.specs.Tokens.{Tok, inBlock}
+use Rattle.grammar.specs.Machine.{Rec}
+use Rattle.grammar.specs.Descent.{Item, taken, failed, broken, item, nameRecs, afterNames, valueRecs, afterValues}
+use Rattle.grammar.specs.Tokens.{tokensAt, headAt}
+use Rattle.sizes.specs.Sizes.{areaSize}
+use Rattle.putting.specs.declared.Cursor.{Cursor}
+use Rattle.walking.specs.Writing.{storeOf, areaOf, areaIn}
+use Rattle.putting.specs.Desk.{storeLength, Desk, Going, Room, IsToken, recAt, ValueHere}
+
+-- the records are written, and the cursor stands at offset o
+pub record Wrote (full : Bool) (s : List ℕ) (rs : List Rec) (o : ℕ) (d e : Desk) : Type 0 where
+  pub going : Going s (e .cursor)
+  pub place : e .cursor .place ≡ placeAt s o
+  pub at : e .cursor .at ≡ d .cursor .at + storeLength full rs
+  pub behind : e .cursor .area ≡ d .cursor .area + areaSize rs
+  pub filled : length (areaOf s rs) ≡ areaSize rs
+  pub store : e .store ≡ put (d .cursor .at) (storeOf full s (d .cursor .area) rs) (d .store)
+  pub area : e .area ≡ put (d .cursor .area) (areaIn full s rs) (d .area)
+
+-- the same cursor, behind space and comments
+unfoldable pub behindGap : List ℕ → Cursor → Cursor
+behindGap s c = record { place = placeAt s (gapEnd s (c .place .offset)); at = c .at; area = c .area }
+
+-- from d with records rs left to write to e with records left: the buffers will be the same in the end
+pub record Onward (full : Bool) (s : List ℕ) (rs : List Rec) (d : Desk) (left : List Rec) (e : Desk) : Type 0 where
+  pub at : e .cursor .at + storeLength full left ≡ d .cursor .at + storeLength full rs
+  pub behind : e .cursor .area + areaSize left ≡ d .cursor .area + areaSize rs
+  pub filled : length (areaOf s left) ≡ areaSize left → length (areaOf s rs) ≡ areaSize rs
+  pub store-length : length (e .store) ≡ length (d .store)
+  pub area-length : length (e .area) ≡ length (d .area)
+  pub store : put (e .cursor .at) (storeOf full s (e .cursor .area) left) (e .store) ≡ put (d .cursor .at) (storeOf full s (d .cursor .area) rs) (d .store)
+  pub area : put (e .cursor .area) (areaIn full s left) (e .area) ≡ put (d .cursor .area) (areaIn full s rs) (d .area)
+
+-- a value that is no number stands at the cursor, and there is room for it
+pub record TokenAhead (full : Bool) (s : List ℕ) (k n : ℕ) (d : Desk) : Type 0 where
+  pub going : Going s (d .cursor)
+  pub token : IsToken s k (d .cursor .place .offset) n
+  pub least : 8 ≤ k
+  pub most : k ≤ 13
+  pub room : Room full (recAt k (d .cursor .place .offset) n ∷ []) d
+
+-- any value
+pub record ValueAhead (full : Bool) (s : List ℕ) (k n : ℕ) (d : Desk) : Type 0 where
+  pub going : Going s (d .cursor)
+  pub here : ValueHere s (d .cursor .place .offset) k n
+  pub room : Room full (recAt k (d .cursor .place .offset) n ∷ []) d
+
+-- the names, the values from an offset on, and what stands behind them
+abbrev pub namesFrom : List ℕ → ℕ → List Rec
+namesFrom s o = nameRecs (tokensAt inBlock s o)
+
+abbrev pub behindNames : List ℕ → ℕ → List Tok
+behindNames s o = afterNames (tokensAt inBlock s o)
+
+abbrev pub valuesFrom : List ℕ → ℕ → List Rec
+valuesFrom s o = valueRecs (tokensAt inBlock s o)
+
+abbrev pub behindValues : List ℕ → ℕ → List Tok
+behindValues s o = afterValues (tokensAt inBlock s o)
+
+-- there is room for the names, for the values from the cursor on
+pub record NamesAhead (full : Bool) (s : List ℕ) (d : Desk) : Type 0 where
+  pub going : Going s (d .cursor)
+  pub room : Room full (namesFrom s (d .cursor .place .offset)) d
+
+pub record ValuesAhead (full : Bool) (s : List ℕ) (d : Desk) : Type 0 where
+  pub going : Going s (d .cursor)
+  pub room : Room full (valuesFrom s (d .cursor .place .offset)) d
+
+-- they are written, and the cursor stands behind them and the space there
+abbrev pub WroteNames : Bool → List ℕ → Desk → Desk → Type 0
+WroteNames full s d e =
+    Wrote full s (namesFrom s (d .cursor .place .offset)) (headAt (behindNames s (d .cursor .place .offset))) d e
+
+abbrev pub WroteValues : Bool → List ℕ → Desk → Desk → Type 0
+WroteValues full s d e =
+    Wrote full s (valuesFrom s (d .cursor .place .offset)) (headAt (behindValues s (d .cursor .place .offset))) d e
+
+-- an item that is read: its records, and the tokens behind it
+unfoldable pub itemRecs : Item → List Rec
+itemRecs (taken b rs rest) = rs
+itemRecs (failed n o d rest) = []
+itemRecs (broken n o) = []
+
+unfoldable pub itemRest : Item → List Tok
+itemRest (taken b rs rest) = rest
+itemRest (failed n o d rest) = rest
+itemRest (broken n o) = []
+
+unfoldable pub isTaken : Item → Bool
+isTaken (taken b rs rest) = true
+isTaken (failed n o d rest) = false
+isTaken (broken n o) = false
+
+-- the item at an offset
+abbrev pub itemOf : List ℕ → ℕ → Item
+itemOf s o = item (tokensAt inBlock s o)
+
+-- an item that is read stands at the cursor, where no space does, no value stands behind it, and there is room for it
+pub record ItemHere (full : Bool) (s : List ℕ) (d : Desk) : Type 0 where
+  pub going : Going s (d .cursor)
+  pub bare : gap (drop (d .cursor .place .offset) s) ≡ 0
+  pub read : isTaken (itemOf s (d .cursor .place .offset)) ≡ true
+  pub alone : (k n : ℕ) → foundAt s (headAt (itemRest (itemOf s (d .cursor .place .offset)))) ≡ Value k n → ⊥
+  pub room : Room full (itemRecs (itemOf s (d .cursor .place .offset))) d
+
+-- it is written, and the cursor stands behind it and the space there
+abbrev pub WroteItem : Bool → List ℕ → Desk → Desk → Type 0
+WroteItem full s d e =
+    Wrote full s (itemRecs (itemOf s (d .cursor .place .offset))) (headAt (itemRest (itemOf s (d .cursor .place .offset)))) d e

@@ -1,0 +1,196 @@
+// Writing from token to token: over space and comments, values and names, one item.
+ghost use mathlib.Core.Path.{_≡_};
+ghost use mathlib.Core.Bool.{true};
+ghost use Prim.Native.Nat.{_+_, _≤_, _<_};
+ghost use lib.ListN.{length};
+ghost use Rattle.places.specs.Places.{IsPlace, placeAt};
+ghost use Rattle.gaps.specs.Gaps.{gapEnd};
+ghost use Rattle.keywords.specs.Keywords.{startsAt, keyLoop};
+ghost use Rattle.grammar.specs.Tokens.{tagAt};
+ghost use Rattle.putting.specs.Written.{placed};
+ghost use Rattle.putting.specs.Desk.{desk, WroteToken};
+ghost use Rattle.walking.specs.Walk.{behindGap, TokenAhead, ValueAhead, namesFrom, NamesAhead, ValuesAhead, WroteNames, WroteValues, ItemHere, WroteItem};
+use kinds::Kind;
+use places::Place;
+use putting::Cursor;
+
+// The place behind space and comments: one made of three numbers and lent, which the step moves on.
+pub fn trim_from(s: &[u8], offset: usize, line: usize, column: usize) -> Place
+    requires { ⌜ IsPlace (now s) (placed offset line column) ⌝ }
+    ensures { λ r. ⌜ r ≡ placeAt (now (s .entry)) (gapEnd (now (s .entry)) offset) ⌝ }
+{
+    let mut place = Place {
+        offset,
+        line,
+        column,
+    };
+    gaps::skip_on(s, &mut place);
+    place
+}
+
+// The same; most often only space bytes stand there, and nothing is lent.
+fn trim_spaces_first(s: &[u8], offset: usize, line: usize, column: usize) -> Place
+    requires { ⌜ IsPlace (now s) (placed offset line column) ⌝ }
+    ensures { λ r. ⌜ r ≡ placeAt (now (s .entry)) (gapEnd (now (s .entry)) offset) ⌝ }
+{
+    let at = gaps::spaces_end(s, offset);
+    let here = column + (at - offset);
+    if gaps::shows_no_gap(s, at) {
+        return Place {
+            offset: at,
+            line,
+            column: here,
+        };
+    }
+    trim_from(s, at, line, here)
+}
+
+// The cursor behind space and comments.
+pub fn trimmed(s: &[u8], c: Cursor) -> Cursor
+    requires { ⌜ IsPlace (now s) (c .place) ⌝ }
+    ensures { λ r. ⌜ r ≡ behindGap (now (s .entry)) c ⌝ }
+{
+    let place = c.place;
+    let at = c.at;
+    let area = c.area;
+    Cursor {
+        place: trim_spaces_first(s, place.offset, place.line, place.column),
+        at,
+        area,
+    }
+}
+
+// A value that is no number.
+fn write_token(
+    s: &[u8],
+    full: bool,
+    store: &mut [u8],
+    area: &mut [u8],
+    c: Cursor,
+    kind: u8,
+    size: usize,
+) -> Cursor
+    requires { ⌜ TokenAhead full (now s) kind size (desk c (now store) (now area)) ⌝ }
+    ensures { λ r. ⌜ WroteToken full (now (s .entry)) kind size (desk c (now (store .entry)) (now (area .entry)))
+        (desk r (now (store .exit)) (now (area .exit))) ⌝ }
+{
+    if kind < Kind::BARE {
+        return putting::write_mark(s, full, store, c, kind, size);
+    }
+    putting::write_text(s, full, store, area, c, kind, size)
+}
+
+// A value that is found.
+fn write_found(
+    s: &[u8],
+    full: bool,
+    store: &mut [u8],
+    area: &mut [u8],
+    c: Cursor,
+    kind: u8,
+    size: usize,
+) -> Cursor
+    requires { ⌜ ValueAhead full (now s) kind size (desk c (now store) (now area)) ⌝ }
+    ensures { λ r. ⌜ WroteToken full (now (s .entry)) kind size (desk c (now (store .entry)) (now (area .entry)))
+        (desk r (now (store .exit)) (now (area .exit))) ⌝ }
+{
+    if kind < Kind::NUMBER {
+        return write_token(s, full, store, area, c, kind, size);
+    }
+    putting::write_number(s, full, store, c, kind, size)
+}
+
+// Values, until one fails: those of a loop, or of a tag, which in a text that is read has one.
+fn write_values(s: &[u8], full: bool, store: &mut [u8], area: &mut [u8], c: Cursor) -> Cursor
+    requires { ⌜ ValuesAhead full (now s) (desk c (now store) (now area)) ⌝ }
+    ensures { λ r. ⌜ WroteValues full (now (s .entry)) (desk c (now (store .entry)) (now (area .entry)))
+        (desk r (now (store .exit)) (now (area .exit))) ⌝ }
+{
+    let mut last = c;
+    loop {
+        let here = trimmed(s, last);
+        let place = here.place;
+        let offset = place.offset;
+        let token = items::pack_value(s, offset);
+        if token == 0 {
+            return here;
+        }
+        let kind = token % 16;
+        last = write_found(s, full, store, area, here, kind as u8, token / 16);
+    }
+}
+
+// How many tags stand from an offset on.
+fn count_tags(s: &[u8], from: usize) -> usize
+    requires { ⌜ from ≤ length (now s) ⌝ }
+    ensures { λ r. ⌜ r ≡ length (namesFrom (now (s .entry)) from) ⌝ }
+{
+    let mut at = gaps::gap_end(s, from);
+    let mut count: usize = 0;
+    while items::at_tag(s, at) {
+        at = gaps::gap_end(s, words::long_word_end(s, at));
+        count += 1;
+    }
+    count
+}
+
+// The names of a loop, while tags stand.
+fn write_names(s: &[u8], full: bool, store: &mut [u8], area: &mut [u8], c: Cursor) -> Cursor
+    requires { ⌜ NamesAhead full (now s) (desk c (now store) (now area)) ⌝ }
+    ensures { λ r. ⌜ WroteNames full (now (s .entry)) (desk c (now (store .entry)) (now (area .entry)))
+        (desk r (now (store .exit)) (now (area .exit))) ⌝ }
+{
+    let mut last = c;
+    loop {
+        let here = trimmed(s, last);
+        let place = here.place;
+        let offset = place.offset;
+        if !items::at_tag(s, offset) {
+            return here;
+        }
+        let end = words::long_word_end(s, offset);
+        last = putting::write_text(s, full, store, area, here, Kind::LOOP_TAG, end - offset);
+    }
+}
+
+// A loop: its record counts the names, so they are counted first.
+fn write_loop_item(s: &[u8], full: bool, store: &mut [u8], area: &mut [u8], c: Cursor) -> Cursor
+    requires { ⌜ ItemHere full (now s) (desk c (now store) (now area)) × (startsAt keyLoop (now s) (c .place .offset) ≡ true) ⌝ }
+    ensures { λ r. ⌜ WroteItem full (now (s .entry)) (desk c (now (store .entry)) (now (area .entry)))
+        (desk r (now (store .exit)) (now (area .exit))) ⌝ }
+{
+    let place = c.place;
+    let offset = place.offset;
+    let tags = count_tags(s, offset + putting::KEYWORD);
+    let opened = putting::write_loop(s, full, store, c, tags);
+    let named = write_names(s, full, store, area, opened);
+    let valued = write_values(s, full, store, area, named);
+    putting::write_end(full, store, valued)
+}
+
+// A tag and its value.
+fn write_tag_item(s: &[u8], full: bool, store: &mut [u8], area: &mut [u8], c: Cursor) -> Cursor
+    requires { ⌜ ItemHere full (now s) (desk c (now store) (now area)) × (tagAt (now s) (c .place .offset) ≡ true) ⌝ }
+    ensures { λ r. ⌜ WroteItem full (now (s .entry)) (desk c (now (store .entry)) (now (area .entry)))
+        (desk r (now (store .exit)) (now (area .exit))) ⌝ }
+{
+    let place = c.place;
+    let offset = place.offset;
+    let end = words::long_word_end(s, offset);
+    let tagged = putting::write_text(s, full, store, area, c, Kind::TAG, end - offset);
+    write_values(s, full, store, area, tagged)
+}
+
+// An item.
+pub fn write_item(s: &[u8], full: bool, store: &mut [u8], area: &mut [u8], c: Cursor) -> Cursor
+    requires { ⌜ ItemHere full (now s) (desk c (now store) (now area)) ⌝ }
+    ensures { λ r. ⌜ WroteItem full (now (s .entry)) (desk c (now (store .entry)) (now (area .entry)))
+        (desk r (now (store .exit)) (now (area .exit))) ⌝ }
+{
+    let place = c.place;
+    let offset = place.offset;
+    if keywords::at_loop(s, offset) {
+        return write_loop_item(s, full, store, area, c);
+    }
+    write_tag_item(s, full, store, area, c)
+}
