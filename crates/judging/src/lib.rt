@@ -4,8 +4,8 @@ ghost use Rattle.grammar.specs.Reading.{outline as outlineOf};
 ghost use Rattle.deciding.specs.Decisions.{told};
 ghost use Rattle.judging.specs.Judging.{judgement, judgedAs, declined};
 use deciding::Decision;
-use sizes::Sizes;
 use refusals::Refusal;
+use sizes::Sizes;
 
 // The bytes of the largest text.
 const LIMIT: usize = 16777216;

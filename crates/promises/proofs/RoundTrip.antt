@@ -34,7 +34,6 @@ use Rattle.sizes.specs.Sizes.{storeSize, areaSize}
 use Rattle.words.proofs.Ended.{word-ended}
 use Rattle.keywords.proofs.Ended.{starts-ended, noLf}
 use Rattle.grammar.proofs.Advance.{advance₀}
-
 use Rattle.reading.specs.Services.{readAnswer}
 use Rattle.entries.specs.Walk.{entries}
 use Rattle.nesting.specs.declared.Stand.the-variants.{Stands, Falls}

@@ -3,10 +3,10 @@ ghost use mathlib.Core.Path.{_≡_};
 ghost use lib.ListN.{length};
 ghost use Rattle.reading.specs.Services.{readAnswer, readStore, readArea, readingReport};
 ghost use Rattle.judging.specs.Judging.{IsRead};
-use sizes::Sizes;
 use judging::Judged;
 use places::Report;
 use refusals::Refusal;
+use sizes::Sizes;
 
 // Read's answer: done, with the lengths written; a refusal of the text; or no room, with the lengths needed.
 pub enum Reading {

@@ -9,7 +9,6 @@ use Rattle.gaps.specs.Gaps.{gap, gapEnd}
 use Rattle.gaps.proofs.Gaps.{gap-none}
 use Rattle.gaps.proofs.Bare.{gap-bare, gap-twice}
 use Rattle.places.proofs.Places.{place-offset}
-
 use Rattle.words.specs.Words.{wordEnd}
 use Rattle.kinds.specs.Kinds.{kindOf, shapeOf}
 use Rattle.items.specs.declared.Found.the-variants.{Value}

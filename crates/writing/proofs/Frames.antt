@@ -15,7 +15,6 @@ use Rattle.places.proofs.Places.{place-offset, place-own}
 use Rattle.gaps.proofs.Gaps.{gap-whole}
 use Rattle.gaps.proofs.Bare.{gap-bare}
 use Rattle.places.specs.declared.Place.{Place}
-
 use Rattle.words.specs.Words.{word, wordEnd}
 use Rattle.keywords.specs.Keywords.{startsAt, keyLoop, keySave}
 use Rattle.keywords.proofs.Keywords.{save-word}
