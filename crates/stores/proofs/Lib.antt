@@ -5,3 +5,4 @@ pub mod Contents
 pub mod Filling
 pub mod Looking
 pub mod Records
+pub mod Walks
