@@ -11,15 +11,15 @@ use lib.Dec.{eqb}
 use lib.ListN.{length, take, drop, getD, length-take, length-drop, drop-of-length-le}
 use lib.Seq.{take-all, take-nil}
 use Rattle.text.proofs.Bools.{or-cases}
-use Rattle.records.specs.declared.Kind.{Kind}
-use Rattle.records.specs.declared.Fields.{Fields}
-use Rattle.records.specs.declared.Entry.{Entry}
-use Rattle.records.specs.declared.Entry.the-variants.{Record, Nothing}
-use Rattle.records.specs.Kinds.{numberOf, marksOf}
-use Rattle.records.specs.Entries.{entryAt}
-use Rattle.stores.specs.Walk.{entriesFrom, entries}
-use Rattle.stores.specs.Contents.{contentBytes}
-use Rattle.stores.proofs.Walking.{rest, rest-over, rest-none, next-at}
+use Rattle.kinds.specs.declared.Kind.{Kind}
+use Rattle.entries.specs.declared.Fields.{Fields}
+use Rattle.entries.specs.declared.Entry.{Entry}
+use Rattle.entries.specs.declared.Entry.the-variants.{Record, Nothing}
+use Rattle.kinds.specs.Kinds.{numberOf, marksOf}
+use Rattle.entries.specs.Entries.{entryAt}
+use Rattle.entries.specs.Walk.{entriesFrom, entries}
+use Rattle.contents.specs.Contents.{contentBytes}
+use Rattle.entries.proofs.Walking.{rest, rest-over, rest-none, next-at}
 use Rattle.stores.proofs.Walks.{rest-is, entries-first, content-part}
 use Rattle.names.specs.declared.Spot.{Spot}
 use Rattle.names.specs.declared.Named.{Named}

@@ -5,13 +5,13 @@ use mathlib.Core.Bool.{Bool, cond, _||_}
 use mathlib.Core.List.{List, [], _∷_}
 use lib.Dec.{eqb}
 use lib.ListN.{length, take, drop}
-use Rattle.records.specs.declared.Kind.{Kind}
-use Rattle.records.specs.declared.Fields.{Fields}
-use Rattle.records.specs.declared.Entry.{Entry}
-use Rattle.records.specs.declared.Entry.the-variants.{Record, Nothing}
-use Rattle.records.specs.Entries.{entryAt}
-use Rattle.stores.specs.Walk.{entriesFrom}
-use Rattle.stores.specs.Contents.{contentBytes}
+use Rattle.kinds.specs.declared.Kind.{Kind}
+use Rattle.entries.specs.declared.Fields.{Fields}
+use Rattle.entries.specs.declared.Entry.{Entry}
+use Rattle.entries.specs.declared.Entry.the-variants.{Record, Nothing}
+use Rattle.entries.specs.Entries.{entryAt}
+use Rattle.entries.specs.Walk.{entriesFrom}
+use Rattle.contents.specs.Contents.{contentBytes}
 use Rattle.names.specs.declared.Named.{Named}
 use Rattle.names.specs.declared.Spot.{Spot}
 use Rattle.names.specs.declared.Next.{Next}

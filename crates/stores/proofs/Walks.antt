@@ -3,12 +3,12 @@ use Prim.Native.Nat.{ℕ, _-_}
 use mathlib.Core.Path.{_≡_, refl}
 use mathlib.Core.List.{List}
 use lib.ListN.{take, drop}
-use Rattle.records.specs.declared.Kind.{Kind}
-use Rattle.records.specs.declared.Fields.{Fields}
-use Rattle.records.specs.Kinds.{marksOf}
-use Rattle.stores.specs.Walk.{entriesFrom, entries}
-use Rattle.stores.specs.Contents.{contentBytes, contentLength}
-use Rattle.stores.proofs.Walking.{rest}
+use Rattle.kinds.specs.declared.Kind.{Kind}
+use Rattle.entries.specs.declared.Fields.{Fields}
+use Rattle.kinds.specs.Kinds.{marksOf}
+use Rattle.entries.specs.Walk.{entriesFrom, entries}
+use Rattle.contents.specs.Contents.{contentBytes, contentLength}
+use Rattle.entries.proofs.Walking.{rest}
 
 -- the entries from an offset on are those of the bytes from there on
 pub rest-is : (st : List ℕ) (at : ℕ) → entriesFrom (drop at st) 0 ≡ rest st at

@@ -5,9 +5,9 @@ use mathlib.Core.Path.{_≡_, refl, sym, _∙_}
 use mathlib.Core.Bool.{true, false}
 use native.Mathlib.Omega.{arith}
 use lib.ListN.{length}
-use Rattle.records.specs.declared.Entry.the-variants.{Record}
-use Rattle.records.specs.Kinds.{numberOf}
-use Rattle.records.specs.Entries.{entryAt}
+use Rattle.entries.specs.declared.Entry.the-variants.{Record}
+use Rattle.kinds.specs.Kinds.{numberOf}
+use Rattle.entries.specs.Entries.{entryAt}
 use Rattle.names.specs.Steps.{isNameKind, namesAt, Counted}
 use Rattle.names.proofs.Steps.{namesOn, names-spot, names-over, names-none, names-other, names-onwards, ahead-name, ahead-end}
 use Rattle.names.proofs.next_name.Statement.{statement}
