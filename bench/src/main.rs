@@ -5,6 +5,7 @@ mod gemmi;
 mod growth;
 mod inputs;
 mod library;
+mod names;
 mod options;
 mod reading;
 mod source;
@@ -47,6 +48,9 @@ fn run(options: &Options) {
     }
     if options.stores {
         stores::report(options.effort, &inputs);
+    }
+    if options.names {
+        names::report(options.effort);
     }
     if options.growth {
         growth::report(options.growth_effort);

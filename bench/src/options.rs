@@ -11,6 +11,7 @@ bench/run [OPTION...] [FILE...]: times the library on made texts, and on the fil
   --files-only  the files alone, no made texts
   --reading     only the tables of Read and Outline
   --stores      only the table of stores
+  --names       only the table of name checks
   --growth      only the table of growth
   --help        this
 ";
@@ -22,6 +23,7 @@ pub struct Options {
     pub standard: bool,
     pub reading: bool,
     pub stores: bool,
+    pub names: bool,
     pub growth: bool,
     pub files: Vec<String>,
 }
@@ -48,6 +50,7 @@ pub fn wish(words: impl Iterator<Item = String>) -> Wish {
         standard: true,
         reading: false,
         stores: false,
+        names: false,
         growth: false,
         files: Vec::new(),
     };
@@ -58,13 +61,15 @@ pub fn wish(words: impl Iterator<Item = String>) -> Wish {
             "--files-only" => options.standard = false,
             "--reading" => options.reading = true,
             "--stores" => options.stores = true,
+            "--names" => options.names = true,
             "--growth" => options.growth = true,
             unclear if unclear.starts_with('-') => return Wish::Unclear(word),
             _ => options.files.push(word),
         }
     }
-    if !(options.reading || options.stores || options.growth) {
-        (options.reading, options.stores, options.growth) = (true, true, true);
+    if !(options.reading || options.stores || options.names || options.growth) {
+        (options.reading, options.stores) = (true, true);
+        (options.names, options.growth) = (true, true);
     }
     Wish::Run(options)
 }
@@ -82,7 +87,8 @@ mod tests {
         let Wish::Run(options) = said("") else {
             panic!("that is a run")
         };
-        assert!(options.standard && options.reading && options.stores && options.growth);
+        assert!(options.standard && options.reading && options.stores);
+        assert!(options.names && options.growth);
     }
 
     #[test]
@@ -90,7 +96,8 @@ mod tests {
         let Wish::Run(options) = said("--growth --files-only a.cif b.cif") else {
             panic!("that is a run")
         };
-        assert!(options.growth && !options.reading && !options.stores && !options.standard);
+        assert!(options.growth && !options.reading && !options.stores);
+        assert!(!options.names && !options.standard);
         assert_eq!(options.files, ["a.cif", "b.cif"]);
     }
 

@@ -1,6 +1,6 @@
 #!/usr/bin/env bash
 # Builds the C programs against the library and runs them: calls.c as it is, outline.c on every file of examples/ that has an outline
-# beside it, and the README's example. CHUNTAREK_LIB_DIR names the folder of libchuntarek.a; without it that is target/staticlib, made if it is missing.
+# beside it, the README's example, and stack.c on all files of examples/ with a stack of 96 KiB. CHUNTAREK_LIB_DIR names the folder of libchuntarek.a; without it that is target/staticlib, made if it is missing.
 set -euo pipefail
 here=$(cd "$(dirname "$0")" && pwd)
 root=$(cd "$here/../.." && pwd)
@@ -16,7 +16,7 @@ fi
 [ -f "$library" ] || fail "no library at $library"
 
 # build SOURCE PROGRAM
-build() { "${CC:-gcc}" -O2 -Wall -Wextra -Werror -std=c11 -I "$here" "$1" "$library" -o "$work/$2"; }
+build() { "${CC:-gcc}" -O2 -Wall -Wextra -Werror -std=c11 -pthread -I "$here" "$1" "$library" -o "$work/$2"; }
 
 # A refused file has status 1, any other 0.
 expected_status() { if grep -q '^refused' "$1"; then echo 1; else echo 0; fi; }
@@ -50,4 +50,7 @@ kind 1 at line 1, column 1
 kind 4 at line 1, column 8
 kind 15 at line 1, column 11
 TEXT
+
+build "$here/stack.c" stack
+"$work/stack" 96 "$root"/examples/*.cif "$root"/examples/refused/*.cif >"$work/got" || fail "a service needs more stack than it may"
 echo "bindings/c: every function called, $count outlines as expected"

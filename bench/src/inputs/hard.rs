@@ -64,7 +64,7 @@ pub const SORTS: [Sort; 11] = [
         name: "names",
         count: 50_000,
         source_count: 2_000,
-        text: |n| tags((0..n).map(|number| format!("t{number}"))),
+        text: plain_tags,
     },
     Sort {
         name: "names of one loop",
@@ -79,12 +79,33 @@ pub const SORTS: [Sort; 11] = [
         name: "names of one place",
         count: 2_000,
         source_count: 2_000,
-        text: |n| {
-            let names = (0..).map(|number| format!("t{number}"));
-            tags(names.filter(|name| is_crowded(name)).take(n))
-        },
+        text: crowded_tags,
     },
 ];
+
+/// A block of so many tags, each another.
+pub fn plain_tags(n: usize) -> String {
+    tags((0..n).map(|number| format!("t{number}")))
+}
+
+/// A block of so many tags, each another, that the name check's table puts at one place.
+pub fn crowded_tags(n: usize) -> String {
+    let names = (0..).map(|number| format!("t{number}"));
+    tags(names.filter(|name| is_crowded(name)).take(n))
+}
+
+/// So many frames, each with so many tags.
+pub fn framed_tags(frames: usize, each: usize) -> String {
+    let mut text = String::from("data_x\n");
+    for frame in 0..frames {
+        let _ = writeln!(text, "save_f{frame}");
+        for number in 0..each {
+            let _ = writeln!(text, "_t{number} .");
+        }
+        text.push_str("save_\n");
+    }
+    text
+}
 
 /// A block of these tags, each with a value.
 fn tags(names: impl Iterator<Item = String>) -> String {
@@ -96,10 +117,10 @@ fn tags(names: impl Iterator<Item = String>) -> String {
 }
 
 /// Whether the name check's table puts a name of the block among its first 64 places, where soon no
-/// place is free: such names it must look for one by one.
+/// place is free: such names it must sort.
 fn is_crowded(name: &str) -> bool {
     let mix =
         |hash: u64, byte: u8| hash % (1 << 32) * 698_769_069 + ((hash >> 32) + u64::from(byte));
     let hash = name.bytes().chain([0, 0]).fold(0, mix);
-    hash % 65_536 < 64
+    hash % 12_288 < 64
 }

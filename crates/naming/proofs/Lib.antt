@@ -1,5 +1,2 @@
-pub mod Same
 pub mod Repeats
-pub mod Steps
-pub mod Slots
-pub mod Passes
+pub mod Scopes

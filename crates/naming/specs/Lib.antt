@@ -1,3 +1,2 @@
 pub mod Names
-pub mod Steps
-pub mod Table
+pub mod Scopes

@@ -2,7 +2,7 @@
 use borrow.Author.Needs.{needs}
 use mathlib.Core.Path.{sym, _∙_}
 use borrow.Author.Tests.{not-true, not-false}
-use Rattle.naming.proofs.Passes.{check-unsound, check-sound}
+use Rattle.naming.proofs.Repeats.{check-unsound, check-sound}
 use Rattle.naming.proofs.check_names.Statement.{statement}
 use Rattle.naming.proofs.check_names.Tie as tie
 

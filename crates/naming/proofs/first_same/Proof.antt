@@ -4,10 +4,11 @@ use Prim.Native.Nat.{_-_, _≤_, _<_}
 use mathlib.Core.Path.{_≡_, refl, sym, ap, _∙_}
 use native.Mathlib.Omega.{arith}
 use lib.ListN.{take}
-use Rattle.naming.specs.Names.{names, firstSame}
-use Rattle.naming.specs.Steps.{nameOf, namesAt, Counted, earlierOf}
+use Rattle.names.specs.Names.{names, firstSame}
+use Rattle.names.specs.Steps.{nameOf, namesAt, Counted}
+use Rattle.naming.specs.Scopes.{earlierOf}
 use Rattle.naming.proofs.Repeats.{first-over, first-end, first-hit, first-miss}
-use Rattle.naming.proofs.Steps.{met, ended, names-first, counted-first}
+use Rattle.names.proofs.Steps.{met, ended, names-first, counted-first}
 use Rattle.naming.proofs.first_same.Statement.{statement}
 use Rattle.naming.proofs.first_same.Tie as tie
 
@@ -43,7 +44,7 @@ same-both-requires : tie.Need-same-both-requires Inv-loop μ-loop
 same-both-requires c κs = (met _ _ _ _ _ _ (c .before .before .before .next-name .ensures) (c .before .name .given .1) .inside, c .before .before .before .before .before .before .before .before .before .pre)
 
 returns-2 : tie.Need-returns-2 Inv-loop μ-loop
-unfolding earlierOf nameOf
+unfolding earlierOf
 returns-2 c =
     let here = c .before .before .before .before .before .before .before .loop in
     let m = met _ _ _ _ _ _ (c .before .before .before .before .before .next-name .ensures) (c .before .before .before .name .given .1) in

@@ -2,10 +2,11 @@
 use Prim.Native.Nat.{ℕ, _+_, _-_, _≤_, _<_}
 use mathlib.Core.Path.{_≡_, refl, sym, ap, _∙_}
 use lib.ListN.{length, take}
-use Rattle.naming.specs.Names.{names, repeatFrom, namingOf}
-use Rattle.naming.specs.Steps.{nameOf, namesAt, Reached}
-use Rattle.naming.proofs.Repeats.{repeat-end, repeat-hit, repeat-miss}
-use Rattle.naming.proofs.Steps.{met, ended, reached-next, meets-less, earlier-at, earlier-missing}
+use Rattle.names.specs.Names.{names}
+use Rattle.naming.specs.Names.{repeatFrom, namingOf}
+use Rattle.names.specs.Steps.{nameOf, namesAt, Reached}
+use Rattle.naming.proofs.Repeats.{repeat-end, repeat-hit, repeat-miss, earlier-at, earlier-missing}
+use Rattle.names.proofs.Steps.{met, ended, reached-next, meets-less}
 use Rattle.naming.proofs.repeat_from.Statement.{statement}
 use Rattle.naming.proofs.repeat_from.Tie as tie
 
@@ -43,7 +44,6 @@ enum-known-earlier : tie.Need-enum-known-earlier Inv-loop μ-loop
 enum-known-earlier c = c .match2 .keys1
 
 returns-2 : tie.Need-returns-2 Inv-loop μ-loop
-unfolding nameOf
 returns-2 c =
     let here = c .before .before .before .before .before .before .before .before .loop in
     let m = met _ _ _ _ _ _ (c .before .before .before .before .before .before .before .next-name .ensures) (c .before .before .before .before .before .name .given .1) in

@@ -1,0 +1,5 @@
+pub mod Lists
+pub mod Same
+pub mod Numbers
+pub mod Order
+pub mod Steps

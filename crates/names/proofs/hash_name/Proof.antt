@@ -1,0 +1,71 @@
+-- `names::hash_name`: the number of the whole name is that of what is left. Assumes nothing.
+use borrow.Author.Needs.{needs}
+use Prim.Native.Nat.{_+_, _-_, _≤_, _<_}
+use mathlib.Core.Path.{_≡_, refl, sym, ap, _∙_}
+use native.Mathlib.Omega.{arith}
+use lib.ListN.{length}
+use Rattle.names.specs.Steps.{part, nameOf, Inside}
+use Rattle.names.specs.Numbers.{mixAll, hashOf}
+use Rattle.names.proofs.Numbers.{mixLeft, mix-first, mix-go, mix-done}
+use Rattle.names.proofs.hash_name.Statement.{statement}
+use Rattle.names.proofs.hash_name.Tie as tie
+
+abbrev Inv-loop : tie.InvT-loop
+Inv-loop area from size h₀ i₀ h i = (from + size ≤ length area) × (mixAll h₀ (part area from size) ≡ mixLeft area from size h i)
+
+abbrev μ-loop : tie.MeasureT-loop
+μ-loop area from size h₀ i₀ h i = size - i
+
+loop-holds : tie.Need-loop-holds Inv-loop μ-loop
+loop-holds c = (c .before .pre, mix-first _ _ _ _)
+
+add-mix : tie.Need-add-mix Inv-loop μ-loop
+add-mix c = omega arith
+
+shared-slice-read-mix : tie.Need-shared-slice-read-mix Inv-loop μ-loop
+shared-slice-read-mix c = omega arith
+
+mix-requires : tie.Need-mix-requires Inv-loop μ-loop
+mix-requires c κs = search needs
+
+add-i : tie.Need-add-i Inv-loop μ-loop
+add-i c = omega arith
+
+loop-less : tie.Need-loop-less Inv-loop μ-loop
+loop-less c = omega arith
+
+loop-again : tie.Need-loop-again Inv-loop μ-loop
+loop-again c =
+    let here = c .before .before .before .loop in
+    (here .inv .0, here .inv .1 ∙ mix-go _ _ _ _ _ (here .inv .0) (c .before .before .loop-test .taken) ∙ rw (c .mix .ensures))
+
+mix-requires-2 : tie.Need-mix-requires-2 Inv-loop μ-loop
+mix-requires-2 c κs = search needs
+
+mix-requires-3 : tie.Need-mix-requires-3 Inv-loop μ-loop
+mix-requires-3 c κs = search needs
+
+returns : tie.Need-returns Inv-loop μ-loop
+unfolding hashOf
+returns c =
+    let args = c .before .before .before .before .before .args in
+    let here = c .before .before .before .loop in
+    let done = mix-done (args .area .now) (args .x .from) (args .x .size) (here .h) (here .i) (c .before .before .loop-test .left) in
+    c .mix3 .ensures ∙ rw (c .before .mix2 .ensures, here .inv .1, done)
+
+pub hash-name-spec : {M : Type 1} → statement M
+hash-name-spec =
+    tie.close
+    (tie.spec
+    Inv-loop
+    μ-loop
+    loop-holds
+    add-mix
+    shared-slice-read-mix
+    mix-requires
+    add-i
+    loop-less
+    loop-again
+    mix-requires-2
+    mix-requires-3
+    returns)

@@ -1,0 +1,4 @@
+pub mod Names
+pub mod Order
+pub mod Numbers
+pub mod Steps
