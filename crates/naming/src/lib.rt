@@ -1,16 +1,12 @@
 // The name check: within one scope no name stands twice.
 ghost use mathlib.Core.Path.{_≡_};
-ghost use Prim.Native.Nat.{_≤_, _<_, _+_, _-_};
+ghost use Prim.Native.Nat.{ℕ, _≤_, _<_};
 ghost use lib.ListN.{take};
 ghost use Rattle.places.specs.Reports.{refusedBare};
 ghost use Rattle.names.specs.Names.{names, firstSame};
 ghost use Rattle.names.specs.Steps.{nameOf, Inside, namesAt, Reached};
 ghost use Rattle.naming.specs.Names.{repeatFrom, namingOf, nameCheck, namingReport};
 ghost use Rattle.naming.specs.Scopes.{earlierOf, Stretch, Framed, Frames, FreshTo};
-ghost use Rattle.naming.specs.Steps.{first};
-use entries::Entry;
-use entries::Fields;
-use kinds::Kind;
 use names::Named;
 use names::Next;
 use names::Spot;
