@@ -28,6 +28,7 @@ use Rattle.stores.specs.Nesting.{nested}
 use Rattle.stores.specs.Contents.{readable, exponentKept, partsKept, contentLength, contentKept, ownRule, takes, filledFrom, filled}
 use Rattle.stores.specs.Soundness.{sound}
 use Rattle.promises.specs.Results.{storeBytes, areaBytes}
+use Rattle.promises.specs.Claims.{IsRead}
 use Rattle.promises.proofs.Taken.{Read, Outline, outline-taken}
 use Rattle.promises.proofs.Sources.{Each, none, also, sources, Source, Facts, facts}
 use Rattle.promises.proofs.Written.{fieldsIn, entryOf, written, Only, only-kind, bounded, written-back}
@@ -102,7 +103,8 @@ records-sound s rs e =
     rw (written-back s rs h, nested-written s rs h) (filled-written s (h .fits) (h .ascii) (sources (h .read .taken)) [] 0 refl)
 
 -- WHAT READ WRITES IS SOUND
-pub read-is-sound : (s store area : List ℕ) → readAnswer s (length store) (length area) .number ≡ 0 → sound (storeBytes s store area) (areaBytes s store area) ≡ true
+pub read-is-sound : (s store area : List ℕ) → IsRead s store area → sound (storeBytes s store area) (areaBytes s store area) ≡ true
+unfolding IsRead
 read-is-sound s store area e =
     let d = read-done s (length store) (length area) e in
     let r = reads s store area (d .records) (d .read) (d .store) (d .area) in

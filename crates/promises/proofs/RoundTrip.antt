@@ -44,6 +44,7 @@ use Rattle.stores.specs.Soundness.{sound}
 use Rattle.rendering.specs.Rendering.{isEnd, tokenText, linesOf, rendering, limit as renderLimit, renderRoom, renderAnswer, renderOut}
 use Rattle.promises.specs.Sayings.{Bytes, saying, sayings, SaySame}
 use Rattle.promises.specs.Results.{renderedBytes, storeBytes, areaBytes}
+use Rattle.promises.specs.Claims.{Renderable, RoundTrip}
 use Rattle.promises.proofs.Reading.{Reads, reads}
 use Rattle.promises.proofs.Lines.{Line, line, ending, render, recsAt, modeOf, at-items}
 use Rattle.promises.proofs.Taken.{outline-taken}
@@ -153,20 +154,14 @@ renders st ar text e l m =
     let q = le-ltb (length text) (length (rendering st ar)) m in
     (rw (e, p, q), rw (e, p, q) (take-append-seam (rendering st ar) _))
 
--- THE ROUND TRIP: Render to the lent text, then Read of what it wrote, to the lent store and area
-pub record RoundTrip (st ar text store area : List ℕ) : Type 0 where
-  pub rendered : renderAnswer st ar (length text) ≡ success (length (rendering st ar)) 0
-  pub read : readAnswer (renderedBytes st ar text) (length store) (length area) ≡ success (length st) (length ar)
-  pub same : SaySame (storeBytes (renderedBytes st ar text) store area) (areaBytes (renderedBytes st ar text) store area) st ar
-
-pub round-trip : (st ar text store area : List ℕ) → Bytes st → sound st ar ≡ true → length (rendering st ar) ≤ 16777216
-    → length (rendering st ar) ≤ length text → length st ≤ length store → length ar ≤ length area → RoundTrip st ar text store area
+-- THE ROUND TRIP
+pub round-trip : (st ar text store area : List ℕ) → Renderable st ar text store area → RoundTrip st ar text store area
 unfolding limit SaySame
-round-trip st ar text store area b e l room₁ room₂ room₃ =
+round-trip st ar text store area h =
     let t = rendering st ar in
-    let x = back st ar b e l in
-    let w = renders st ar text e l room₁ in
-    let r = reads t store area (records st ar) (x .read) (rw (x .store) room₂) (rw (x .area) room₃) in
+    let x = back st ar (h .bytes) (h .is-sound) (h .limited) in
+    let w = renders st ar text (h .is-sound) (h .limited) (h .text-room) in
+    let r = reads t store area (records st ar) (x .read) (rw (x .store) (h .store-room)) (rw (x .area) (h .area-room)) in
     record {
       rendered = w .0;
       read = rw (w .1) (r .answer ∙ rw (x .store, x .area));

@@ -8,9 +8,9 @@ use Rattle.stores.specs.declared.Content.{Content}
 use Rattle.stores.specs.declared.Content.the-variants.{Part as Found, NotSound, NoContent}
 use Rattle.stores.specs.declared.Walked.{Walked}
 use Rattle.stores.specs.declared.Walked.the-variants.{Record as Met, NoRecord}
-use Rattle.chuntarek.specs.declared.Answer.{Answer}
-use Rattle.chuntarek.specs.declared.Part.{Part}
-use Rattle.chuntarek.specs.declared.Record.{Record}
+use Rattle.exports.specs.declared.Answer.{Answer}
+use Rattle.exports.specs.declared.Part.{Part}
+use Rattle.exports.specs.declared.Record.{Record}
 
 -- an answer, number for number
 unfoldable pub exported : Report → Answer
