@@ -218,7 +218,7 @@ cif-at s fits k f x {sg} {i} {fr} {esg} {e} {u} {b} v c l =
 module _ (s store area : List ℕ) (done : IsRead s store area) (i : ℕ) (k : Kind) (f : Fields) (next : ℕ) (here : nth (entries (storeBytes s store area)) i ≡ Record k f next) where
   found : Done s (length store) (length area)
   unfolding IsRead
-  found = read-done s (length store) (length area) done
+  found = read-done s (length store) (length area) (omega (arith, done))
 
   outlined : Outline s (found .records)
   outlined = outline-taken s (found .records) (found .read)

@@ -106,6 +106,6 @@ records-sound s rs e =
 pub read-is-sound : (s store area : List ℕ) → IsRead s store area → sound (storeBytes s store area) (areaBytes s store area) ≡ true
 unfolding IsRead
 read-is-sound s store area e =
-    let d = read-done s (length store) (length area) e in
+    let d = read-done s (length store) (length area) (omega (arith, e)) in
     let r = reads s store area (d .records) (d .read) (d .store) (d .area) in
     rw (r .stored, r .contents) (records-sound s (d .records) (d .read))

@@ -4,7 +4,7 @@
 -- parts (reads-back). Assumes nothing but that the store is bytes.
 use Prim.Native.Nat.{ℕ, suc, _+_, _-_, _≤_}
 use mathlib.Core.Bool.{true≢false, false≢true, Bool, true, false, cond, _&&_}
-use mathlib.Core.Path.{_≡_, refl, sym, ap, _∙_}
+use mathlib.Core.Path.{_≡_, refl, sym, ap, ap₂, _∙_}
 use mathlib.Core.List.{List, [], _∷_, _++_, map}
 use mathlib.Core.Option.{none}
 use native.Mathlib.Omega.{arith}
@@ -159,11 +159,12 @@ pub round-trip : (st ar text store area : List ℕ) → Renderable st ar text st
 unfolding limit SaySame
 round-trip st ar text store area h =
     let t = rendering st ar in
-    let x = back st ar (h .bytes) (h .is-sound) (h .limited) in
-    let w = renders st ar text (h .is-sound) (h .limited) (h .text-room) in
+    let limited : length (rendering st ar) ≤ 16777216 = omega (arith, h .limited) in
+    let x = back st ar (h .bytes) (h .is-sound) limited in
+    let w = renders st ar text (h .is-sound) limited (h .text-room) in
     let r = reads t store area (records st ar) (x .read) (rw (x .store) (h .store-room)) (rw (x .area) (h .area-room)) in
     record {
       rendered = w .0;
-      read = rw (w .1) (r .answer ∙ rw (x .store, x .area));
+      read = rw (w .1) (r .answer ∙ ap₂ success (omega (arith, x .store)) (omega (arith, x .area)));
       same = rw (w .1, r .stored, r .contents) (sayings-told t (records st ar) (outline-taken t (records st ar) (x .read)) ∙ x .same);
     }
