@@ -1,4 +1,5 @@
--- What each exported function answers, for what it is lent: the answer of its service as the struct that C and Rust get. Assumes nothing.
+-- What each exported function answers, for what it is lent: the answer of its service as the struct that C and Rust get. Assumes
+-- nothing.
 use Prim.Native.Nat.{ℕ}
 use mathlib.Core.List.{List}
 use lib.ListN.{length}

@@ -8,7 +8,8 @@ use exports::Answer;
 use exports::Part;
 use exports::Record;
 
-// Reads a text: records to the store, contents to the area. What it writes is sound (promises/proofs/Exported, read-gives-sound).
+// Reads a text: records to the store, contents to the area. What it writes is sound: promises/proofs/Exported has this
+// (read-gives-sound) and what is said of the next two.
 #[no_mangle]
 pub extern "C" fn chuntarek_read(text: &[u8], store: &mut [u8], area: &mut [u8]) -> Answer
     ensures answers { λ r. ⌜ r ≡ readGives (now (text .entry)) (now (store .entry)) (now (area .entry)) ⌝ }
@@ -18,7 +19,7 @@ pub extern "C" fn chuntarek_read(text: &[u8], store: &mut [u8], area: &mut [u8])
     exports::numbers_of(reading::read(text, store, area).report())
 }
 
-// Outlines a text: kinds and places to the store. Neither digits nor contents show (there, outline-hides-digits, outline-hides-contents).
+// Outlines a text: kinds and places to the store. Neither digits nor contents show (outline-hides-digits, outline-hides-contents).
 #[no_mangle]
 pub extern "C" fn chuntarek_outline(text: &[u8], store: &mut [u8]) -> Answer
     ensures answers { λ r. ⌜ r ≡ outlineGives (now (text .entry)) (now (store .entry)) ⌝ }
@@ -27,7 +28,7 @@ pub extern "C" fn chuntarek_outline(text: &[u8], store: &mut [u8]) -> Answer
     exports::numbers_of(reading::outline(text, store).report())
 }
 
-// Renders a store with its area. What it writes is read back to the same (there, read-back).
+// Renders a store with its area. What it writes is read back to the same (read-back).
 #[no_mangle]
 pub extern "C" fn chuntarek_render(store: &[u8], area: &[u8], out: &mut [u8]) -> Answer
     ensures answers { λ r. ⌜ r ≡ renderGives (now (store .entry)) (now (area .entry)) (now (out .entry)) ⌝ }

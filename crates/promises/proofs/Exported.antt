@@ -1,8 +1,12 @@
--- THE EXPORTED FUNCTIONS keep demands 2 and 3 (document 01). Proved of what the contracts in crates/chuntarek say that they answer and leave in the lent buffers, for any buffers:
--- chuntarek_outline answers the same, in number, place, detail and lengths, and leaves the same bytes in the store, for two texts where digits alone differ, refusals included
--- (outline-hides-digits), and where contents of a text that is read differ too (outline-hides-contents);
--- what chuntarek_read writes is sound (read-gives-sound), and chuntarek_render answers to it by the rendering's length alone: done, 1 or 11, never 12 (read-is-rendered);
--- chuntarek_render of a sound store, and chuntarek_read of that text, are done, and what is read back has the lengths of the store and its area and says the same (read-back).
+-- THE EXPORTED FUNCTIONS keep demands 2 and 3 (document 01). Proved of what the contracts in crates/chuntarek say that they answer and
+-- leave in the lent buffers, for any buffers:
+-- chuntarek_outline answers the same, in number, place, detail and lengths, and leaves the same bytes in the store, for two texts
+-- where digits alone differ, refusals included (outline-hides-digits), and where contents of a text that is read differ too
+-- (outline-hides-contents);
+-- what chuntarek_read writes is sound (read-gives-sound), and chuntarek_render answers to it by the rendering's length alone: done, 1
+-- or 11, never 12 (read-is-rendered);
+-- chuntarek_render of a sound store, and chuntarek_read of that text, are done, and what is read back has the lengths of the store and
+-- its area and says the same (read-back).
 -- Assumes nothing.
 use Prim.Native.Nat.{ℕ}
 use mathlib.Core.Bool.{true}

@@ -1,4 +1,5 @@
--- What the theorems of this crate claim, where a claim has parts: that a text is read; what the round trip asks for and gives; what a number's record says. Assumes nothing.
+-- What the theorems of this crate claim, where a claim has parts: that a text is read; what the round trip asks for and gives;
+-- what a number's record says. Assumes nothing.
 use Prim.Native.Nat.{ℕ, _≤_}
 use mathlib.Core.Path.{_≡_}
 use mathlib.Core.Bool.{Bool, true, cond}
@@ -20,7 +21,8 @@ use Rattle.promises.specs.Sayings.{Bytes, SaySame}
 unfoldable pub IsRead : (s store area : List ℕ) → Type 0
 IsRead s store area = readAnswer s (length store) (length area) .number ≡ 0
 
--- the store st, with its area ar, is sound; its rendering keeps limit 1; and there is room for the rendering and for what is read of it
+-- the store st, with its area ar, is sound; its rendering keeps limit 1; and there is room for the rendering and for what is
+-- read of it
 pub record Renderable (st ar text store area : List ℕ) : Type 0 where
   pub bytes : Bytes st
   pub is-sound : sound st ar ≡ true

@@ -1,5 +1,5 @@
--- What C and Rust meet: the bytes that the answers of the exported functions count in the lent buffers, and what demand 3 and the round trip say of those answers, whole: number, place,
--- detail and both lengths. Assumes nothing.
+-- What C and Rust meet: the bytes that the answers of the exported functions count in the lent buffers, and what demand 3 and the
+-- round trip say of those answers, whole: number, place, detail and both lengths. Assumes nothing.
 use Prim.Native.Nat.{ℕ}
 use mathlib.Core.Path.{_≡_}
 use mathlib.Core.List.{List}
