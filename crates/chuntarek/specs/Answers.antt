@@ -7,7 +7,8 @@ use Rattle.exports.specs.declared.Answer.{Answer}
 use Rattle.exports.specs.declared.Part.{Part}
 use Rattle.exports.specs.declared.Record.{Record}
 use Rattle.exports.specs.Exports.{exported, exportedPart, exportedRecord}
-use Rattle.reading.specs.Services.{readAnswer, outlineAnswer}
+use Rattle.reading.specs.Services.{readAnswer}
+use Rattle.outlining.specs.Outlining.{outlineAnswer}
 use Rattle.rendering.specs.Rendering.{renderAnswer}
 use Rattle.naming.specs.Names.{nameCheck, namingReport}
 use Rattle.stores.specs.Content.{contentAt, contentReport}

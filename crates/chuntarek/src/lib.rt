@@ -1,7 +1,8 @@
 // The functions that C and Rust call. Each hands its slices to the service of its name and its answer on as numbers.
 ghost use mathlib.Core.Path.{_≡_};
 ghost use lib.ListN.{length};
-ghost use Rattle.reading.specs.Services.{readStore, readArea, outlineStore};
+ghost use Rattle.reading.specs.Services.{readStore, readArea};
+ghost use Rattle.outlining.specs.Outlining.{outlineStore};
 ghost use Rattle.rendering.specs.Rendering.{renderOut};
 ghost use Rattle.chuntarek.specs.Answers.{readGives, outlineGives, renderGives, namesGive, contentGives, partGiven, recordGiven};
 use exports::Answer;
@@ -25,7 +26,7 @@ pub extern "C" fn chuntarek_outline(text: &[u8], store: &mut [u8]) -> Answer
     ensures answers { λ r. ⌜ r ≡ outlineGives (now (text .entry)) (now (store .entry)) ⌝ }
     ensures writes { λ r. ⌜ now (store .exit) ≡ outlineStore (now (text .entry)) (now (store .entry)) ⌝ }
 {
-    exports::numbers_of(reading::outline(text, store).report())
+    exports::numbers_of(outlining::outline(text, store).report())
 }
 
 // Renders a store with its area. What it writes is read back to the same (read-back).

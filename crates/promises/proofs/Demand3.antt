@@ -15,9 +15,9 @@ use lib.ListN.{length, getD}
 use Rattle.text.specs.Bytes.{isAscii}
 use Rattle.text.specs.Runs.{span}
 use Rattle.places.specs.Places.{placeAt}
-use Rattle.items.specs.Tokens.{before, tokens}
-use Rattle.items.specs.Machine.{Rec, Answer, refused, done, config, start}
-use Rattle.items.specs.Reading.{limit, decided, outline}
+use Rattle.grammar.specs.Tokens.{before, tokens}
+use Rattle.grammar.specs.Machine.{Rec, Answer, refused, done, config, start}
+use Rattle.grammar.specs.Reading.{limit, decided, outline}
 use Rattle.promises.specs.Differences.{insideRecs, Differ, DigitsDiffer, ContentsDiffer}
 use Rattle.promises.proofs.Places.{placeAt-w}
 use Rattle.promises.proofs.ShapeTokens.{outline-σ}

@@ -15,8 +15,8 @@ use mathlib.Core.List.{List}
 use lib.ListN.{length}
 use Rattle.exports.specs.Exports.{exported}
 use Rattle.chuntarek.specs.Answers.{readGives, outlineGives, renderGives}
-use Rattle.items.specs.Machine.{Rec, done}
-use Rattle.items.specs.Reading.{outline}
+use Rattle.grammar.specs.Machine.{Rec, done}
+use Rattle.grammar.specs.Reading.{outline}
 use Rattle.stores.specs.Soundness.{sound}
 use Rattle.rendering.specs.Rendering.{rendering, renderRoom, renderAnswer}
 use Rattle.promises.specs.Differences.{DigitsDiffer, ContentsDiffer}

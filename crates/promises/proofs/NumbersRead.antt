@@ -17,8 +17,9 @@ use Rattle.keywords.specs.Keywords.{reserved}
 use Rattle.quotes.specs.Quotes.{quoted, field}
 use Rattle.numbers.specs.declared.Decimal.{Decimal}
 use Rattle.numbers.specs.declared.Number.the-variants.{Is}
-use Rattle.numbers.specs.Parts.{parts, isNumber, within, value as valueOf, valueFrom}
-use Rattle.numbers.specs.Cuts.{startsNumber}
+use Rattle.numbers.specs.Parts.{parts, isNumber, within}
+use Rattle.cuts.specs.Digits.{value as valueOf, valueFrom}
+use Rattle.numbers.specs.Pieces.{startsNumber}
 use Rattle.numbers.specs.Meaning.{meaning, judged, numberOf as numberIn}
 use Rattle.numbers.specs.Cif.{CifNumeric, exact, uncertain, cifMeaning, cifWithin}
 use Rattle.numbers.proofs.Facts.{Bounded, no-number-by-first-byte, dot-alone}
@@ -35,14 +36,15 @@ use Rattle.records.specs.Bytes.{flag}
 use Rattle.kinds.specs.Kinds.{kindOf, numberOf, shapeOf}
 use Rattle.entries.specs.Entries.{stored}
 use Rattle.values.specs.Values.{Class, Reason, value, overLimit, nothing, openQuote, openField, Lexed, lexed, numberOr, wordOr, closed, lexValue, lexAsValue}
-use Rattle.items.specs.Machine.{Rec, loopEnd}
-use Rattle.items.proofs.Lexes.{pick}
-use Rattle.writing.specs.Writing.{tokenOf, tokenText, tagsOf, decimalOf as readDecimal}
+use Rattle.grammar.specs.Machine.{Rec, loopEnd}
+use Rattle.grammar.proofs.Lexes.{pick}
+use Rattle.walking.specs.Writing.{tagsOf}
+use Rattle.putting.specs.Written.{tokenOf, tokenText, decimalOf as readDecimal}
 use Rattle.reading.specs.Services.{readAnswer}
-use Rattle.stores.specs.Walk.{entries}
-use Rattle.stores.specs.Nesting.{isValueKind}
+use Rattle.entries.specs.Walk.{entries}
+use Rattle.nesting.specs.Nesting.{isValueKind}
 use Rattle.stores.specs.Content.{nth}
-use Rattle.rendering.specs.Rendering.{decimalOf}
+use Rattle.record_lines.specs.Lines.{decimalOf}
 use Rattle.promises.specs.Results.{storeBytes, tokenIn}
 use Rattle.promises.specs.Claims.{IsRead, IsNumber, SaysNumeric}
 use Rattle.promises.proofs.Lexing.{never, NumberWord}

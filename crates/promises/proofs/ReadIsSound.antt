@@ -18,14 +18,17 @@ use Rattle.kinds.specs.declared.Shape.{Shape}
 use Rattle.kinds.specs.declared.Shape.the-variants.{Empty, Place, Content as ContentShape, Count, Parts, PartsUncertain}
 use Rattle.kinds.specs.Kinds.{kindOf, shapeOf, marksOf, isContent, hasContent}
 use Rattle.entries.specs.Entries.{stored}
-use Rattle.items.specs.Machine.{Rec, Answer, refused, done}
-use Rattle.items.specs.Reading.{outline}
-use Rattle.items.specs.Sizes.{contentSize, storeSize, areaSize}
-use Rattle.writing.specs.Writing.{tokenOf, contentOf, decimalOf, tagsOf, storeOf, areaOf}
-use Rattle.reading.specs.Services.{refusal, readRoom, readBy, readAnswer}
-use Rattle.stores.specs.Walk.{entries}
-use Rattle.stores.specs.Nesting.{nested}
-use Rattle.stores.specs.Contents.{readable, exponentKept, partsKept, contentLength, contentKept, ownRule, takes, filledFrom, filled}
+use Rattle.grammar.specs.Machine.{Rec, Answer, refused, done}
+use Rattle.grammar.specs.Reading.{outline}
+use Rattle.sizes.specs.Sizes.{contentSize, storeSize, areaSize}
+use Rattle.walking.specs.Writing.{tagsOf, storeOf, areaOf}
+use Rattle.putting.specs.Written.{tokenOf, contentOf, decimalOf}
+use Rattle.reading.specs.Services.{readRoom, readBy, readAnswer}
+use Rattle.refusals.specs.Answers.{refusal}
+use Rattle.entries.specs.Walk.{entries}
+use Rattle.nesting.specs.Nesting.{nested}
+use Rattle.contents.specs.Contents.{readable, exponentKept, partsKept, contentLength, contentKept, ownRule}
+use Rattle.stores.specs.Soundness.{takes, filledFrom, filled}
 use Rattle.stores.specs.Soundness.{sound}
 use Rattle.promises.specs.Results.{storeBytes, areaBytes}
 use Rattle.promises.specs.Claims.{IsRead}

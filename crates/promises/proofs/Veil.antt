@@ -22,7 +22,7 @@ use Rattle.quotes.specs.Quotes.{more, quoted, fieldIn, field}
 use Rattle.numbers.specs.Parts.{Parts, parts, isNumber, within}
 use Rattle.numbers.proofs.Made.{all, others, number-made}
 use Rattle.values.specs.Values.{Class, block, loop, save, tag, value, overLimit, nothing, Reason, openQuote, openField, Lexed, lexed, numberOr, wordOr, closed, lexValue}
-use Rattle.items.specs.Tokens.{Mode, before, inBlock, inFrame, saveSize, lexIn, lex, after, Tok, emit, step, tokensFrom}
+use Rattle.grammar.specs.Tokens.{Mode, before, inBlock, inFrame, saveSize, lexIn, lex, after, Tok, emit, step, tokensFrom}
 use Rattle.promises.specs.Differences.{isMark, isQuoted}
 use Rattle.promises.proofs.Places.{take-map}
 use Rattle.text.proofs.Shape.{σ, flat, blind, eol-σ}

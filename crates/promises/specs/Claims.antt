@@ -13,7 +13,8 @@ use Rattle.kinds.specs.Kinds.{numberOf}
 use Rattle.entries.specs.declared.Fields.{Fields}
 use Rattle.reading.specs.Services.{readAnswer}
 use Rattle.stores.specs.Soundness.{sound}
-use Rattle.rendering.specs.Rendering.{decimalOf, rendering, renderAnswer}
+use Rattle.rendering.specs.Rendering.{rendering, renderAnswer}
+use Rattle.record_lines.specs.Lines.{decimalOf}
 use Rattle.promises.specs.Results.{renderedBytes, storeBytes, areaBytes}
 use Rattle.promises.specs.Sayings.{Bytes, SaySame}
 

@@ -7,7 +7,8 @@ use lib.ListN.{length, take}
 use Rattle.places.specs.Reports.{success}
 use Rattle.exports.specs.Exports.{exported}
 use Rattle.chuntarek.specs.Answers.{readGives, outlineGives, renderGives}
-use Rattle.reading.specs.Services.{readStore, readArea, outlineStore}
+use Rattle.reading.specs.Services.{readStore, readArea}
+use Rattle.outlining.specs.Outlining.{outlineStore}
 use Rattle.rendering.specs.Rendering.{rendering, renderOut}
 use Rattle.promises.specs.Sayings.{SaySame}
 
