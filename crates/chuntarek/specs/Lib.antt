@@ -1,1 +1,1 @@
-pub mod Exports
+pub mod Answers

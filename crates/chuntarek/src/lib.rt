@@ -1,239 +1,71 @@
 // The functions that C and Rust call. Each hands its slices to the service of its name and its answer on as numbers.
 ghost use mathlib.Core.Path.{_≡_};
-ghost use mathlib.Core.Bool.{cond};
-ghost use lib.Dec.{eqb};
-ghost use Prim.Native.Nat.{ℕ, _≤_};
 ghost use lib.ListN.{length};
-ghost use Rattle.reading.specs.Services.{readAnswer, readStore, readArea};
-ghost use Rattle.outlining.specs.Outlining.{outlineAnswer, outlineStore};
-ghost use Rattle.stores.specs.Content.{contentAt, contentReport};
-ghost use Rattle.stores.specs.Records.{walkedAt};
-ghost use Rattle.naming.specs.Names.{nameCheck, namingReport};
-ghost use Rattle.rendering.specs.Rendering.{renderAnswer, renderOut};
-ghost use Rattle.chuntarek.specs.Exports.{exported, exportedPart, exportedRecord, exportedFields, noRecord, isNegative, magnitude};
-use entries::Fields;
-use places::Report;
-use stores::Content;
-use stores::Walked;
+ghost use Rattle.reading.specs.Services.{readStore, readArea};
+ghost use Rattle.outlining.specs.Outlining.{outlineStore};
+ghost use Rattle.rendering.specs.Rendering.{renderOut};
+ghost use Rattle.chuntarek.specs.Answers.{readGives, outlineGives, renderGives, namesGive, contentGives, partGiven, recordGiven};
+use exports::Answer;
+use exports::Part;
+use exports::Record;
 
-// chuntarek_answer.
-#[repr(C)]
-pub struct Answer {
-    pub number: u64,
-    pub offset: u64,
-    pub line: u64,
-    pub column: u64,
-    pub detail: u64,
-    pub first: u64,
-    pub second: u64,
-}
-
-// chuntarek_part.
-#[repr(C)]
-pub struct Part {
-    pub start: u64,
-    pub length: u64,
-}
-
-// chuntarek_record.
-#[repr(C)]
-pub struct Record {
-    pub number: u64,
-    pub kind: u64,
-    pub offset: u64,
-    pub length: u64,
-    pub line: u64,
-    pub column: u64,
-    pub start: u64,
-    pub content: u64,
-    pub tags: u64,
-    pub sign: u64,
-    pub integer: u64,
-    pub fraction: u64,
-    pub digits: u64,
-    pub lowers: u64,
-    pub exponent: u64,
-    pub uncertainty: u64,
-    pub next: u64,
-}
-
-fn numbers_of(r: Report) -> Answer
-    ensures { λ a. ⌜ a ≡ exported r ⌝ }
-{
-    Answer {
-        number: r.number as u64,
-        offset: r.offset as u64,
-        line: r.line as u64,
-        column: r.column as u64,
-        detail: r.detail as u64,
-        first: r.first as u64,
-        second: r.second as u64,
-    }
-}
-
-fn part_of(c: Content) -> Part
-    ensures { λ r. ⌜ r ≡ exportedPart c ⌝ }
-{
-    match c {
-        Content::Part { from, size } => Part {
-            start: from as u64,
-            length: size as u64,
-        },
-        Content::NotSound => Part {
-            start: 0,
-            length: 0,
-        },
-        Content::NoContent => Part {
-            start: 0,
-            length: 0,
-        },
-    }
-}
-
-// Whether four bytes in two's complement are below 0, as a number.
-fn negative(e: u32) -> u64
-    ensures { λ r. ⌜ r ≡ cond (isNegative e) 1 0 ⌝ }
-{
-    if 2147483648 <= e {
-        return 1;
-    }
-    0
-}
-
-fn size_of(e: u32) -> u64
-    ensures { λ r. ⌜ r ≡ magnitude e ⌝ }
-{
-    if 2147483648 <= e {
-        return 4294967296 - e as u64;
-    }
-    e as u64
-}
-
-// Only a loop counts tags.
-fn tags_of(kind: u8, number: u32) -> u64
-    ensures { λ r. ⌜ r ≡ cond (eqb kind 5) number 0 ⌝ }
-{
-    if kind == 5 {
-        return number as u64;
-    }
-    0
-}
-
-fn met(kind: u8, f: Fields, from: usize, size: usize, next: usize) -> Record
-    ensures { λ r. ⌜ r ≡ exportedFields kind f from size next ⌝ }
-{
-    let token = f.token;
-    let parts = f.parts;
-    let exponent = parts.exponent;
-    Record {
-        number: 0,
-        kind: kind as u64,
-        offset: token.offset as u64,
-        length: token.length as u64,
-        line: token.line as u64,
-        column: token.column as u64,
-        start: from as u64,
-        content: size as u64,
-        tags: tags_of(kind, f.number),
-        sign: parts.sign as u64,
-        integer: parts.integer as u64,
-        fraction: parts.fraction,
-        digits: parts.places as u64,
-        lowers: negative(exponent),
-        exponent: size_of(exponent),
-        uncertainty: parts.uncertainty as u64,
-        next: next as u64,
-    }
-}
-
-fn none() -> Record
-    ensures { λ r. ⌜ r ≡ noRecord ⌝ }
-{
-    Record {
-        number: 14,
-        kind: 0,
-        offset: 0,
-        length: 0,
-        line: 0,
-        column: 0,
-        start: 0,
-        content: 0,
-        tags: 0,
-        sign: 0,
-        integer: 0,
-        fraction: 0,
-        digits: 0,
-        lowers: 0,
-        exponent: 0,
-        uncertainty: 0,
-        next: 0,
-    }
-}
-
-fn record_of(w: Walked) -> Record
-    ensures { λ r. ⌜ r ≡ exportedRecord w ⌝ }
-{
-    match w {
-        Walked::Record {
-            number,
-            fields,
-            from,
-            size,
-            next,
-        } => met(number, fields, from, size, next),
-        Walked::NoRecord => none(),
-    }
-}
-
+// Reads a text: records to the store, contents to the area. What it writes is sound: promises/proofs/Exported has this
+// (read-gives-sound) and what is said of the next two.
 #[no_mangle]
 pub extern "C" fn chuntarek_read(text: &[u8], store: &mut [u8], area: &mut [u8]) -> Answer
-    ensures answers { λ r. ⌜ r ≡ exported (readAnswer (now (text .entry)) (length (now (store .entry))) (length (now (area .entry)))) ⌝ }
+    ensures answers { λ r. ⌜ r ≡ readGives (now (text .entry)) (now (store .entry)) (now (area .entry)) ⌝ }
     ensures stored { λ r. ⌜ now (store .exit) ≡ readStore (now (text .entry)) (now (store .entry)) (length (now (area .entry))) ⌝ }
     ensures copied { λ r. ⌜ now (area .exit) ≡ readArea (now (text .entry)) (length (now (store .entry))) (now (area .entry)) ⌝ }
 {
-    numbers_of(reading::read(text, store, area).report())
+    exports::numbers_of(reading::read(text, store, area).report())
 }
 
+// Outlines a text: kinds and places to the store. Neither digits nor contents show (outline-hides-digits, outline-hides-contents).
 #[no_mangle]
 pub extern "C" fn chuntarek_outline(text: &[u8], store: &mut [u8]) -> Answer
-    ensures answers { λ r. ⌜ r ≡ exported (outlineAnswer (now (text .entry)) (length (now (store .entry)))) ⌝ }
+    ensures answers { λ r. ⌜ r ≡ outlineGives (now (text .entry)) (now (store .entry)) ⌝ }
     ensures writes { λ r. ⌜ now (store .exit) ≡ outlineStore (now (text .entry)) (now (store .entry)) ⌝ }
 {
-    numbers_of(outlining::outline(text, store).report())
+    exports::numbers_of(outlining::outline(text, store).report())
 }
 
+// Renders a store with its area. What it writes is read back to the same (read-back).
 #[no_mangle]
 pub extern "C" fn chuntarek_render(store: &[u8], area: &[u8], out: &mut [u8]) -> Answer
-    ensures answers { λ r. ⌜ r ≡ exported (renderAnswer (now (store .entry)) (now (area .entry)) (length (now (out .entry)))) ⌝ }
+    ensures answers { λ r. ⌜ r ≡ renderGives (now (store .entry)) (now (area .entry)) (now (out .entry)) ⌝ }
     ensures writes { λ r. ⌜ now (out .exit) ≡ renderOut (now (store .entry)) (now (area .entry)) (now (out .entry)) ⌝ }
 {
-    numbers_of(rendering::render(store, area, out).report())
+    exports::numbers_of(rendering::render(store, area, out).report())
 }
 
+// Whether a name stands twice in one scope, and in which records.
 #[no_mangle]
 pub extern "C" fn chuntarek_names(store: &[u8], area: &[u8]) -> Answer
-    ensures { λ r. ⌜ r ≡ exported (namingReport (nameCheck (now (store .entry)) (now (area .entry)))) ⌝ }
+    ensures { λ r. ⌜ r ≡ namesGive (now (store .entry)) (now (area .entry)) ⌝ }
 {
-    numbers_of(naming::check_names(store, area).report())
+    exports::numbers_of(naming::check_names(store, area).report())
 }
 
+// Whether the record of this number has a content.
 #[no_mangle]
 pub extern "C" fn chuntarek_content(store: &[u8], area: &[u8], number: u64) -> Answer
-    ensures { λ r. ⌜ r ≡ exported (contentReport (contentAt (now (store .entry)) (now (area .entry)) number)) ⌝ }
+    ensures { λ r. ⌜ r ≡ contentGives (now (store .entry)) (now (area .entry)) number ⌝ }
 {
-    numbers_of(stores::find_content(store, area, number as usize).report())
+    exports::numbers_of(stores::find_content(store, area, number as usize).report())
 }
 
+// Where in the area that content stands; an empty part where there is none.
 #[no_mangle]
 pub extern "C" fn chuntarek_content_part(store: &[u8], area: &[u8], number: u64) -> Part
-    ensures { λ r. ⌜ r ≡ exportedPart (contentAt (now (store .entry)) (now (area .entry)) number) ⌝ }
+    ensures { λ r. ⌜ r ≡ partGiven (now (store .entry)) (now (area .entry)) number ⌝ }
 {
-    part_of(stores::find_content(store, area, number as usize))
+    exports::part_of(stores::find_content(store, area, number as usize))
 }
 
+// The record that starts at this offset of the store.
 #[no_mangle]
 pub extern "C" fn chuntarek_record_at(store: &[u8], area: &[u8], at: u64) -> Record
-    ensures { λ r. ⌜ r ≡ exportedRecord (walkedAt (now (store .entry)) (now (area .entry)) at) ⌝ }
+    ensures { λ r. ⌜ r ≡ recordGiven (now (store .entry)) (now (area .entry)) at ⌝ }
 {
-    record_of(stores::record_at(store, area, at as usize))
+    exports::record_of(stores::record_at(store, area, at as usize))
 }

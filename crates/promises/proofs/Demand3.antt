@@ -12,17 +12,16 @@ use native.Mathlib.Nat.{zero-add}
 use borrow.Author.Tests.{le-ltb, ltb-false}
 use lib.Dec.{ltb}
 use lib.ListN.{length, getD}
-use Rattle.text.specs.Bytes.{is, isAscii, isEol}
+use Rattle.text.specs.Bytes.{isAscii}
 use Rattle.text.specs.Runs.{span}
 use Rattle.places.specs.Places.{placeAt}
-use Rattle.text.proofs.Bools.{or-l, or-r}
 use Rattle.grammar.specs.Tokens.{before, tokens}
-use Rattle.grammar.specs.Machine.{Rec, Answer, refused, done, config, start}
+use Rattle.grammar.specs.Machine.{Rec, refused, done, config, start}
 use Rattle.grammar.specs.Reading.{limit, decided, outline}
-use Rattle.promises.specs.Differences.{isMark, insideRecs, Differ, DigitsDiffer, ContentsDiffer}
+use Rattle.promises.specs.Differences.{insideRecs, Differ, DigitsDiffer, ContentsDiffer}
 use Rattle.promises.proofs.Places.{placeAt-w}
 use Rattle.promises.proofs.ShapeTokens.{outline-σ}
-use Rattle.promises.proofs.Veil.{μ, μ-test, tokens-veil}
+use Rattle.promises.proofs.Veil.{μ, μ-10, μ-13, tokens-veil}
 use Rattle.promises.proofs.VeilRead.{Close, same, washed, σ-μ, map-close, left, either, Rest, Allowed, rel-of, all-same}
 use Rattle.promises.proofs.Swaps.{rest-of, ascii-stays}
 use Rattle.promises.proofs.Kept.{run-kept}
@@ -62,14 +61,6 @@ contents-hidden s t rs e c =
     rw (f, le-ltb (span isAscii t) (length t) a, ← tokens-same s t rs (d .runs) c) (d .runs)
 
 -- places: what is washed out is no byte of a line end
-
-μ-10 : (b : ℕ) → is 10 (μ b) ≡ is 10 b
-unfolding is isMark isEol
-μ-10 = μ-test (is 10) refl (λ b h. or-l (is 10 b) (is 13 b) (or-r (is 39 b || is 34 b || is 59 b) (isEol b) h))
-
-μ-13 : (b : ℕ) → is 13 (μ b) ≡ is 13 b
-unfolding is isMark isEol
-μ-13 = μ-test (is 13) refl (λ b h. or-r (is 10 b) (is 13 b) (or-r (is 39 b || is 34 b || is 59 b) (isEol b) h))
 
 close-μ : {I : Type 0} {a b : ℕ} → Close I a b → μ a ≡ μ b
 close-μ {I} {a} {b} (same h) = σ-μ a b h

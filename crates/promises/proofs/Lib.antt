@@ -28,3 +28,4 @@ pub mod NumbersRead
 pub mod Readings
 pub mod Examples
 pub mod OneOutcome
+pub mod Exported

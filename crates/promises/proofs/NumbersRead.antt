@@ -38,14 +38,15 @@ use Rattle.entries.specs.Entries.{stored}
 use Rattle.values.specs.Values.{Class, Reason, value, overLimit, nothing, openQuote, openField, Lexed, lexed, numberOr, wordOr, closed, lexValue, lexAsValue}
 use Rattle.grammar.specs.Machine.{Rec, loopEnd}
 use Rattle.grammar.proofs.Lexes.{pick}
-use Rattle.putting.specs.Written.{tokenOf, tokenText, decimalOf as readDecimal}
 use Rattle.walking.specs.Writing.{tagsOf}
+use Rattle.putting.specs.Written.{tokenOf, tokenText, decimalOf as readDecimal}
 use Rattle.reading.specs.Services.{readAnswer}
 use Rattle.entries.specs.Walk.{entries}
 use Rattle.nesting.specs.Nesting.{isValueKind}
 use Rattle.stores.specs.Content.{nth}
 use Rattle.record_lines.specs.Lines.{decimalOf}
 use Rattle.promises.specs.Results.{storeBytes, tokenIn}
+use Rattle.promises.specs.Claims.{IsRead, IsNumber, SaysNumeric}
 use Rattle.promises.proofs.Lexing.{never, NumberWord}
 use Rattle.promises.proofs.Taken.{Read, Outline, outline-taken}
 use Rattle.promises.proofs.Sources.{Each, none, also, sources, Source, of-heading, of-opening, of-closing, of-tag, of-loop, of-name, of-end, of-value, value-reads, Facts, facts}
@@ -216,9 +217,10 @@ cif-at s fits k f x {sg} {i} {fr} {esg} {e} {u} {b} v c l =
 
 -- The store that Read writes
 
-module _ (s store area : List ℕ) (done : readAnswer s (length store) (length area) .number ≡ 0) (i : ℕ) (k : Kind) (f : Fields) (next : ℕ) (here : nth (entries (storeBytes s store area)) i ≡ Record k f next) where
+module _ (s store area : List ℕ) (done : IsRead s store area) (i : ℕ) (k : Kind) (f : Fields) (next : ℕ) (here : nth (entries (storeBytes s store area)) i ≡ Record k f next) where
   found : Done s (length store) (length area)
-  found = read-done s (length store) (length area) done
+  unfolding IsRead
+  found = read-done s (length store) (length area) (omega (arith, done))
 
   outlined : Outline s (found .records)
   outlined = outline-taken s (found .records) (found .read)
@@ -230,12 +232,14 @@ module _ (s store area : List ℕ) (done : readAnswer s (length store) (length a
 
   -- EACH NUMERIC OF CIF 1.1 WITHIN THE LIMITS IS STORED WITH ITS MEANING
   pub cif-stored : {sg int frac esg e u : List ℕ} {b : Bool} → isValueKind (numberOf k) ≡ true → CifNumeric sg int frac esg e u b (tokenIn s f) → cifWithin int frac e u ≡ true
-      → (k ≡ cond b Uncertain Number) × (decimalOf b (f .parts) ≡ cifMeaning sg int frac esg e u b)
-  cif-stored v c l = cif-at s (outlined .fits) k f at-record v c l
+      → SaysNumeric k f sg int frac esg e u b
+  cif-stored v c l =
+      let x = cif-at s (outlined .fits) k f at-record v c l in
+      record { kind = x .0; decimal = x .1 }
 
   -- EACH NUMBER THAT IS STORED is one of them, or has an exponent or a bracket without digits
-  pub stored-cif : 14 ≤ numberOf k → Out (Standard (tokenIn s f)) (parts (tokenIn s f) .exp) (parts (tokenIn s f) .unc)
-  unfolding tokenText isValueKind
+  pub stored-cif : IsNumber k → Out (Standard (tokenIn s f)) (parts (tokenIn s f) .exp) (parts (tokenIn s f) .unc)
+  unfolding tokenText isValueKind IsNumber
   stored-cif l =
       let h = facts (at-record .source) in
       let q : numberOf k ≡ at-record .r .kind = ap numberOf (at-record .kind) ∙ kind-back (at-record .r .kind) (h .low) (h .high) in

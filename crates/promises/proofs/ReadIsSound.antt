@@ -21,13 +21,13 @@ use Rattle.entries.specs.Entries.{stored}
 use Rattle.grammar.specs.Machine.{Rec, Answer, refused, done}
 use Rattle.grammar.specs.Reading.{outline}
 use Rattle.sizes.specs.Sizes.{contentSize, storeSize, areaSize}
-use Rattle.putting.specs.Written.{tokenOf, contentOf, decimalOf}
 use Rattle.walking.specs.Writing.{tagsOf, storeOf, areaOf}
-use Rattle.reading.specs.Services.{readAnswer}
+use Rattle.putting.specs.Written.{tokenOf, contentOf, decimalOf}
 use Rattle.contents.specs.Contents.{readable, exponentKept, partsKept, contentLength, ownRule, contentBytes, lies, isInside, isReadable}
 use Rattle.stores.specs.Soundness.{takes, filledFrom, filled, sound, follows, kept}
 use Rattle.stores.proofs.Filling.{filled-record, filled-none}
 use Rattle.promises.specs.Results.{storeBytes, areaBytes}
+use Rattle.promises.specs.Claims.{IsRead}
 use Rattle.promises.proofs.Taken.{Read, Outline, outline-taken}
 use Rattle.promises.proofs.Sources.{Each, none, also, sources, Source, Facts, facts}
 use Rattle.promises.proofs.Written.{fieldsIn, entryOf, written, Only, only-kind, bounded, written-back}
@@ -107,8 +107,9 @@ records-sound s rs e =
     rw (written-back s rs h, nested-written s rs h) (filled-written s (h .fits) (h .ascii) (sources (h .read .taken)) [] 0 refl)
 
 -- WHAT READ WRITES IS SOUND
-pub read-is-sound : (s store area : List ℕ) → readAnswer s (length store) (length area) .number ≡ 0 → sound (storeBytes s store area) (areaBytes s store area) ≡ true
+pub read-is-sound : (s store area : List ℕ) → IsRead s store area → sound (storeBytes s store area) (areaBytes s store area) ≡ true
+unfolding IsRead
 read-is-sound s store area e =
-    let d = read-done s (length store) (length area) e in
+    let d = read-done s (length store) (length area) (omega (arith, e)) in
     let r = reads s store area (d .records) (d .read) (d .store) (d .area) in
     rw (r .stored, r .contents) (records-sound s (d .records) (d .read))

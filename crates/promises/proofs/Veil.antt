@@ -344,21 +344,38 @@ unfolding μ
     go true e = refl
     go false e = z ∙ sym (h b e)
 
+-- a byte that is no mark differs from each that is one
+pub unmarked : (m : ℕ) → isMark m ≡ true → (b : ℕ) → isMark b ≡ false → is m b ≡ false
+unfolding is
+unmarked m e b h = go (eqb b m) refl
+  where
+    go : (t : Bool) → eqb b m ≡ t → t ≡ false
+    go true q = absurd (true≢false (sym e ∙ ap isMark (sym (eqb-true b m q)) ∙ h))
+    go false q = refl
+
 μ-39 : (b : ℕ) → is 39 (μ b) ≡ is 39 b
-unfolding is isMark
-μ-39 = μ-test (is 39) refl (λ b h. or-l (is 39 b) (is 34 b) (or-l _ (is 59 b) (or-l _ (isEol b) h)))
+unfolding is isMark isEol
+μ-39 = μ-test (is 39) refl (unmarked 39 refl)
 
 μ-34 : (b : ℕ) → is 34 (μ b) ≡ is 34 b
-unfolding is isMark
-μ-34 = μ-test (is 34) refl (λ b h. or-r (is 39 b) (is 34 b) (or-l _ (is 59 b) (or-l _ (isEol b) h)))
+unfolding is isMark isEol
+μ-34 = μ-test (is 34) refl (unmarked 34 refl)
 
 μ-59 : (b : ℕ) → is 59 (μ b) ≡ is 59 b
-unfolding is isMark
-μ-59 = μ-test (is 59) refl (λ b h. or-r (is 39 b || is 34 b) (is 59 b) (or-l _ (isEol b) h))
+unfolding is isMark isEol
+μ-59 = μ-test (is 59) refl (unmarked 59 refl)
+
+pub μ-10 : (b : ℕ) → is 10 (μ b) ≡ is 10 b
+unfolding is isMark isEol
+μ-10 = μ-test (is 10) refl (unmarked 10 refl)
+
+pub μ-13 : (b : ℕ) → is 13 (μ b) ≡ is 13 b
+unfolding is isMark isEol
+μ-13 = μ-test (is 13) refl (unmarked 13 refl)
 
 pub μ-eol : (b : ℕ) → isEol (μ b) ≡ isEol b
-unfolding isEol isMark
-μ-eol = μ-test isEol refl (λ b h. or-r (is 39 b || is 34 b || is 59 b) (isEol b) h)
+unfolding isEol is
+μ-eol b = ap₂ _||_ (μ-10 b) (μ-13 b)
 
 -- a test that tells neither digits nor unmarked bytes apart
 record Clear (f : ℕ → Bool) : Type 0 where

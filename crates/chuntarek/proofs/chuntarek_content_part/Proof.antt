@@ -1,6 +1,7 @@
 -- `chuntarek_content_part`: the service's answer as a part of the area. Assumes nothing.
 use mathlib.Core.Path.{_∙_, ap}
-use Rattle.chuntarek.specs.Exports.{exportedPart}
+use Rattle.exports.specs.Exports.{exportedPart}
+use Rattle.chuntarek.specs.Answers.{partGiven}
 use borrow.Author.Needs.{needs}
 use Rattle.chuntarek.proofs.chuntarek_content_part.Statement.{statement}
 use Rattle.chuntarek.proofs.chuntarek_content_part.Tie as tie
@@ -12,6 +13,7 @@ part-of-requires : tie.Need-part-of-requires
 part-of-requires c κs = search needs
 
 returns : tie.Need-returns
+unfolding partGiven
 returns c = c .part-of .ensures ∙ ap exportedPart (c .before .find-content .ensures)
 
 pub chuntarek-content-part-spec : {M : Type 1} → statement M

@@ -1,6 +1,7 @@
 -- `chuntarek_read`: the service's answer in numbers, and the buffers as it leaves them. Assumes nothing.
 use mathlib.Core.Path.{_∙_, ap}
-use Rattle.chuntarek.specs.Exports.{exported}
+use Rattle.exports.specs.Exports.{exported}
+use Rattle.chuntarek.specs.Answers.{readGives}
 use borrow.Author.Needs.{needs}
 use Rattle.chuntarek.proofs.chuntarek_read.Statement.{statement}
 use Rattle.chuntarek.proofs.chuntarek_read.Tie as tie
@@ -21,6 +22,7 @@ same-length-2 : tie.Need-same-length-2
 same-length-2 c = search needs
 
 returns : tie.Need-returns
+unfolding readGives
 returns c = (c .numbers-of .ensures ∙ ap exported (c .before .report .ensures ∙ c .before .before .before .before .before .before .read .ensures .0), c .before .before .before .before .before .before .read .ensures .1)
 
 pub chuntarek-read-spec : {M : Type 1} → statement M

@@ -1,9 +1,9 @@
 -- `size_of`: by the sign bit. Assumes nothing.
-use Rattle.chuntarek.specs.Exports.{isNegative, magnitude}
+use Rattle.exports.specs.Exports.{isNegative, magnitude}
 use borrow.Author.Tests.{le-leb, lt-leb}
 use borrow.Author.Needs.{needs}
-use Rattle.chuntarek.proofs.size_of.Statement.{statement}
-use Rattle.chuntarek.proofs.size_of.Tie as tie
+use Rattle.exports.proofs.size_of.Statement.{statement}
+use Rattle.exports.proofs.size_of.Tie as tie
 
 sub-result : tie.Need-sub-result
 sub-result c = search needs

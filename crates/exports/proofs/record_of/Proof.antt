@@ -1,9 +1,9 @@
 -- `record_of`: case by case. Assumes nothing.
 use mathlib.Core.Path.{_∙_}
-use Rattle.chuntarek.specs.Exports.{exportedRecord}
+use Rattle.exports.specs.Exports.{exportedRecord}
 use borrow.Author.Needs.{needs}
-use Rattle.chuntarek.proofs.record_of.Statement.{statement}
-use Rattle.chuntarek.proofs.record_of.Tie as tie
+use Rattle.exports.proofs.record_of.Statement.{statement}
+use Rattle.exports.proofs.record_of.Tie as tie
 
 enum-known-w : tie.Need-enum-known-w
 enum-known-w c = search needs

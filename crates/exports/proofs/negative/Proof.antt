@@ -1,8 +1,8 @@
 -- `negative`: by the sign bit. Assumes nothing.
-use Rattle.chuntarek.specs.Exports.{isNegative}
+use Rattle.exports.specs.Exports.{isNegative}
 use borrow.Author.Tests.{le-leb, lt-leb}
-use Rattle.chuntarek.proofs.negative.Statement.{statement}
-use Rattle.chuntarek.proofs.negative.Tie as tie
+use Rattle.exports.proofs.negative.Statement.{statement}
+use Rattle.exports.proofs.negative.Tie as tie
 
 returns : tie.Need-returns
 unfolding isNegative

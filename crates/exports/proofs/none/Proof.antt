@@ -1,8 +1,8 @@
 -- `none`: all zero. Assumes nothing.
-use Rattle.chuntarek.specs.Exports.{noRecord}
+use Rattle.exports.specs.Exports.{noRecord}
 use mathlib.Core.Path.{refl}
-use Rattle.chuntarek.proofs.none.Statement.{statement}
-use Rattle.chuntarek.proofs.none.Tie as tie
+use Rattle.exports.proofs.none.Statement.{statement}
+use Rattle.exports.proofs.none.Tie as tie
 
 returns : tie.Need-returns
 unfolding noRecord

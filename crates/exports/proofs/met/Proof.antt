@@ -1,8 +1,8 @@
 -- `met`: field by field. Assumes nothing.
-use Rattle.chuntarek.specs.Exports.{exportedFields}
+use Rattle.exports.specs.Exports.{exportedFields}
 use borrow.Author.Needs.{needs}
-use Rattle.chuntarek.proofs.met.Statement.{statement}
-use Rattle.chuntarek.proofs.met.Tie as tie
+use Rattle.exports.proofs.met.Statement.{statement}
+use Rattle.exports.proofs.met.Tie as tie
 
 cast-t10 : tie.Need-cast-t10
 cast-t10 c = search needs

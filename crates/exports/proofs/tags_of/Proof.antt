@@ -1,7 +1,7 @@
 -- `tags_of`: only a loop has them. Assumes nothing.
 use borrow.Author.Tests.{eq-eqb, ne-eqb}
-use Rattle.chuntarek.proofs.tags_of.Statement.{statement}
-use Rattle.chuntarek.proofs.tags_of.Tie as tie
+use Rattle.exports.proofs.tags_of.Statement.{statement}
+use Rattle.exports.proofs.tags_of.Tie as tie
 
 returns : tie.Need-returns
 returns c = rw (eq-eqb _ _ (c .if1 .taken))

@@ -1,8 +1,8 @@
 -- `part_of`: case by case. Assumes nothing.
-use Rattle.chuntarek.specs.Exports.{exportedPart}
+use Rattle.exports.specs.Exports.{exportedPart}
 use borrow.Author.Needs.{needs}
-use Rattle.chuntarek.proofs.part_of.Statement.{statement}
-use Rattle.chuntarek.proofs.part_of.Tie as tie
+use Rattle.exports.proofs.part_of.Statement.{statement}
+use Rattle.exports.proofs.part_of.Tie as tie
 
 enum-known-c : tie.Need-enum-known-c
 enum-known-c c = search needs

@@ -1,4 +1,5 @@
--- What C and Rust see: document 01's numbers of an answer, a part of an area, and one record of a store, each as numbers of 64 bits. Assumes nothing.
+-- What C and Rust see: document 01's numbers of an answer, a part of an area, and one record of a store, each as numbers of 64
+-- bits. Assumes nothing.
 use Prim.Native.Nat.{ℕ, _-_}
 use mathlib.Core.Bool.{Bool, cond}
 use lib.Dec.{eqb, leb}
@@ -8,9 +9,9 @@ use Rattle.stores.specs.declared.Content.{Content}
 use Rattle.stores.specs.declared.Content.the-variants.{Part as Found, NotSound, NoContent}
 use Rattle.stores.specs.declared.Walked.{Walked}
 use Rattle.stores.specs.declared.Walked.the-variants.{Record as Met, NoRecord}
-use Rattle.chuntarek.specs.declared.Answer.{Answer}
-use Rattle.chuntarek.specs.declared.Part.{Part}
-use Rattle.chuntarek.specs.declared.Record.{Record}
+use Rattle.exports.specs.declared.Answer.{Answer}
+use Rattle.exports.specs.declared.Part.{Part}
+use Rattle.exports.specs.declared.Record.{Record}
 
 -- an answer, number for number
 unfoldable pub exported : Report → Answer
@@ -27,9 +28,11 @@ exportedPart NoContent = record { start = 0; length = 0 }
 unfoldable pub isNegative : ℕ → Bool
 isNegative e = leb 2147483648 e
 
+-- and its size without the sign
 unfoldable pub magnitude : ℕ → ℕ
 magnitude e = cond (isNegative e) (4294967296 - e) e
 
+-- a record of kind k with these fields, its content so long from this offset of the area on, and where the next one starts
 unfoldable pub exportedFields : ℕ → Fields → ℕ → ℕ → ℕ → Record
 exportedFields k f from size next =
     record {
@@ -75,6 +78,7 @@ noRecord =
       next = 0;
     }
 
+-- what a walk met
 unfoldable pub exportedRecord : Walked → Record
 exportedRecord NoRecord = noRecord
 exportedRecord (Met k f from size next) = exportedFields k f from size next

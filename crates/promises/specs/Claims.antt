@@ -1,0 +1,48 @@
+-- What the theorems of this crate claim, where a claim has parts: that a text is read; what the round trip asks for and gives;
+-- what a number's record says. Assumes nothing.
+use Prim.Native.Nat.{ℕ, _≤_}
+use mathlib.Core.Path.{_≡_}
+use mathlib.Core.Bool.{Bool, true, cond}
+use mathlib.Core.List.{List}
+use lib.ListN.{length}
+use Rattle.places.specs.Reports.{success}
+use Rattle.numbers.specs.Cif.{cifMeaning}
+use Rattle.kinds.specs.declared.Kind.{Kind}
+use Rattle.kinds.specs.declared.Kind.the-variants.{Number, Uncertain}
+use Rattle.kinds.specs.Kinds.{numberOf}
+use Rattle.entries.specs.declared.Fields.{Fields}
+use Rattle.reading.specs.Services.{readAnswer}
+use Rattle.stores.specs.Soundness.{sound}
+use Rattle.rendering.specs.Rendering.{rendering, renderAnswer}
+use Rattle.record_lines.specs.Lines.{decimalOf}
+use Rattle.promises.specs.Results.{renderedBytes, storeBytes, areaBytes}
+use Rattle.promises.specs.Sayings.{Bytes, SaySame}
+
+-- Read of the text s, to a lent store and a lent area, is done
+unfoldable pub IsRead : (s store area : List ℕ) → Type 0
+IsRead s store area = readAnswer s (length store) (length area) .number ≡ 0
+
+-- the store st, with its area ar, is sound; its rendering keeps limit 1; and there is room for the rendering and for what is
+-- read of it
+pub record Renderable (st ar text store area : List ℕ) : Type 0 where
+  pub bytes : Bytes st
+  pub is-sound : sound st ar ≡ true
+  pub limited : length (rendering st ar) ≤ 16777216
+  pub text-room : length (rendering st ar) ≤ length text
+  pub store-room : length st ≤ length store
+  pub area-room : length ar ≤ length area
+
+-- Render to the lent text, then Read of what it wrote, to the lent store and area
+pub record RoundTrip (st ar text store area : List ℕ) : Type 0 where
+  pub rendered : renderAnswer st ar (length text) ≡ success (length (rendering st ar)) 0
+  pub read : readAnswer (renderedBytes st ar text) (length store) (length area) ≡ success (length st) (length ar)
+  pub same : SaySame (storeBytes (renderedBytes st ar text) store area) (areaBytes (renderedBytes st ar text) store area) st ar
+
+-- the kinds of numbers
+unfoldable pub IsNumber : Kind → Type 0
+IsNumber k = 14 ≤ numberOf k
+
+-- a record of kind k says what a numeric of CIF 1.1 with these pieces means
+pub record SaysNumeric (k : Kind) (f : Fields) (sg int frac esg e u : List ℕ) (b : Bool) : Type 0 where
+  pub kind : k ≡ cond b Uncertain Number
+  pub decimal : decimalOf b (f .parts) ≡ cifMeaning sg int frac esg e u b
