@@ -21,6 +21,16 @@ use Rattle.entries.specs.Walk.{onward, entriesFrom, entries}
 unfoldable pub rest : List ℕ → ℕ → List Entry
 rest st at = entriesFrom (drop at st) 0
 
+-- the entries from an offset on are those of the bytes from there on
+pub rest-is : (st : List ℕ) (at : ℕ) → entriesFrom (drop at st) 0 ≡ rest st at
+unfolding rest
+rest-is st at = refl
+
+-- all entries are those from the first byte on
+pub entries-first : (st : List ℕ) → entries st ≡ entriesFrom (drop 0 st) 0
+unfolding entries
+entries-first st = refl
+
 pub rest-all : (st : List ℕ) → entries st ≡ rest st 0
 unfolding rest entries
 rest-all st = refl

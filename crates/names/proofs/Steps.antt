@@ -20,7 +20,8 @@ use Rattle.entries.specs.Entries.{entryAt}
 use Rattle.entries.specs.Walk.{entriesFrom, entries}
 use Rattle.contents.specs.Contents.{contentBytes}
 use Rattle.entries.proofs.Walking.{rest, rest-over, rest-none, next-at}
-use Rattle.stores.proofs.Walks.{rest-is, entries-first, content-part}
+use Rattle.entries.proofs.Walking.{rest-is, entries-first}
+use Rattle.contents.proofs.Kept.{content-bytes}
 use Rattle.names.specs.declared.Spot.{Spot}
 use Rattle.names.specs.declared.Named.{Named}
 use Rattle.names.specs.declared.Next.{Next}
@@ -136,13 +137,13 @@ meets-less st ar s x after m =
 
 -- a record's name, cut off at the area's end
 pub holds-past : (ar : List ℕ) (k : Kind) (f : Fields) (at i scope : ℕ) → length ar < f .number → Holds ar k f i scope (record { at = at; number = i; scope = scope; from = 0; size = 0 })
-holds-past ar k f at i scope h = record { name = rw (part-past ar (f .number) (f .token .length - marksOf k) h, content-part ar k f) (unfold part in refl); inside = omega arith }
+holds-past ar k f at i scope h = record { name = rw (part-past ar (f .number) (f .token .length - marksOf k) h, content-bytes ar k f) (unfold part in refl); inside = omega arith }
 
 pub holds-within : (ar : List ℕ) (k : Kind) (f : Fields) (at i scope n : ℕ) → f .number ≤ length ar → n ≡ min (f .token .length - marksOf k) (length ar - f .number) →
     Holds ar k f i scope (record { at = at; number = i; scope = scope; from = f .number; size = n })
 holds-within ar k f at i scope n h e =
     record {
-      name = rw (e, part-clamped ar (f .number) (f .token .length - marksOf k), content-part ar k f) (unfold part in refl);
+      name = rw (e, part-clamped ar (f .number) (f .token .length - marksOf k), content-bytes ar k f) (unfold part in refl);
       inside = rw e (omega (arith, min-le-right (f .token .length - marksOf k) (length ar - f .number)));
     }
 
