@@ -50,7 +50,8 @@ add-copy-content : tie.Need-add-copy-content
 add-copy-content c =
     let a = c .before .before .before .before .before .before .before .before .before .before .before .before .args in
     let o : c .opening .result ≡ opening (kindOf (a .kind)) = c .opening .ensures ∙ ap opening (c .before .before .before .before .before .before .before .of .ensures) in
-    omega (arith, text-room (a .s .now) (a .kind) (a .c .place .offset) (a .size) (c .before .before .before .before .before .before .before .before .before .before .before .before .pre .token) (opening-marks (kindOf (a .kind))))
+    let p = c .before .before .before .before .before .before .before .before .before .before .before .before .pre in
+    omega (arith, text-room (a .s .now) (a .kind) (a .c .place .offset) (a .size) (p .token) (opening-marks (kindOf (a .kind))), p .going .behind)
 
 copy-content-requires : tie.Need-copy-content-requires
 copy-content-requires c κs =
@@ -58,7 +59,7 @@ copy-content-requires c κs =
     let p = c .before .before .before .before .before .before .before .before .before .before .before .before .before .pre in
     let o : c .before .opening .result ≡ opening (kindOf (a .kind)) = c .before .opening .ensures ∙ ap opening (c .before .before .before .before .before .before .before .before .of .ensures) in
     let m : c .before .before .before .before .before .before .before .marks .result ≡ marksOf (kindOf (a .kind)) = c .before .before .before .before .before .before .before .marks .ensures ∙ ap marksOf (c .before .before .before .before .before .before .before .before .of .ensures) in
-    (omega (arith, text-room (a .s .now) (a .kind) (a .c .place .offset) (a .size) (p .token) (opening-marks (kindOf (a .kind)))), λ f. omega (arith, p .room .area f, text-size (a .kind) (a .c .place .offset) (a .size) (p .content)))
+    (omega (arith, text-room (a .s .now) (a .kind) (a .c .place .offset) (a .size) (p .token) (opening-marks (kindOf (a .kind))), p .going .behind), λ f. omega (arith, p .room .area f, text-size (a .kind) (a .c .place .offset) (a .size) (p .content)))
 
 behind-requires : tie.Need-behind-requires
 behind-requires c κs = search needs
