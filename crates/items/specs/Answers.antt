@@ -20,7 +20,7 @@ use Rattle.items.specs.declared.Values.{Values}
 use Rattle.items.specs.declared.Item.{Item as Answered}
 use Rattle.items.specs.declared.Item.the-variants.{Loop, Single, Ragged, NoValue, NoItem, NoNames, Over}
 use Rattle.items.specs.Tokens.{Tok, inBlock}
-use Rattle.items.specs.Reading.{limit}
+use Rattle.text.specs.Limits.{limit}
 use Rattle.items.specs.Sizes.{sizesOf, noSizes, added, joined}
 use Rattle.items.specs.Descent.{Item, taken, failed, broken, item, nameRecs, afterNames, valueRecs, afterValues, isOver}
 use Rattle.items.specs.Decisions.{tokensAt, headAt, headWhy}

@@ -10,3 +10,4 @@ pub mod Facts
 pub mod Shape
 pub mod Plain
 pub mod Unscaled
+pub mod Judged

@@ -18,7 +18,8 @@ use Rattle.places.specs.Places.{placeAt}
 use Rattle.text.proofs.Bools.{or-l, or-r}
 use Rattle.items.specs.Tokens.{before, tokens}
 use Rattle.items.specs.Machine.{Rec, Answer, refused, done, config, start}
-use Rattle.items.specs.Reading.{limit, decided, outline}
+use Rattle.items.specs.Reading.{decided, outline}
+use Rattle.text.specs.Limits.{limit}
 use Rattle.promises.specs.Differences.{isMark, insideRecs, Differ, DigitsDiffer, ContentsDiffer}
 use Rattle.promises.proofs.Places.{placeAt-w}
 use Rattle.promises.proofs.ShapeTokens.{outline-σ}

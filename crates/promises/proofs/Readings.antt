@@ -17,7 +17,8 @@ use Rattle.values.specs.Answers.{whyOf, answer, valueAnswer}
 use Rattle.items.specs.Tokens.{saveSize, lexIn, lex, after, tok, emit, step, tokensFrom, tokens}
 use Rattle.items.specs.Machine.{config, rec, loopEnd, closes, fails, atItem, loopEnds, atValue, noMoreNames, atName, atWant, atStart, move, follow, run}
 use Rattle.items.specs.Sizes.{contentSize, storeSize, areaSize}
-use Rattle.items.specs.Reading.{limit, decided, outline}
+use Rattle.items.specs.Reading.{decided, outline}
+use Rattle.text.specs.Limits.{limit}
 use Rattle.writing.specs.Writing.{contentOf, areaOf}
 use Rattle.reading.specs.Services.{refusal, readRoom, readBy, readAnswer}
 use Rattle.promises.specs.Readings.{bytes, rowOf, seen, asked, reads, means, done-with, decimal, whole, readings, ReadingsHold}

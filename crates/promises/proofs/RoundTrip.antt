@@ -29,7 +29,8 @@ use Rattle.kinds.specs.Kinds.{kindOf, numberOf, shapeOf, isContent}
 use Rattle.records.specs.Put.{front}
 use Rattle.items.specs.Tokens.{before, inBlock, lex, after, tok, tokensFrom, tokens}
 use Rattle.items.specs.Machine.{Rec, done, start, config, go, rec, loopEnd, atStart, move, follow, run}
-use Rattle.items.specs.Reading.{limit, decided, outline}
+use Rattle.items.specs.Reading.{decided, outline}
+use Rattle.text.specs.Limits.{limit}
 use Rattle.items.specs.Sizes.{storeSize, areaSize}
 use Rattle.items.proofs.Ended.{word-ended, starts-ended, noLf}
 use Rattle.items.proofs.Advance.{advance₀}

@@ -13,7 +13,8 @@ use Rattle.places.specs.Reports.{success, noRoom}
 use Rattle.records.specs.Put.{front}
 use Rattle.items.specs.declared.Sizes.{Sizes}
 use Rattle.items.specs.Machine.{Rec, Answer, refused, done}
-use Rattle.items.specs.Reading.{outline, decided, limit}
+use Rattle.items.specs.Reading.{outline, decided}
+use Rattle.text.specs.Limits.{limit}
 use Rattle.items.specs.Sizes.{sizesOf, storeSize, outlineSize, areaSize}
 use Rattle.writing.specs.Writing.{storeOf, areaOf, areaIn}
 use Rattle.reading.specs.declared.Refusal.{Refusal}

@@ -1,7 +1,7 @@
 -- Laws of words and ordinary bytes. Assumes nothing.
 use Prim.Native.Nat.{ℕ, _+_, _-_, _≤_, _<_}
 use mathlib.Core.Path.{_≡_, refl, sym, ap, _∙_}
-use mathlib.Core.Bool.{Bool, true, false, _&&_, true≢false}
+use mathlib.Core.Bool.{Bool, true, false, not, _&&_, true≢false}
 use mathlib.Core.List.{List, _∷_}
 use native.Mathlib.Omega.{arith}
 use borrow.Author.Tests.{eqb-true, leb-true, ne-eqb}
@@ -77,3 +77,8 @@ ordinary-in-word b e =
     let low : 33 ≤ b = leb-true 33 b (and-l (leb 33 b) (leb b 126) r) in
     let high : b ≤ 126 = leb-true b 126 (and-r (leb 33 b) (leb b 126) r) in
     passes inWord 33 94 refl b low (omega arith)
+
+-- a word is the run of bytes that don't end one
+pub word-span : (s : List ℕ) (o : ℕ) → wordEnd s o ≡ spanEnd (λ b. not (endsWord b)) s o
+unfolding wordEnd word spanEnd inWord
+word-span s o = refl

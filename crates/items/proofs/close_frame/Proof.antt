@@ -2,7 +2,7 @@
 use Prim.Native.Nat.{_*_}
 use native.Mathlib.Omega.{arith}
 use borrow.Author.Tests.{not-true, not-false}
-use Rattle.items.specs.Reading.{limit}
+use Rattle.text.specs.Limits.{limit}
 use Rattle.items.specs.Frames.{frameEnd}
 use Rattle.items.proofs.Room.{upto-more}
 use borrow.Author.Needs.{needs}

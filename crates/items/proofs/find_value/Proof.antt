@@ -1,6 +1,6 @@
 -- `items::find_value`: what is packed comes out again. Assumes nothing.
 use native.Mathlib.Omega.{arith}
-use Rattle.items.specs.Reading.{limit}
+use Rattle.text.specs.Limits.{limit}
 use Rattle.items.proofs.Packs.{unpack}
 use borrow.Author.Needs.{needs}
 use Rattle.items.proofs.find_value.Statement.{statement}

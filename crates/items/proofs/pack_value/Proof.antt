@@ -2,7 +2,7 @@
 use mathlib.Core.Path.{refl, sym, _∙_}
 use native.Mathlib.Omega.{arith}
 use Rattle.words.proofs.Words.{word-from, word-within}
-use Rattle.items.specs.Reading.{limit}
+use Rattle.text.specs.Limits.{limit}
 use Rattle.items.proofs.First.{end-found, bare-found, unknown-found}
 use borrow.Author.Needs.{needs}
 use Rattle.items.proofs.pack_value.Statement.{statement}

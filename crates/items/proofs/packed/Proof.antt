@@ -1,6 +1,6 @@
 -- `items::packed`: a length within limit 1, times 16, fits. Assumes nothing.
 use native.Mathlib.Omega.{arith}
-use Rattle.items.specs.Reading.{limit}
+use Rattle.text.specs.Limits.{limit}
 use Rattle.items.specs.Answers.{pack}
 use Rattle.items.proofs.packed.Statement.{statement}
 use Rattle.items.proofs.packed.Tie as tie

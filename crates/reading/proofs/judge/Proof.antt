@@ -1,7 +1,8 @@
 -- `reading::judge`: the two limits first, then what the tokens say. Assumes nothing.
 use mathlib.Core.Path.{_∙_}
 use borrow.Author.Tests.{lt-ltb, le-ltb}
-use Rattle.items.specs.Reading.{outline, limit}
+use Rattle.items.specs.Reading.{outline}
+use Rattle.text.specs.Limits.{limit}
 use Rattle.reading.specs.Services.{refusal, refusalReport}
 use Rattle.reading.specs.Judging.{judgement, judgedAs, noSizes}
 use Rattle.reading.proofs.Judgements.{declined-judgement}

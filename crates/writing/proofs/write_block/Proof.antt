@@ -6,7 +6,7 @@ use native.Mathlib.Omega.{arith}
 use Rattle.places.proofs.Places.{is-start}
 use Rattle.words.proofs.Words.{word-from}
 use Rattle.kinds.specs.Kinds.{kindOf, shapeOf}
-use Rattle.items.specs.Reading.{limit}
+use Rattle.text.specs.Limits.{limit}
 use Rattle.writing.specs.declared.Cursor.{Cursor}
 use Rattle.writing.specs.Writing.{placed}
 use Rattle.writing.proofs.Block.{Fits, begun, begins, block-going, block-token, block-room, block-ahead, block-stored, block-copied}

@@ -4,7 +4,7 @@ use mathlib.Core.Path.{_≡_, sym, _∙_}
 use native.Mathlib.Omega.{arith}
 use lib.ListN.{length}
 use Rattle.gaps.proofs.Gaps.{gap-from}
-use Rattle.items.specs.Reading.{limit}
+use Rattle.text.specs.Limits.{limit}
 use Rattle.items.proofs.Packs.{unpack, no-value-packed}
 use Rattle.writing.specs.Walk.{desk}
 use Rattle.writing.proofs.SoFar.{SoFar, start}
