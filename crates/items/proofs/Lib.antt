@@ -12,5 +12,3 @@ pub mod Passes
 pub mod Items
 pub mod Onward
 pub mod Choices
-pub mod First
-pub mod Packs

@@ -18,20 +18,22 @@ use Rattle.values.specs.declared.Why.{Why}
 use Rattle.items.specs.declared.Sizes.{Sizes}
 use Rattle.items.specs.declared.Names.{Names}
 use Rattle.items.specs.declared.Values.{Values}
-use Rattle.items.specs.declared.Found.{Found}
-use Rattle.items.specs.declared.Found.the-variants.{Value}
+use Rattle.values.specs.declared.Found.{Found}
+use Rattle.values.specs.declared.Found.the-variants.{Value}
 use Rattle.items.specs.Tokens.{inBlock, lexIn, lex, after, Tok, tok}
 use Rattle.items.specs.Machine.{rec}
 use Rattle.items.specs.Sizes.{sizesOf, noSizes, added, joined, Upto}
 use Rattle.items.specs.Descent.{nameRecs, valueRecs, isOver}
 use Rattle.items.specs.Decisions.{tokensAt, headAt, headWhy, whyNot}
-use Rattle.items.specs.Answers.{tagFirst, tagAt, foundAt, isOverFound, whyFound, namesOf, namesAt, headOver, valuesOf, valuesAt}
+use Rattle.items.specs.Answers.{tagFirst, tagAt, namesOf, namesAt, headOver, valuesOf, valuesAt}
+use Rattle.values.specs.Finding.{foundAt, isOverFound, whyFound}
 use Rattle.items.proofs.Descent.{NoName, NoValue, value-or-not, names-more, names-none, values-more, values-none}
 use Rattle.items.proofs.Fits.{isValue, lexIn-pos}
 use Rattle.items.proofs.Lexes.{no-name}
 use Rattle.items.proofs.Offsets.{tokens-gap, Met, met, met-tag, first}
 use Rattle.items.proofs.Room.{sizes-cons, added-joined, sizes-none, none-joined, joined-none, upto-none, upto-added}
-use Rattle.items.proofs.Wanted.{wanted, found-wanted}
+use Rattle.values.specs.Finding.{wanted}
+use Rattle.items.proofs.Wanted.{found-wanted}
 
 -- names counted so far, and those from here on
 unfoldable pub addNames : ℕ → Sizes → Names → Names

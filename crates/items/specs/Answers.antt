@@ -1,4 +1,4 @@
--- What the code answers of a value, a loop's names and values, and the item at an offset. Assumes nothing.
+-- What the code answers of a loop's names and values, and the item at an offset. Assumes nothing.
 use Prim.Native.Nat.{ℕ, _+_, _*_, _%_, _≤_}
 use mathlib.Core.Path.{_≡_}
 use mathlib.Core.Bool.{Bool, true, false, cond}
@@ -7,14 +7,6 @@ use lib.Dec.{eqb}
 use lib.ListN.{length, drop}
 use Rattle.text.specs.Bytes.{is}
 use Rattle.gaps.specs.Gaps.{gap}
-use Rattle.numbers.specs.declared.Decimal.{Decimal}
-use Rattle.values.specs.Answers.{valueAt}
-use Rattle.values.specs.declared.Why.{Why}
-use Rattle.values.specs.declared.Why.the-variants.{AtEnd}
-use Rattle.values.specs.declared.Value.{Value as ValueAnswer}
-use Rattle.values.specs.declared.Value.the-variants.{Token, Number, Over as OverAnswer, Missing as MissingAnswer}
-use Rattle.items.specs.declared.Found.{Found}
-use Rattle.items.specs.declared.Found.the-variants.{Value as FoundValue, Over as FoundOver, Missing as FoundMissing}
 use Rattle.items.specs.declared.Names.{Names}
 use Rattle.items.specs.declared.Values.{Values}
 use Rattle.items.specs.declared.Item.{Item as Answered}
@@ -43,41 +35,6 @@ tagFirst (b ∷ s) = is 95 b
 
 unfoldable pub tagAt : List ℕ → ℕ → Bool
 tagAt s o = tagFirst (drop o s)
-
--- kind 14, or 15 with uncertainty
-abbrev pub kindOfNumber : Decimal → ℕ
-kindOfNumber d = cond (d .uncertain) 15 14
-
-abbrev pub foundOf : ValueAnswer → Found
-foundOf (Token k n) = FoundValue k n
-foundOf (Number d n) = FoundValue (kindOfNumber d) n
-foundOf OverAnswer = FoundOver
-foundOf (MissingAnswer w) = FoundMissing w
-
-abbrev pub foundAt : List ℕ → ℕ → Found
-foundAt s o = foundOf (valueAt s o)
-
--- a value's kind and length as one number, and 0 for what is no value: kinds end at 15, and none is 0
-unfoldable pub pack : ℕ → ℕ → ℕ
-pack k n = k + n * 16
-
-abbrev pub packedOf : Found → ℕ
-packedOf (FoundValue k n) = pack k n
-packedOf FoundOver = 0
-packedOf (FoundMissing w) = 0
-
-abbrev pub packedAt : List ℕ → ℕ → ℕ
-packedAt s o = packedOf (foundAt s o)
-
-abbrev pub isOverFound : Found → Bool
-isOverFound (FoundValue k n) = false
-isOverFound FoundOver = true
-isOverFound (FoundMissing w) = false
-
-abbrev pub whyFound : Found → Why
-whyFound (FoundValue k n) = AtEnd
-whyFound FoundOver = AtEnd
-whyFound (FoundMissing w) = w
 
 -- the names that tokens start with
 unfoldable pub namesOf : List Tok → Names

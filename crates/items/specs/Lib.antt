@@ -6,4 +6,3 @@ pub mod Descent
 pub mod Decisions
 pub mod Answers
 pub mod Frames
-pub mod First

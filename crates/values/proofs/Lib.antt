@@ -1,4 +1,6 @@
-pub mod Points
 pub mod Pieces
 pub mod Views
 pub mod Laws
+pub mod Choices
+pub mod First
+pub mod Packs

@@ -18,20 +18,22 @@ use Rattle.keywords.proofs.Keywords.{loop-word}
 use Rattle.words.proofs.Words.{word-end}
 use Rattle.values.specs.Values.{Class, block, loop, save, tag, value, overLimit, nothing, lexed}
 use Rattle.kinds.specs.Kinds.{kindOf, marksOf}
-use Rattle.items.specs.declared.Found.{Found}
-use Rattle.items.specs.declared.Found.the-variants.{Value, Over, Missing}
+use Rattle.values.specs.declared.Found.{Found}
+use Rattle.values.specs.declared.Found.the-variants.{Value, Over, Missing}
 use Rattle.items.specs.Tokens.{inBlock, lexIn, lex, after, Tok, tok}
 use Rattle.items.specs.Machine.{Rec, rec, loopEnd}
 use Rattle.items.specs.Descent.{nameRecs, afterNames, valueRecs, afterValues, Item, taken, failed, broken, isOver, rows, loopBy, loopItem, single, tagItem, itemBy, item}
 use Rattle.items.specs.Sizes.{storeSize, sizesOf}
 use Rattle.items.specs.Decisions.{tokensAt, headAt}
 use Rattle.items.specs.declared.Item.the-variants.{NoItem}
-use Rattle.items.specs.Answers.{tagAt, foundAt, itemAnswer, itemAt}
+use Rattle.items.specs.Answers.{tagAt, itemAnswer, itemAt}
+use Rattle.values.specs.Finding.{foundAt}
 use Rattle.items.proofs.Descent.{NoName, name-or-not, names-more, names-none}
 use Rattle.items.proofs.Offsets.{tokens-gap, Met, met-loop, met-tag, first, both, both-spot}
 use Rattle.items.proofs.Items.{head-at, item-none}
 use Rattle.items.proofs.Lists.{met-value}
-use Rattle.items.proofs.Wanted.{wanted, found-wanted}
+use Rattle.values.specs.Finding.{wanted}
+use Rattle.items.proofs.Wanted.{found-wanted}
 use Rattle.items.proofs.Passes.{names-alike}
 use Rattle.writing.specs.declared.Cursor.{Cursor}
 use Rattle.writing.specs.Writing.{tagsOf}

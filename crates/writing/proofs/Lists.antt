@@ -11,12 +11,13 @@ use Rattle.places.proofs.Places.{place-offset}
 use Rattle.text.proofs.Ranges.{allBelow, fails}
 use Rattle.words.specs.Words.{wordEnd}
 use Rattle.kinds.specs.Kinds.{kindOf, shapeOf}
-use Rattle.items.specs.declared.Found.the-variants.{Value}
+use Rattle.values.specs.declared.Found.the-variants.{Value}
 use Rattle.items.specs.Tokens.{inBlock, Tok}
 use Rattle.items.specs.Machine.{Rec}
 use Rattle.items.specs.Descent.{nameRecs, afterNames, valueRecs, afterValues}
 use Rattle.items.specs.Decisions.{tokensAt, headAt}
-use Rattle.items.specs.Answers.{tagAt, foundAt}
+use Rattle.items.specs.Answers.{tagAt}
+use Rattle.values.specs.Finding.{foundAt}
 use Rattle.items.proofs.Items.{head-at}
 use Rattle.items.proofs.Offsets.{tokens-gap}
 use Rattle.writing.specs.declared.Cursor.{Cursor}

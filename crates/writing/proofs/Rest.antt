@@ -19,13 +19,15 @@ use Rattle.items.specs.Tokens.{Mode, before, inBlock, inFrame, lexIn, lex, Tok,
 use Rattle.items.specs.Machine.{Rec, rec, Answer, refused, done, run, follow, move, atItem, fails, closes, config, items}
 use Rattle.items.specs.Descent.{Item, taken, failed, broken, item}
 use Rattle.items.specs.Decisions.{tokensAt, headAt, headWhy, Told, told, tells, refusal, room}
-use Rattle.items.specs.declared.Found.the-variants.{Value}
-use Rattle.items.specs.Answers.{foundAt, itemAnswer, itemAt}
+use Rattle.values.specs.declared.Found.the-variants.{Value}
+use Rattle.items.specs.Answers.{itemAnswer, itemAt}
+use Rattle.values.specs.Finding.{foundAt}
 use Rattle.items.specs.Frames.{left, modeOf, blockAt, inFrameOf}
 use Rattle.items.specs.Reading.{decided}
 use Rattle.items.proofs.Descent.{itemRun}
 use Rattle.items.proofs.Offsets.{Met, met-open, met-close, met-data, first, both, both-spot}
-use Rattle.items.proofs.Wanted.{wanted, found-wanted}
+use Rattle.values.specs.Finding.{wanted}
+use Rattle.items.proofs.Wanted.{found-wanted}
 use Rattle.items.proofs.Passes.{AlikeItem, alike-taken, alike-ragged, alike-alone, alike-absent, alike-unnamed, alike-over, item-alike}
 use Rattle.items.proofs.Onward.{DroppedAt, PassedInside, item-inside, frame-item, block-item, left-from, plain, open-reads, left-gap, open-answer, close-answer, begin-reads, end-answer, failed-stops, no-data, decided-from}
 use Rattle.writing.specs.declared.Next.the-variants.{Item as Item′, Stop}

@@ -4,12 +4,12 @@ use mathlib.Core.Path.{_≡_, refl, sym, ap, _∙_}
 use mathlib.Core.Bool.{Bool, true, false, cond, _&&_, _||_}
 use mathlib.Core.List.{List, [], _∷_}
 use native.Mathlib.Omega.{arith}
-use borrow.Author.Tests.{leb-true, eqb-false}
+use borrow.Author.Tests.{leb-true}
 use lib.Dec.{eqb, leb}
 use lib.ListN.{length, take, drop}
 use Rattle.gaps.specs.Gaps.{gap, gapEnd}
 use Rattle.places.specs.Places.{placeAt}
-use Rattle.text.proofs.Bools.{or-l, or-r, and-l, and-r}
+use Rattle.text.proofs.Bools.{and-l, and-r}
 use Rattle.gaps.proofs.Gaps.{gap-from, gap-within, gap-none}
 use Rattle.places.proofs.Places.{place-offset}
 use Rattle.gaps.proofs.Gaps.{is-gap-end}
@@ -18,17 +18,17 @@ use Rattle.words.proofs.Words.{word-end}
 use Rattle.numbers.specs.declared.Decimal.{Decimal}
 use Rattle.numbers.specs.Parts.{parts, within}
 use Rattle.numbers.specs.Meaning.{meaning}
-use Rattle.values.specs.Values.{Class, block, loop, save, tag, value, overLimit, nothing, lexed, lexAsValue}
-use Rattle.values.specs.Answers.{answer, valueAnswer, valueAt}
-use Rattle.values.specs.declared.Value.the-variants.{Token, Number}
+use Rattle.values.specs.Values.{tag, value, lexed}
+use Rattle.values.proofs.Laws.{found-number}
 use Rattle.kinds.specs.declared.Shape.the-variants.{Place as PlaceAlone, Content}
 use Rattle.kinds.specs.Kinds.{kindOf, shapeOf, marksOf}
-use Rattle.items.specs.declared.Found.the-variants.{Value}
+use Rattle.values.specs.declared.Found.the-variants.{Value}
 use Rattle.items.specs.Tokens.{inBlock, lexIn, lex, after, tok}
 use Rattle.items.specs.Machine.{rec}
 use Rattle.items.specs.Descent.{nameRecs, afterNames, valueRecs, afterValues}
 use Rattle.items.specs.Decisions.{tokensAt}
-use Rattle.items.specs.Answers.{tagAt, foundOf, foundAt, kindOfNumber}
+use Rattle.items.specs.Answers.{tagAt}
+use Rattle.values.specs.Finding.{foundAt, kindOfNumber}
 use Rattle.items.proofs.Descent.{names-more, names-none, values-more, values-none}
 use Rattle.items.proofs.Lexes.{no-name}
 use Rattle.items.proofs.Wanted.{found-wanted}
@@ -123,28 +123,6 @@ value-here s o k n g f = record { bare = g; found = f }
 pub here-turn : (s : List ℕ) (o k n : ℕ) → ValueHere s o k n → ValueTurn s o o k n
 here-turn s o k n h = value-turn s o o k n (unfold gapEnd in omega (arith, h .bare)) (h .found)
 
--- a number's kind goes by its meaning
-number-kind : (u : List ℕ) (c : Class) (m k n : ℕ) → foundOf (answer u c m) ≡ Value k n → 14 ≤ k → k ≤ 15 → k ≡ kindOfNumber (meaning (parts (take n u)))
-unfolding answer
-number-kind u (value j) m k n e l h = by (eqb j 14 || eqb j 15) refl e
-  where
-    by : (t : Bool) → (eqb j 14 || eqb j 15) ≡ t → foundOf (cond t (Number (meaning (parts (take m u))) m) (Token j m)) ≡ Value k n → k ≡ kindOfNumber (meaning (parts (take n u)))
-    by true q e =
-        let z : m ≡ n = cc in
-        let y : k ≡ kindOfNumber (meaning (parts (take m u))) = cc in
-        rw z at y
-    by false q e =
-        let z : j ≡ k = cc in
-        let a = eqb-false j 14 (or-l (eqb j 14) (eqb j 15) q) in
-        let b = eqb-false j 15 (or-r (eqb j 14) (eqb j 15) q) in
-        absurd (omega arith)
-number-kind u overLimit m k n e l h = cc
-number-kind u block m k n e l h = cc
-number-kind u loop m k n e l h = cc
-number-kind u save m k n e l h = cc
-number-kind u tag m k n e l h = cc
-number-kind u (nothing w) m k n e l h = cc
-
 few-places : (w : List ℕ) → within (parts w) ≡ true → meaning (parts w) .places ≤ 18
 unfolding within meaning
 few-places w e =
@@ -159,24 +137,16 @@ pub record NumberTurn (s : List ℕ) (o k n : ℕ) : Type 0 where
   pub places : decimalOf s (recAt k o n) .places < 256
 
 pub number-turn : (s : List ℕ) (o k n : ℕ) → ValueHere s o k n → 14 ≤ k → NumberTurn s o k n
-unfolding valueAt valueAnswer decimalOf tokenText
+unfolding decimalOf tokenText
 number-turn s o k n h l =
     let t = here-turn s o k n h in
-    let w = t .limits (either k l (t .most)) in
+    let f = found-number s o k n (h .found) l in
     record {
       turn = t;
-      kind = number-kind (drop o s) (lexAsValue (drop o s) .class) (lexAsValue (drop o s) .size) k n (h .found) l (t .most);
-      limits = w;
-      places = omega (arith, few-places (take n (drop o s)) w);
+      kind = f .kind;
+      limits = f .kept;
+      places = omega (arith, few-places (take n (drop o s)) (f .kept));
     }
-  where
-    either : (k : ℕ) → 14 ≤ k → k ≤ 15 → (eqb k 14 || eqb k 15) ≡ true
-    either k l h = by (k - 14) (omega arith)
-      where
-        by : (j : ℕ) → k ≡ 14 + j → (eqb k 14 || eqb k 15) ≡ true
-        by zero e = rw e
-        by (suc zero) e = rw e
-        by (suc (suc j)) e = absurd (omega arith)
 
 -- a part of the text means what its record says
 pub decimal-here : (s : List ℕ) (o k n : ℕ) (d : Decimal) → d ≡ meaning (parts (take (o + n - o) (drop o s))) → d ≡ decimalOf s (recAt k o n)

@@ -13,8 +13,8 @@ use Rattle.places.specs.Places.{placeAt, IsPlace}
 use Rattle.keywords.specs.Keywords.{startsAt, keySave}
 use Rattle.kinds.specs.Kinds.{kindOf, shapeLength, marksOf}
 use Rattle.records.specs.Put.{put}
-use Rattle.items.specs.declared.Found.the-variants.{Value}
-use Rattle.items.specs.Answers.{foundAt}
+use Rattle.values.specs.declared.Found.the-variants.{Value}
+use Rattle.values.specs.Finding.{foundAt}
 use Rattle.items.specs.Tokens.{Tok, inBlock}
 use Rattle.items.specs.Machine.{Rec, Answer, refused, done}
 use Rattle.items.specs.Frames.{left}

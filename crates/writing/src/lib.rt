@@ -26,6 +26,7 @@ use kinds::Kind;
 use numbers::Decimal;
 use places::Place;
 use records::Token;
+use values::Found;
 
 // Where writing stands: the place in the text, and the offsets in the store and in the area.
 pub struct Cursor {
@@ -341,12 +342,10 @@ fn write_values(s: &[u8], full: bool, store: &mut [u8], area: &mut [u8], c: Curs
         let here = trimmed(s, last);
         let place = here.place;
         let offset = place.offset;
-        let token = items::pack_value(s, offset);
-        if token == 0 {
+        let Found::Value { kind, size } = values::find_value(s, offset) else {
             return here;
-        }
-        let kind = token % 16;
-        last = write_found(s, full, store, area, here, kind as u8, token / 16);
+        };
+        last = write_found(s, full, store, area, here, kind, size);
     }
 }
 
@@ -460,9 +459,9 @@ fn next_in_frame(s: &[u8], at: usize) -> Next
     }
     let end = words::long_word_end(s, at);
     let stop = gaps::gap_end(s, end);
-    if items::pack_value(s, stop) == 0 {
+    let Found::Value { kind: _, size: _ } = values::find_value(s, stop) else {
         return Next::Stop { at: stop };
-    }
+    };
     Next::Item
 }
 

@@ -4,8 +4,8 @@ use mathlib.Core.Path.{sym, _∙_}
 use native.Mathlib.Omega.{arith}
 use lib.ListN.{length}
 use Rattle.text.specs.Limits.{limit}
-use Rattle.items.proofs.Choices.{not-value}
-use Rattle.items.proofs.First.{found-lies}
+use Rattle.values.proofs.Choices.{not-value, over-left}
+use Rattle.values.proofs.Laws.{found-lies}
 use Rattle.items.proofs.Lists.{ValuesSoFar, values-start, values-next, values-all, value-step}
 use Rattle.items.proofs.Room.{upto-more}
 use Rattle.items.proofs.count_values.Statement.{statement}
@@ -24,22 +24,28 @@ loop-holds : tie.Need-loop-holds Inv-loop μ-loop
 loop-holds c = rw (c .none .ensures) (values-start _ _ (c .before .before .pre .within) (c .before .before .pre .none))
 
 find-value-requires : tie.Need-find-value-requires Inv-loop μ-loop
-find-value-requires c κs = tt
+unfolding limit
+find-value-requires c κs = omega (arith, c .before .before .before .pre .small)
 
 enum-known-found : tie.Need-enum-known-found Inv-loop μ-loop
 enum-known-found c = c .match .keys1
 
-is-over-requires : tie.Need-is-over-requires Inv-loop μ-loop
-is-over-requires c κs = tt
-
-why-not-requires : tie.Need-why-not-requires Inv-loop μ-loop
-why-not-requires c κs = tt
+enum-known-found-2 : tie.Need-enum-known-found-2 Inv-loop μ-loop
+enum-known-found-2 c = c .match2 .keys1
 
 returns : tie.Need-returns Inv-loop μ-loop
 returns c =
-    let l = c .before .before .before .before .loop in
-    let f = c .before .before .before .find-value in
-    rw (c .why-not .ensures, c .before .is-over .ensures) (values-all _ _ (l .at) (l .count) (l .sizes) (f .result) (l .inv) (f .ensures) (not-value (f .result) (c .before .before .match .keys2)))
+    let l = c .before .before .before .loop in
+    let f = c .before .before .find-value in
+    rw (over-left (f .result) (c .before .match .keys2) (c .match2 .keys2))
+    at (values-all _ _ (l .at) (l .count) (l .sizes) (f .result) (l .inv) (f .ensures) (not-value (f .result) (c .before .match .keys2)))
+
+returns-2 : tie.Need-returns-2 Inv-loop μ-loop
+returns-2 c =
+    let l = c .before .before .before .before .before .loop in
+    let f = c .before .before .before .before .find-value in
+    rw (c .before .found2 .given .1)
+    at (values-all _ _ (l .at) (l .count) (l .sizes) (f .result) (l .inv) (f .ensures) (not-value (f .result) (c .before .before .before .match .keys2)))
 
 add-value-requires : tie.Need-add-value-requires Inv-loop μ-loop
 unfolding limit
@@ -89,9 +95,9 @@ count-values-spec =
     loop-holds
     find-value-requires
     enum-known-found
-    is-over-requires
-    why-not-requires
+    enum-known-found-2
     returns
+    returns-2
     add-value-requires
     add-count
     add-gap-end

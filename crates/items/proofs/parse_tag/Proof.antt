@@ -4,8 +4,8 @@ use mathlib.Core.Path.{sym, _∙_}
 use native.Mathlib.Omega.{arith}
 use Rattle.text.specs.Limits.{limit}
 use Rattle.items.specs.Sizes.{noSizes}
-use Rattle.items.proofs.Choices.{not-value}
-use Rattle.items.proofs.First.{found-lies}
+use Rattle.values.proofs.Choices.{not-value, over-left}
+use Rattle.values.proofs.Laws.{found-lies}
 use Rattle.items.proofs.Items.{TagRead, tag-onward, tag-value-within, tag-value, tag-alone}
 use Rattle.items.proofs.Room.{upto-none, upto-added}
 use borrow.Author.Needs.{needs}
@@ -38,7 +38,8 @@ gap-end-requires : tie.Need-gap-end-requires
 gap-end-requires c κs = search needs
 
 find-value-requires : tie.Need-find-value-requires
-find-value-requires c κs = search needs
+unfolding limit
+find-value-requires c κs = omega (arith, c .before .before .before .pre .0 .small)
 
 enum-known-found : tie.Need-enum-known-found
 enum-known-found c = search needs
@@ -81,21 +82,19 @@ returns c =
     let b = c .before .before .before .before .before .before .before in
     tag-value (tag-read b) _ _ _ _ (c .before .before .before .before .before .found .given .1) (c .gap-end2 .ensures) (c .before .add-value .ensures ∙ rw (c .before .before .add .ensures, c .before .before .before .none .ensures))
 
-is-over-requires : tie.Need-is-over-requires
-is-over-requires c κs = search needs
+enum-known-found-2 : tie.Need-enum-known-found-2
+enum-known-found-2 c = search needs
 
 returns-2 : tie.Need-returns-2
 returns-2 c =
-    let b = c .before .before .before in
-    rw (sym (c .before .is-over .ensures) ∙ c .if1 .taken) at (tag-alone (tag-read b) (not-value (b .find-value .result) (c .before .before .match .keys2)))
-
-why-not-requires : tie.Need-why-not-requires
-why-not-requires c κs = search needs
+    let b = c .before .before in
+    rw (over-left (b .find-value .result) (c .before .match .keys2) (c .match2 .keys2))
+    at (tag-alone (tag-read b) (not-value (b .find-value .result) (c .before .match .keys2)))
 
 returns-3 : tie.Need-returns-3
 returns-3 c =
     let b = c .before .before .before .before in
-    rw (c .why-not .ensures) (rw (sym (c .before .before .is-over .ensures) ∙ c .before .if1 .left) at (tag-alone (tag-read b) (not-value (b .find-value .result) (c .before .before .before .match .keys2))))
+    rw (c .before .found2 .given .1) at (tag-alone (tag-read b) (not-value (b .find-value .result) (c .before .before .before .match .keys2)))
 
 pub parse-tag-spec : {M : Type 1} → statement M
 parse-tag-spec =
@@ -112,7 +111,6 @@ parse-tag-spec =
     add-gap-end
     gap-end-requires-2
     returns
-    is-over-requires
+    enum-known-found-2
     returns-2
-    why-not-requires
     returns-3)

@@ -5,7 +5,7 @@ use native.Mathlib.Omega.{arith}
 use lib.ListN.{length}
 use Rattle.gaps.proofs.Gaps.{gap-from}
 use Rattle.text.specs.Limits.{limit}
-use Rattle.items.proofs.Packs.{unpack, no-value-packed}
+use Rattle.values.proofs.Choices.{not-value}
 use Rattle.writing.specs.Walk.{desk}
 use Rattle.writing.proofs.SoFar.{SoFar, start}
 use Rattle.writing.proofs.Lists.{valuesFrom, behindValues, value-room, value-next, value-gap, value-last, trim-bare}
@@ -28,9 +28,12 @@ loop-holds c =
 trimmed-requires : tie.Need-trimmed-requires Inv-loop μ-loop
 trimmed-requires c κs = c .loop .inv .going .place
 
-pack-value-requires : tie.Need-pack-value-requires Inv-loop μ-loop
+find-value-requires : tie.Need-find-value-requires Inv-loop μ-loop
 unfolding limit
-pack-value-requires c κs = c .before .before .loop .inv .going .short
+find-value-requires c κs = omega (arith, c .before .before .loop .inv .going .short)
+
+enum-known-kind : tie.Need-enum-known-kind Inv-loop μ-loop
+enum-known-kind c = c .match .keys1
 
 same-length : tie.Need-same-length Inv-loop μ-loop
 same-length c = c .before .before .before .before .loop .inv .onward .store-length
@@ -43,50 +46,51 @@ returns c =
     let l = c .before .before .before .before .loop in
     let a = c .before .before .before .before .before .before .before .before .args in
     let h = c .before .before .before .trimmed in
+    let f = c .before .find-value in
     let d₀ = desk (a .c) (a .store .now) (a .area .now) in
     let d = desk (h .result) (l .store) (l .area) in
     let i = value-gap (a .full) (a .s .now) d₀ (l .last) (h .result) (l .store) (l .area) (l .inv) (h .ensures) in
     let g = trim-bare (a .s .now) (l .last) (h .result) (h .ensures) in
-    value-last (a .full) (a .s .now) d₀ d i g (no-value-packed (a .s .now) (h .result .place .offset) (sym (c .before .pack-value .ensures) ∙ c .if1 .taken))
-
-cast-write-found : tie.Need-cast-write-found Inv-loop μ-loop
-cast-write-found c = omega arith
+    value-last (a .full) (a .s .now) d₀ d i g (λ k n q. not-value (f .result) (c .match .keys2) k n (f .ensures ∙ q))
 
 write-found-requires : tie.Need-write-found-requires Inv-loop μ-loop
 write-found-requires c κs =
-    let l = c .before .before .before .before .before .before .loop in
-    let a = c .before .before .before .before .before .before .before .before .before .before .args in
-    let h = c .before .before .before .before .before .trimmed in
+    let l = c .before .before .before .before .before .before .before .before .loop in
+    let a = c .before .before .before .before .before .before .before .before .before .before .before .before .args in
+    let h = c .before .before .before .before .before .before .before .trimmed in
+    let f = c .before .before .before .before .before .find-value in
     let d₀ = desk (a .c) (a .store .now) (a .area .now) in
     let d = desk (h .result) (l .store) (l .area) in
     let i = value-gap (a .full) (a .s .now) d₀ (l .last) (h .result) (l .store) (l .area) (l .inv) (h .ensures) in
     let g = trim-bare (a .s .now) (l .last) (h .result) (h .ensures) in
-    let v = value-here (a .s .now) (h .result .place .offset) _ _ g (sym (unpack (a .s .now) (h .result .place .offset) _ (c .before .before .before .pack-value .ensures) (c .before .before .if1 .left))) in
+    let v = value-here (a .s .now) (h .result .place .offset) _ _ g (sym (f .ensures) ∙ c .before .before .before .kind .given .1) in
     (i .going, v, value-room (a .full) (a .s .now) d₀ d _ _ i v)
 
 loop-less : tie.Need-loop-less Inv-loop μ-loop
 loop-less c =
-    let l = c .before .before .before .before .before .before .before .before .before .before .before .loop in
-    let a = c .before .before .before .before .before .before .before .before .before .before .before .before .before .before .before .args in
-    let h = c .before .before .before .before .before .before .before .before .before .before .trimmed in
+    let l = c .before .before .before .before .before .before .before .before .before .before .before .before .before .loop in
+    let a = c .before .before .before .before .before .before .before .before .before .before .before .before .before .before .before .before .before .args in
+    let h = c .before .before .before .before .before .before .before .before .before .before .before .before .trimmed in
+    let f = c .before .before .before .before .before .before .before .before .before .before .find-value in
     let d₀ = desk (a .c) (a .store .now) (a .area .now) in
     let d = desk (h .result) (l .store) (l .area) in
     let i = value-gap (a .full) (a .s .now) d₀ (l .last) (h .result) (l .store) (l .area) (l .inv) (h .ensures) in
     let g = trim-bare (a .s .now) (l .last) (h .result) (h .ensures) in
-    let v = value-here (a .s .now) (h .result .place .offset) _ _ g (sym (unpack (a .s .now) (h .result .place .offset) _ (c .before .before .before .before .before .before .before .before .pack-value .ensures) (c .before .before .before .before .before .before .before .if1 .left))) in
+    let v = value-here (a .s .now) (h .result .place .offset) _ _ g (sym (f .ensures) ∙ c .before .before .before .before .before .before .before .before .kind .given .1) in
     let n = value-next (a .full) (a .s .now) d₀ d _ _ _ i v (c .before .before .before .before .write-found .ensures) in
     omega (arith, n .1, n .2, trim-offset (a .s .now) (l .last) (h .result) (h .ensures), gap-from (a .s .now) (l .last .place .offset))
 
 loop-again : tie.Need-loop-again Inv-loop μ-loop
 loop-again c =
-    let l = c .before .before .before .before .before .before .before .before .before .before .before .loop in
-    let a = c .before .before .before .before .before .before .before .before .before .before .before .before .before .before .before .args in
-    let h = c .before .before .before .before .before .before .before .before .before .before .trimmed in
+    let l = c .before .before .before .before .before .before .before .before .before .before .before .before .before .loop in
+    let a = c .before .before .before .before .before .before .before .before .before .before .before .before .before .before .before .before .before .args in
+    let h = c .before .before .before .before .before .before .before .before .before .before .before .before .trimmed in
+    let f = c .before .before .before .before .before .before .before .before .before .before .find-value in
     let d₀ = desk (a .c) (a .store .now) (a .area .now) in
     let d = desk (h .result) (l .store) (l .area) in
     let i = value-gap (a .full) (a .s .now) d₀ (l .last) (h .result) (l .store) (l .area) (l .inv) (h .ensures) in
     let g = trim-bare (a .s .now) (l .last) (h .result) (h .ensures) in
-    let v = value-here (a .s .now) (h .result .place .offset) _ _ g (sym (unpack (a .s .now) (h .result .place .offset) _ (c .before .before .before .before .before .before .before .before .pack-value .ensures) (c .before .before .before .before .before .before .before .if1 .left))) in
+    let v = value-here (a .s .now) (h .result .place .offset) _ _ g (sym (f .ensures) ∙ c .before .before .before .before .before .before .before .before .kind .given .1) in
     value-next (a .full) (a .s .now) d₀ d _ _ _ i v (c .before .before .before .before .write-found .ensures) .0
 
 pub write-values-spec : {M : Type 1} → statement M
@@ -97,11 +101,11 @@ write-values-spec =
     μ-loop
     loop-holds
     trimmed-requires
-    pack-value-requires
+    find-value-requires
+    enum-known-kind
     same-length
     same-length-2
     returns
-    cast-write-found
     write-found-requires
     loop-less
     loop-again)
