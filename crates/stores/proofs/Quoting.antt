@@ -4,10 +4,7 @@ use Prim.Native.Nat.{ℕ, zero, suc, _+_, _-_, _≤_, _<_}
 use mathlib.Core.Path.{_≡_, refl, sym, ap, _∙_}
 use mathlib.Core.Bool.{Bool, true, false, not, cond, _&&_, _||_}
 use mathlib.Core.List.{List, [], _∷_, _++_}
-use mathlib.Core.Logic.{_⊎_, inl, inr}
 use mathlib.Core.Option.{Option, none, some}
-use types.Run.{OneOf}
-use denote.Enum.Declared.{tagOf}
 use native.Mathlib.Omega.{arith}
 use native.Mathlib.Numerals.{add-one}
 use borrow.Author.Tests.{eq-eqb, ne-eqb}
@@ -21,12 +18,10 @@ use Rattle.keywords.specs.Keywords.{lower, starts, keyData, keyGlobal, keyLoop,
 use Rattle.quotes.specs.Quotes.{more, quoted, fieldIn, field}
 use Rattle.quotes.specs.Answers.{fieldEnd}
 use Rattle.quotes.proofs.Quotes.{field-behind, field-nothing}
-use Rattle.values.specs.declared.Value.{Value}
-use Rattle.values.specs.declared.Value.the-variants.{Token, Number, Over, Missing}
-use Rattle.values.specs.Values.{Reason, Class, value, overLimit, nothing, Lexed, lexed, closed, lexValue, lexAsValue}
-use Rattle.values.specs.Answers.{valueAt}
-use Rattle.values.proofs.Value.{the-type as value-type}
-use Rattle.values.proofs.Laws.{value-token, value-number, value-over, value-missing}
+use Rattle.values.specs.declared.Found.the-variants.{Value}
+use Rattle.values.specs.Values.{Reason, Class, block, loop, save, tag, value, overLimit, nothing, Lexed, lexed, closed, lexValue, lexAsValue}
+use Rattle.values.specs.Finding.{foundAt}
+use Rattle.values.proofs.Laws.{found-token, found-none}
 use Rattle.stores.specs.Contents.{isKind, isAlone}
 use Rattle.stores.specs.Pieces.{inQuotes, plain}
 
@@ -157,19 +152,19 @@ module _ (c : List ℕ) where
 -- A bare value
 
 module _ (c : List ℕ) where
-  pub bare-token : (k n : ℕ) → valueAt c 0 ≡ Token k n → isAlone 10 c ≡ (eqb k 10 && eqb n (length c))
+  pub bare-value : (k n : ℕ) → foundAt c 0 ≡ Value k n → isAlone 10 c ≡ (eqb k 10 && eqb n (length c))
   unfolding isAlone isKind lexed
-  bare-token k n e = rw (value-token c 0 k n e .token)
+  bare-value k n e = rw (found-token c 0 k n e)
 
-  number-kind : (u : Bool) → eqb (cond u 15 14) 10 ≡ false
-  number-kind true = refl
-  number-kind false = refl
-
-  pub bare-other : (v : Value) → valueAt c 0 ≡ v → OneOf (1 ∷ 2 ∷ 3 ∷ []) (tagOf value-type v) → isAlone 10 c ≡ false
-  unfolding isAlone isKind lexed
-  bare-other (Token k n) e (inl h) = absurd (omega arith)
-  bare-other (Token k n) e (inr (inl h)) = absurd (omega arith)
-  bare-other (Token k n) e (inr (inr h)) = absurd (omega arith)
-  bare-other (Number d n) e h = rw (value-number c 0 d n e .token, number-kind (d .uncertain))
-  bare-other Over e h = rw (value-over c 0 e)
-  bare-other (Missing w) e h = rw (value-missing c 0 w e .token)
+  pub bare-other : ((k n : ℕ) → foundAt c 0 ≡ Value k n → ⊥) → isAlone 10 c ≡ false
+  unfolding isAlone isKind
+  bare-other h = by (lexAsValue c .class) (found-none c 0 h)
+    where
+      by : (x : Class) → ((k : ℕ) → x ≡ value k → ⊥) → (isKind 10 x && eqb (lexAsValue c .size) (length c)) ≡ false
+      by (value k) f = absurd (f k refl)
+      by overLimit f = refl
+      by block f = refl
+      by loop f = refl
+      by save f = refl
+      by tag f = refl
+      by (nothing w) f = refl

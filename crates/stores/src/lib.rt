@@ -19,7 +19,7 @@ use kinds::Kind;
 use kinds::Shape;
 use places::Report;
 use quotes::Closing;
-use values::Value;
+use values::Found;
 
 // What may stand next in a store.
 pub enum Where {
@@ -239,13 +239,13 @@ fn is_name(content: &[u8]) -> bool
 
 // A bare value and nothing behind it.
 fn is_bare(content: &[u8]) -> bool
+    requires { ⌜ length (now content) < 2 ^ 32 ⌝ }
     ensures { λ r. ⌜ r ≡ isAlone 10 (now (content .entry)) ⌝ }
 {
-    let value = values::parse_value(content, 0);
-    let Value::Token { kind, size } = value else {
+    let Found::Value { kind, size } = values::find_value(content, 0) else {
         return false;
     };
-    if kind != 10 {
+    if kind != Kind::BARE {
         return false;
     }
     size == content.len()
@@ -289,6 +289,7 @@ fn is_field(content: &[u8]) -> bool
 
 // Whether a content could be read as its kind, all of it being ASCII.
 fn is_readable_by(kind: Kind, content: &[u8]) -> bool
+    requires { ⌜ length (now content) < 2 ^ 32 ⌝ }
     ensures { λ r. ⌜ r ≡ readableBy kind (now (content .entry)) ⌝ }
 {
     match kind {
@@ -302,6 +303,7 @@ fn is_readable_by(kind: Kind, content: &[u8]) -> bool
 }
 
 fn is_readable(kind: Kind, content: &[u8]) -> bool
+    requires { ⌜ length (now content) < 2 ^ 32 ⌝ }
     ensures { λ r. ⌜ r ≡ readable kind (now (content .entry)) ⌝ }
 {
     if text::ascii_end(content) != content.len() {
