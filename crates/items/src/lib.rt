@@ -147,24 +147,17 @@ impl Sizes {
         }
     }
 
-    // One value more: as `add`, without its tables, since values are most of a text.
+    // One value more: as `add`, by the value's shape, which is not empty.
     fn add_value(self, kind: u8, size: usize) -> Sizes
         requires { ⌜ Upto (limit * limit) self × (size ≤ limit) × (8 ≤ kind) × (kind ≤ 15) × (11 ≤ kind → kind ≤ 13 → 2 ≤ size) ⌝ }
         ensures { λ r. ⌜ r ≡ added self kind size ⌝ }
     {
-        if kind == 10 {
-            return self.plus(Shape::Content, size);
-        }
-        if kind == 14 {
-            return self.plus(Shape::Parts, 0);
-        }
-        if kind == 15 {
-            return self.plus(Shape::PartsUncertain, 0);
-        }
-        if kind < 10 {
-            return self.plus(Shape::Place, 0);
-        }
-        self.plus(Shape::Content, size - Kind::QUOTE_MARKS)
+        let kind = Kind::of(kind);
+        let shape = kind.shape();
+        let Shape::Content = shape else {
+            return self.plus(shape, 0);
+        };
+        self.plus(Shape::Content, size - kind.marks())
     }
 
     // The records of both.
@@ -222,7 +215,7 @@ fn count_values(s: &[u8], from: usize) -> Values
     let mut count: usize = 0;
     let mut sizes = Sizes::none();
     loop {
-        let found = values::find_value(s, at);
+        let found = Found::of(values::pack_value(s, at));
         let Found::Value { kind, size } = found else {
             let Found::Missing { why } = found else {
                 return Values {
@@ -295,7 +288,7 @@ fn parse_tag(s: &[u8], at: usize) -> Item
 {
     let end = words::long_word_end(s, at);
     let stop = gaps::gap_end(s, end);
-    let found = values::find_value(s, stop);
+    let found = Found::of(values::pack_value(s, stop));
     if let Found::Value { kind, size } = found {
         let sizes = Sizes::none().add(4, end - at).add_value(kind, size);
         return Item::Single {

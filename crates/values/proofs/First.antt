@@ -46,7 +46,7 @@ free-none : (b : ℕ) → isFreeLetter b ≡ true → startsNumber b ≡ false
 unfolding allBelow isFreeLetter lower isDigit is
 free-none b e =
     let no : (c : ℕ) → allBelow (λ k. not (isFreeLetter (65 + k)) || not (eqb (65 + k) c)) 58 ≡ true → b ≡ c → ⊥
-        = λ c t. eqb-false b c (not-true (eqb b c) (free-letter-is (λ x. not (eqb x c)) t b e)) in
+    = λ c t. eqb-false b c (not-true (eqb b c) (free-letter-is (λ x. not (eqb x c)) t b e)) in
     starts-none b (not-true (isDigit b) (free-letter-is (λ x. not (isDigit x)) refl b e)) (no 43 refl) (no 45 refl) (no 46 refl)
 
 pub free-found : (s : List ℕ) (o : ℕ) → o < length s → isFreeLetter (getD s o 0) ≡ true → foundAt s o ≡ Value 10 (wordEnd s o - o)

@@ -30,8 +30,7 @@ unpack-over : unpackedOf (packedOf Over) ≡ Over
 unfolding unpackedOf
 unpack-over = refl
 
--- what is packed comes out again
-pub unpack : (s : List ℕ) (o : ℕ) → unpackedOf (packedAt s o) ≡ foundAt s o
+unpack : (s : List ℕ) (o : ℕ) → unpackedOf (packedAt s o) ≡ foundAt s o
 unfolding packedAt
 unpack s o = by (foundAt s o) refl
   where
@@ -41,6 +40,10 @@ unpack s o = by (foundAt s o) refl
         unpack-value k n (omega (arith, l .high)) (l .pos)
     by Over q = unpack-over
     by (Missing w) q = unpack-missing w
+
+-- what is packed comes out again
+pub found-packed : (s : List ℕ) (o t : ℕ) (f : Found) → t ≡ packedAt s o → f ≡ unpackedOf t → f ≡ foundAt s o
+found-packed s o t f e q = q ∙ rw e (unpack s o)
 
 -- one answer, packed
 pub packs : (s : List ℕ) (o : ℕ) (f : Found) → foundAt s o ≡ f → packedOf f ≡ packedAt s o

@@ -174,7 +174,7 @@ module _ (s : List ℕ) (o : ℕ) (h : o < length s) (r : reserved (drop o s) �
     found-word f =
         let l : drop o s ≡ getD s o 0 ∷ drop (suc o) s = drop-cons s o 0 h in
         let x : lexValue (getD s o 0) (drop (suc o) s) ≡ wordOr (lexed (value 10) (word (drop o s))) (drop o s)
-            = rw (l, ne-eqb _ _ n46, ne-eqb _ _ n63, ne-eqb _ _ n39, ne-eqb _ _ n34, ne-eqb _ _ n59, f) in
+        = rw (l, ne-eqb _ _ n46, ne-eqb _ _ n63, ne-eqb _ _ n39, ne-eqb _ _ n34, ne-eqb _ _ n59, f) in
         by-byte ∙ ap foundOf x ∙ word-piece (drop o s) (lexed (value 10) (word (drop o s))) ∙ whole-word (Value 10 (word (drop o s)))
         ∙ ap (λ (n : ℕ). numberAt (Value 10 n) s o (wordEnd s o)) (sym (word-size s o))
 

@@ -27,7 +27,7 @@ pub data Read (s : List ℕ) : Lexed → Type 0 where
   double : (t : List ℕ) (n : ℕ) → s ≡ 34 ∷ t → quoted 34 t ≡ some n → Read s (lexed (value 12) (suc n))
   multi : (t : List ℕ) (n : ℕ) → s ≡ 59 ∷ t → field t ≡ some n → Read s (lexed (value 13) (suc n))
   number : (u : Bool) → parts (take (word s) s) .unc .here ≡ u → numberOf (take (word s) s) ≡ Is (meaning (parts (take (word s) s))) → 0 < word s
-    → Read s (lexed (value (cond u 15 14)) (word s))
+      → Read s (lexed (value (cond u 15 14)) (word s))
   over : 0 < word s → Read s (lexed overLimit (word s))
 
 pick : (s : List ℕ) (t : Bool) (x y : Lexed) → (t ≡ true → Read s x) → (t ≡ false → Read s y) → Read s (cond t x y)

@@ -5,7 +5,7 @@ ghost use Prim.Native.Nat.{_-_, _≤_, _<_, _^_};
 ghost use lib.ListN.{length, getD};
 ghost use Rattle.words.specs.Words.{wordEnd};
 ghost use Rattle.values.specs.Answers.{valueAt};
-ghost use Rattle.values.specs.Finding.{startsDecimal, kindOfNumber, foundAt, pack, packedOf, packedAt, whyOfNumber, unpackedOf};
+ghost use Rattle.values.specs.Finding.{startsDecimal, kindOfNumber, pack, packedOf, packedAt, whyOfNumber, unpackedOf};
 ghost use Rattle.values.specs.Pieces.{numberAt, wordAt, pointAt, quoteAt, fieldAt};
 ghost use Rattle.values.specs.declared.Found.the-variants.{Value as FoundValue};
 use kinds::Kind;
@@ -37,8 +37,8 @@ pub enum Value {
     Missing { why: Why },
 }
 
-// What is found is packed into one number, since one comes back from a call in a register, an enum through memory: a value's kind and its length times
-// `KINDS`; what is no value has no length, and a number below `KINDS` says what it is.
+// What is found is packed into one number, since one comes back from a call in a register, an enum through memory; `Found::of` takes it apart. A value
+// is its kind and its length times `KINDS`; what is no value has no length, and a number below `KINDS` says what it is.
 const KINDS: usize = 32;
 
 const AT_END: usize = 0;
@@ -197,8 +197,9 @@ fn pack_marked(s: &[u8], at: usize, b: u8) -> usize
     pack_bare(s, at)
 }
 
-// What stands at an offset where a value may, behind space and comments, packed. The first byte tells most values, without making what they mean.
-fn pack_value(s: &[u8], at: usize) -> usize
+// What stands at an offset where a value may, behind space and comments, packed for `Found::of`. The first byte tells most values, without making what
+// they mean. Lengths are stored in four bytes.
+pub fn pack_value(s: &[u8], at: usize) -> usize
     requires { ⌜ length (now s) < 2 ^ 32 ⌝ }
     ensures { λ r. ⌜ r ≡ packedAt (now (s .entry)) at ⌝ }
 {
@@ -234,37 +235,31 @@ fn why_of(token: usize) -> Why
     Why::OpenField
 }
 
-// What is packed.
-fn unpacked(token: usize) -> Found
-    ensures { λ r. ⌜ r ≡ unpackedOf token ⌝ }
-{
-    if KINDS <= token {
-        let kind = token % KINDS;
-        return Found::Value {
-            kind: kind as u8,
-            size: token / KINDS,
-        };
+impl Found {
+    // What a packed number says.
+    pub fn of(token: usize) -> Found
+        ensures { λ r. ⌜ r ≡ unpackedOf token ⌝ }
+    {
+        if KINDS <= token {
+            let kind = token % KINDS;
+            return Found::Value {
+                kind: kind as u8,
+                size: token / KINDS,
+            };
+        }
+        if token == OVER {
+            return Found::Over;
+        }
+        Found::Missing { why: why_of(token) }
     }
-    if token == OVER {
-        return Found::Over;
-    }
-    Found::Missing { why: why_of(token) }
 }
 
-// What stands at an offset where a value may, behind space and comments. Lengths are stored in four bytes.
-pub fn find_value(s: &[u8], at: usize) -> Found
-    requires { ⌜ length (now s) < 2 ^ 32 ⌝ }
-    ensures { λ r. ⌜ r ≡ foundAt (now (s .entry)) at ⌝ }
-{
-    unpacked(pack_value(s, at))
-}
-
-// The same, and what a number there means.
+// What stands there, and what a number means.
 pub fn parse_value(s: &[u8], at: usize) -> Value
     requires { ⌜ length (now s) < 2 ^ 32 ⌝ }
     ensures { λ r. ⌜ r ≡ valueAt (now (s .entry)) at ⌝ }
 {
-    let found = find_value(s, at);
+    let found = Found::of(pack_value(s, at));
     if let Found::Value { kind, size } = found {
         if kind < Kind::NUMBER {
             return Value::Token { kind, size };

@@ -342,7 +342,7 @@ fn write_values(s: &[u8], full: bool, store: &mut [u8], area: &mut [u8], c: Curs
         let here = trimmed(s, last);
         let place = here.place;
         let offset = place.offset;
-        let Found::Value { kind, size } = values::find_value(s, offset) else {
+        let Found::Value { kind, size } = Found::of(values::pack_value(s, offset)) else {
             return here;
         };
         last = write_found(s, full, store, area, here, kind, size);
@@ -459,7 +459,7 @@ fn next_in_frame(s: &[u8], at: usize) -> Next
     }
     let end = words::long_word_end(s, at);
     let stop = gaps::gap_end(s, end);
-    let Found::Value { kind: _, size: _ } = values::find_value(s, stop) else {
+    let Found::Value { kind: _, size: _ } = Found::of(values::pack_value(s, stop)) else {
         return Next::Stop { at: stop };
     };
     Next::Item

@@ -1,9 +1,9 @@
--- `values::unpacked`: a number from 32 on is a value's. Assumes nothing.
+-- `values::Found::of`: a number from 32 on is a value's. Assumes nothing.
 use borrow.Author.Tests.{le-leb, lt-leb, eq-eqb, ne-eqb}
 use Rattle.values.specs.Finding.{unpackedOf}
 use borrow.Author.Needs.{needs}
-use Rattle.values.proofs.unpacked.Statement.{statement}
-use Rattle.values.proofs.unpacked.Tie as tie
+use Rattle.values.proofs.Found.of.Statement.{statement}
+use Rattle.values.proofs.Found.of.Tie as tie
 
 cast-t4 : tie.Need-cast-t4
 cast-t4 c = search needs
@@ -23,5 +23,5 @@ returns-3 : tie.Need-returns-3
 unfolding unpackedOf
 returns-3 c = rw (lt-leb _ _ (c .before .before .if1 .left), ne-eqb _ _ (c .before .if2 .left), c .why-of .ensures)
 
-pub unpacked-spec : {M : Type 1} → statement M
-unpacked-spec = tie.close (tie.spec cast-t4 returns returns-2 why-of-requires returns-3)
+pub of-spec : {M : Type 1} → statement M
+of-spec = tie.close (tie.spec cast-t4 returns returns-2 why-of-requires returns-3)
