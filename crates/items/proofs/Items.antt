@@ -12,26 +12,28 @@ use Rattle.gaps.proofs.Gaps.{gap-none}
 use Rattle.words.specs.Words.{word, wordEnd}
 use Rattle.keywords.specs.Keywords.{starts, startsAt, keyLoop}
 use Rattle.values.specs.Values.{Class, block, loop, save, tag, value, overLimit, nothing, lexed}
-use Rattle.items.specs.declared.Sizes.{Sizes}
+use Rattle.sizes.specs.declared.Sizes.{Sizes}
 use Rattle.items.specs.declared.Names.{Names}
 use Rattle.items.specs.declared.Values.{Values}
 use Rattle.values.specs.declared.Found.{Found}
 use Rattle.values.specs.declared.Found.the-variants.{Value}
 use Rattle.items.specs.declared.Item.{Item as Answered}
 use Rattle.items.specs.declared.Item.the-variants.{Loop, Single, Ragged, NoValue as TagAlone, NoItem, NoNames, Over}
-use Rattle.items.specs.Tokens.{Mode, inBlock, lexIn, lex, after, Tok, tok}
-use Rattle.items.specs.Machine.{Rec, rec, loopEnd}
-use Rattle.items.specs.Sizes.{sizesOf, noSizes, added, joined, Upto}
-use Rattle.items.specs.Descent.{nameRecs, afterNames, valueRecs, afterValues, taken, failed, broken, isOver, rows, loopBy, loopItem, single, tagItem, itemBy, item}
-use Rattle.items.specs.Decisions.{tokensAt, headAt, headWhy, whyNot}
-use Rattle.items.specs.Answers.{tagFirst, tagAt, namesOf, namesAt, headOver, valuesOf, valuesAt, rowsOf, itemAnswer, itemAt}
+use Rattle.grammar.specs.Tokens.{Mode, inBlock, lexIn, lex, after, Tok, tok}
+use Rattle.grammar.specs.Machine.{Rec, rec, loopEnd}
+use Rattle.sizes.specs.Sizes.{sizesOf, noSizes, added, joined, Upto}
+use Rattle.grammar.specs.Descent.{nameRecs, afterNames, valueRecs, afterValues, taken, failed, broken, isOver, rows, loopBy, loopItem, single, tagItem, itemBy, item}
+use Rattle.grammar.specs.Tokens.{tokensAt, headAt}
+use Rattle.items.specs.Answers.{headWhy, whyNot}
+use Rattle.items.specs.Answers.{namesOf, namesAt, headOver, valuesOf, valuesAt, rowsOf, itemAnswer, itemAt}
+use Rattle.grammar.specs.Tokens.{tagFirst, tagAt}
 use Rattle.values.specs.Finding.{foundAt, isOverFound, whyFound}
-use Rattle.items.proofs.Descent.{Ends, names-ends, values-ends}
-use Rattle.items.proofs.Lexes.{lex-other, startsItem}
+use Rattle.grammar.proofs.Descent.{Ends, names-ends, values-ends}
+use Rattle.grammar.proofs.Lexes.{lex-other, startsItem}
 use Rattle.items.proofs.Lists.{met-value, name-step, value-step}
-use Rattle.items.proofs.Offsets.{tokens-gap, tokens-ends, Met, met-loop, met-tag, first, both, both-spot}
+use Rattle.grammar.proofs.Offsets.{tokens-gap, tokens-ends, Met, met-loop, met-tag, first, both, both-spot}
 use Rattle.items.proofs.Passes.{names-alike, values-alike}
-use Rattle.items.proofs.Room.{sizes-cons, sizes-one, sizes-snoc, sizes-append, joined-assoc, added-none, upto-more}
+use Rattle.sizes.proofs.Room.{sizes-cons, sizes-one, sizes-snoc, sizes-append, joined-assoc, added-none, upto-more}
 use Rattle.values.specs.Finding.{wanted}
 use Rattle.items.proofs.Wanted.{found-wanted}
 

@@ -15,23 +15,25 @@ use Rattle.gaps.proofs.Gaps.{gap-from, gap-within, gap-none}
 use Rattle.words.specs.Words.{word, wordEnd}
 use Rattle.values.specs.Values.{Class, block, loop, save, tag, value, overLimit, nothing, lexed}
 use Rattle.values.specs.declared.Why.{Why}
-use Rattle.items.specs.declared.Sizes.{Sizes}
+use Rattle.sizes.specs.declared.Sizes.{Sizes}
 use Rattle.items.specs.declared.Names.{Names}
 use Rattle.items.specs.declared.Values.{Values}
 use Rattle.values.specs.declared.Found.{Found}
 use Rattle.values.specs.declared.Found.the-variants.{Value}
-use Rattle.items.specs.Tokens.{inBlock, lexIn, lex, after, Tok, tok}
-use Rattle.items.specs.Machine.{rec}
-use Rattle.items.specs.Sizes.{sizesOf, noSizes, added, joined, Upto}
-use Rattle.items.specs.Descent.{nameRecs, valueRecs, isOver}
-use Rattle.items.specs.Decisions.{tokensAt, headAt, headWhy, whyNot}
-use Rattle.items.specs.Answers.{tagFirst, tagAt, namesOf, namesAt, headOver, valuesOf, valuesAt}
+use Rattle.grammar.specs.Tokens.{inBlock, lexIn, lex, after, Tok, tok}
+use Rattle.grammar.specs.Machine.{rec}
+use Rattle.sizes.specs.Sizes.{sizesOf, noSizes, added, joined, Upto}
+use Rattle.grammar.specs.Descent.{nameRecs, valueRecs, isOver}
+use Rattle.grammar.specs.Tokens.{tokensAt, headAt}
+use Rattle.items.specs.Answers.{headWhy, whyNot}
+use Rattle.items.specs.Answers.{namesOf, namesAt, headOver, valuesOf, valuesAt}
+use Rattle.grammar.specs.Tokens.{tagFirst, tagAt}
 use Rattle.values.specs.Finding.{foundAt, isOverFound, whyFound}
-use Rattle.items.proofs.Descent.{NoName, NoValue, value-or-not, names-more, names-none, values-more, values-none}
-use Rattle.items.proofs.Fits.{isValue, lexIn-pos}
-use Rattle.items.proofs.Lexes.{no-name}
-use Rattle.items.proofs.Offsets.{tokens-gap, Met, met, met-tag, first}
-use Rattle.items.proofs.Room.{sizes-cons, added-joined, sizes-none, none-joined, joined-none, upto-none, upto-added}
+use Rattle.grammar.proofs.Descent.{NoName, NoValue, value-or-not, names-more, names-none, values-more, values-none}
+use Rattle.grammar.proofs.Fits.{isValue, lexIn-pos}
+use Rattle.grammar.proofs.Lexes.{no-name}
+use Rattle.grammar.proofs.Offsets.{tokens-gap, Met, met, met-tag, first}
+use Rattle.sizes.proofs.Room.{sizes-cons, added-joined, sizes-none, none-joined, joined-none, upto-none, upto-added}
 use Rattle.values.specs.Finding.{wanted}
 use Rattle.items.proofs.Wanted.{found-wanted}
 

@@ -8,9 +8,9 @@ use Rattle.kinds.specs.declared.Kind.{Kind}
 use Rattle.kinds.specs.declared.Shape.{Shape}
 use Rattle.kinds.specs.declared.Shape.the-variants.{Empty, Place, Content, Count, Parts, PartsUncertain}
 use Rattle.kinds.specs.Kinds.{kindOf, shapeOf, shapeLength, outlineShape, marksOf, bodyLength, outlineLength, isContent, hasContent}
-use Rattle.items.specs.declared.Sizes.{Sizes}
-use Rattle.items.specs.Machine.{Rec}
-use Rattle.items.specs.Sizes.{contentSize, storeSize, outlineSize, areaSize, sizesOf, noSizes, grown, added, joined, Upto}
+use Rattle.sizes.specs.declared.Sizes.{Sizes}
+use Rattle.grammar.specs.Machine.{Rec}
+use Rattle.sizes.specs.Sizes.{contentSize, storeSize, outlineSize, areaSize, sizesOf, noSizes, grown, added, joined, Upto}
 
 -- two sizes with equal parts are equal
 same : {z y : Sizes} → z .store ≡ y .store → z .outline ≡ y .outline → z .area ≡ y .area → z ≡ y

@@ -12,7 +12,7 @@ use Rattle.values.specs.Answers.{whyOf}
 use Rattle.values.specs.Finding.{wanted, foundAt}
 use Rattle.keywords.proofs.Keywords.{reserved-words}
 use Rattle.values.proofs.Laws.{found-as-value, as-value-end, as-value, tag-none}
-use Rattle.items.specs.Tokens.{Mode, saveSize, lexIn}
+use Rattle.grammar.specs.Tokens.{Mode, saveSize, lexIn}
 
 -- no value starts with a keyword or `_`
 starts-none : (d g l s t u : Bool) (z w : ℕ) (v : Lexed) → (u ≡ true → v ≡ lexed (nothing noStart) 0)

@@ -11,11 +11,12 @@ use Rattle.items.specs.declared.Names.{Names}
 use Rattle.items.specs.declared.Values.{Values}
 use Rattle.items.specs.declared.Item.{Item as Answered}
 use Rattle.items.specs.declared.Item.the-variants.{Loop, Single, Ragged, NoValue, NoItem, NoNames, Over}
-use Rattle.items.specs.Tokens.{Tok, inBlock}
+use Rattle.grammar.specs.Tokens.{Tok, inBlock}
 use Rattle.text.specs.Limits.{limit}
-use Rattle.items.specs.Sizes.{sizesOf, noSizes, added, joined}
-use Rattle.items.specs.Descent.{Item, taken, failed, broken, item, nameRecs, afterNames, valueRecs, afterValues, isOver}
-use Rattle.items.specs.Decisions.{tokensAt, headAt, headWhy}
+use Rattle.sizes.specs.Sizes.{sizesOf, noSizes, added, joined}
+use Rattle.grammar.specs.Descent.{Item, taken, failed, broken, item, nameRecs, afterNames, valueRecs, afterValues, isOver}
+use Rattle.grammar.specs.Tokens.{tokensAt, headAt}
+use Rattle.items.specs.Answers.{headWhy}
 
 -- o is an offset of a text within limit 1
 pub record Ready (s : List ℕ) (o : ℕ) : Type 0 where

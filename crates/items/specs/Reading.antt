@@ -8,8 +8,8 @@ use lib.ListN.{length}
 use Rattle.text.specs.Bytes.{isAscii}
 use Rattle.text.specs.Runs.{span}
 use Rattle.text.specs.Limits.{limit}
-use Rattle.items.specs.Tokens.{tokens}
-use Rattle.items.specs.Machine.{Answer, refused, done, run, config, start}
+use Rattle.grammar.specs.Tokens.{tokens}
+use Rattle.grammar.specs.Machine.{Answer, refused, done, run, config, start}
 
 -- what the tokens say
 unfoldable pub decided : List ℕ → Answer

@@ -14,11 +14,12 @@ use Rattle.text.proofs.Runs.{span-stop, span-over, span-to}
 use Rattle.numbers.specs.declared.Number.the-variants.{Not, Is, Over}
 use Rattle.numbers.specs.Parts.{Parts, parts, isNumber, within}
 use Rattle.numbers.specs.Meaning.{meaning, judged, numberOf}
-use Rattle.numbers.specs.Cuts.{piece, startsNumber}
-use Rattle.numbers.specs.Plain.{wordStops, decimalEnd}
+use Rattle.cuts.specs.Digits.{piece}
+use Rattle.numbers.specs.Pieces.{startsNumber}
+use Rattle.decimals.specs.Plain.{wordStops, decimalEnd}
 use Rattle.numbers.proofs.Facts.{not-number, no-number-by-first-byte, dot-alone}
 use Rattle.numbers.proofs.Made.{all, others}
-use Rattle.numbers.proofs.Plain.{Plain, plain, plain-bytes}
+use Rattle.decimals.proofs.Plain.{Plain, plain, plain-bytes}
 
 -- a word is judged by its parts: is it a number, and does it keep the limits
 pub number-judged : (w : List ℕ) → numberOf w ≡ cond (isNumber (parts w)) (cond (within (parts w)) (Is (meaning (parts w))) Over) Not

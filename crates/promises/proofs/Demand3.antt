@@ -16,9 +16,9 @@ use Rattle.text.specs.Bytes.{is, isAscii, isEol}
 use Rattle.text.specs.Runs.{span}
 use Rattle.places.specs.Places.{placeAt}
 use Rattle.text.proofs.Bools.{or-l, or-r}
-use Rattle.items.specs.Tokens.{before, tokens}
-use Rattle.items.specs.Machine.{Rec, Answer, refused, done, config, start}
-use Rattle.items.specs.Reading.{decided, outline}
+use Rattle.grammar.specs.Tokens.{before, tokens}
+use Rattle.grammar.specs.Machine.{Rec, Answer, refused, done, config, start}
+use Rattle.grammar.specs.Reading.{decided, outline}
 use Rattle.text.specs.Limits.{limit}
 use Rattle.promises.specs.Differences.{isMark, insideRecs, Differ, DigitsDiffer, ContentsDiffer}
 use Rattle.promises.proofs.Places.{placeAt-w}

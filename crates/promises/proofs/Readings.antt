@@ -9,18 +9,21 @@ use Rattle.places.specs.Reports.{success, refusedAt, refusedBare, noRoom}
 use Rattle.words.specs.Words.{inWord, word, isOrdinary}
 use Rattle.keywords.specs.Keywords.{lower, starts, keyData, keyGlobal, keyLoop, keySave, keyStop, reserved}
 use Rattle.quotes.specs.Quotes.{more, quoted, fieldIn, field}
-use Rattle.numbers.specs.Parts.{cut, consGot, digits, sign, point, absent, signedDigits, isEmpty, exponent, close, bracket, parts, isNumber, within, valueFrom, value, minus}
+use Rattle.numbers.specs.Parts.{cut, consGot, digits, sign, point, absent, signedDigits, isEmpty, exponent, close, bracket, parts, isNumber, within, minus}
+use Rattle.cuts.specs.Digits.{valueFrom, value}
 use Rattle.numbers.specs.Meaning.{meaning}
 use Rattle.kinds.specs.Kinds.{kindOf, shapeOf, shapeLength, marksOf, opening, bodyLength, isContent, hasContent}
 use Rattle.values.specs.Values.{lexed, numberOr, wordOr, closed, lexValue, lexAsValue}
 use Rattle.values.specs.Answers.{whyOf, answer, valueAnswer}
-use Rattle.items.specs.Tokens.{saveSize, lexIn, lex, after, tok, emit, step, tokensFrom, tokens}
-use Rattle.items.specs.Machine.{config, rec, loopEnd, closes, fails, atItem, loopEnds, atValue, noMoreNames, atName, atWant, atStart, move, follow, run}
-use Rattle.items.specs.Sizes.{contentSize, storeSize, areaSize}
-use Rattle.items.specs.Reading.{decided, outline}
+use Rattle.grammar.specs.Tokens.{saveSize, lexIn, lex, after, tok, emit, step, tokensFrom, tokens}
+use Rattle.grammar.specs.Machine.{config, rec, loopEnd, closes, fails, atItem, loopEnds, atValue, noMoreNames, atName, atWant, atStart, move, follow, run}
+use Rattle.sizes.specs.Sizes.{contentSize, storeSize, areaSize}
+use Rattle.grammar.specs.Reading.{decided, outline}
 use Rattle.text.specs.Limits.{limit}
-use Rattle.writing.specs.Writing.{contentOf, areaOf}
-use Rattle.reading.specs.Services.{refusal, readRoom, readBy, readAnswer}
+use Rattle.walking.specs.Writing.{areaOf}
+use Rattle.putting.specs.Written.{contentOf}
+use Rattle.reading.specs.Services.{readRoom, readBy, readAnswer}
+use Rattle.refusals.specs.Answers.{refusal}
 use Rattle.promises.specs.Readings.{bytes, rowOf, seen, asked, reads, means, done-with, decimal, whole, readings, ReadingsHold}
 
 -- one name for all that a reading computes with: to unfold it is to unfold whatever its line names

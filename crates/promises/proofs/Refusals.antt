@@ -13,12 +13,13 @@ use Rattle.text.specs.Runs.{span}
 use Rattle.places.specs.Places.{placeAt}
 use Rattle.places.specs.Reports.{success, refusedAt, refusedBare, noRoom}
 use Rattle.values.specs.Values.{Class, block, loop, save, tag, value, overLimit, nothing, atEnd, reservedWord, noStart, openQuote, openField}
-use Rattle.items.specs.Tokens.{Tok, tokens}
-use Rattle.items.specs.Machine.{Rec, Answer, refused, done, State, start, items, names, values, wants, Config, config, Outcome, go, stop, rec, loopEnd, closes, fails, atItem, loopEnds, atValue, noMoreNames, atName, atWant, atStart, move, follow, run}
-use Rattle.items.specs.Reading.{decided, outline}
+use Rattle.grammar.specs.Tokens.{Tok, tokens}
+use Rattle.grammar.specs.Machine.{Rec, Answer, refused, done, State, start, items, names, values, wants, Config, config, Outcome, go, stop, rec, loopEnd, closes, fails, atItem, loopEnds, atValue, noMoreNames, atName, atWant, atStart, move, follow, run}
+use Rattle.grammar.specs.Reading.{decided, outline}
 use Rattle.text.specs.Limits.{limit}
-use Rattle.items.specs.Sizes.{storeSize, areaSize}
-use Rattle.reading.specs.Services.{refusal, readRoom, readBy, readAnswer}
+use Rattle.sizes.specs.Sizes.{storeSize, areaSize}
+use Rattle.reading.specs.Services.{readRoom, readBy, readAnswer}
+use Rattle.refusals.specs.Answers.{refusal}
 use Rattle.promises.proofs.Lexing.{never}
 
 Numbered : Answer → Type 0

@@ -27,22 +27,25 @@ use Rattle.kinds.specs.declared.Kind.{Kind}
 use Rattle.kinds.specs.declared.Kind.the-variants.{Block}
 use Rattle.kinds.specs.Kinds.{kindOf, numberOf, shapeOf, isContent}
 use Rattle.records.specs.Put.{front}
-use Rattle.items.specs.Tokens.{before, inBlock, lex, after, tok, tokensFrom, tokens}
-use Rattle.items.specs.Machine.{Rec, done, start, config, go, rec, loopEnd, atStart, move, follow, run}
-use Rattle.items.specs.Reading.{decided, outline}
+use Rattle.grammar.specs.Tokens.{before, inBlock, lex, after, tok, tokensFrom, tokens}
+use Rattle.grammar.specs.Machine.{Rec, done, start, config, go, rec, loopEnd, atStart, move, follow, run}
+use Rattle.grammar.specs.Reading.{decided, outline}
 use Rattle.text.specs.Limits.{limit}
-use Rattle.items.specs.Sizes.{storeSize, areaSize}
-use Rattle.items.proofs.Ended.{word-ended, starts-ended, noLf}
-use Rattle.items.proofs.Advance.{advance₀}
-use Rattle.writing.specs.Writing.{storeOf, areaOf}
+use Rattle.sizes.specs.Sizes.{storeSize, areaSize}
+use Rattle.words.proofs.Ended.{word-ended}
+use Rattle.keywords.proofs.Ended.{starts-ended, noLf}
+use Rattle.grammar.proofs.Advance.{advance₀}
+use Rattle.walking.specs.Writing.{storeOf, areaOf}
 use Rattle.reading.specs.Services.{readAnswer}
-use Rattle.stores.specs.Walk.{entries}
-use Rattle.stores.specs.declared.Stand.the-variants.{Stands, Falls}
-use Rattle.stores.specs.declared.Where.the-variants.{Start, Items}
-use Rattle.stores.specs.Nesting.{nested, nestedFrom, standing, ended, follow as follows}
-use Rattle.stores.specs.Contents.{readableBy, contentBytes, filled, isName}
+use Rattle.entries.specs.Walk.{entries}
+use Rattle.nesting.specs.declared.Stand.the-variants.{Stands, Falls}
+use Rattle.nesting.specs.declared.Where.the-variants.{Start, Items}
+use Rattle.nesting.specs.Nesting.{nested, nestedFrom, standing, ended, follow as follows}
+use Rattle.contents.specs.Contents.{readableBy, contentBytes, isName}
+use Rattle.stores.specs.Soundness.{filled}
 use Rattle.stores.specs.Soundness.{sound}
-use Rattle.rendering.specs.Rendering.{isEnd, tokenText, linesOf, rendering, limit as renderLimit, renderRoom, renderAnswer, renderOut}
+use Rattle.rendering.specs.Rendering.{linesOf, rendering, limit as renderLimit, renderRoom, renderAnswer, renderOut}
+use Rattle.record_lines.specs.Lines.{isEnd, tokenText}
 use Rattle.promises.specs.Sayings.{Bytes, saying, sayings, SaySame}
 use Rattle.promises.specs.Results.{renderedBytes, storeBytes, areaBytes}
 use Rattle.promises.proofs.Reading.{Reads, reads}

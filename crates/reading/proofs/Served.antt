@@ -11,20 +11,23 @@ use Rattle.text.specs.Bytes.{isAscii}
 use Rattle.text.specs.Runs.{span}
 use Rattle.places.specs.Reports.{success, noRoom}
 use Rattle.records.specs.Put.{front}
-use Rattle.items.specs.declared.Sizes.{Sizes}
-use Rattle.items.specs.Machine.{Rec, Answer, refused, done}
-use Rattle.items.specs.Reading.{outline, decided}
+use Rattle.sizes.specs.declared.Sizes.{Sizes}
+use Rattle.grammar.specs.Machine.{Rec, Answer, refused, done}
+use Rattle.grammar.specs.Reading.{outline, decided}
 use Rattle.text.specs.Limits.{limit}
-use Rattle.items.specs.Sizes.{sizesOf, storeSize, outlineSize, areaSize}
-use Rattle.writing.specs.Writing.{storeOf, areaOf, areaIn}
-use Rattle.reading.specs.declared.Refusal.{Refusal}
-use Rattle.reading.specs.declared.Judged.{Judged}
-use Rattle.reading.specs.declared.Judged.the-variants.{Fits, Declines}
+use Rattle.sizes.specs.Sizes.{sizesOf, storeSize, outlineSize, areaSize}
+use Rattle.walking.specs.Writing.{storeOf, areaOf, areaIn}
+use Rattle.refusals.specs.declared.Refusal.{Refusal}
+use Rattle.judging.specs.declared.Judged.{Judged}
+use Rattle.judging.specs.declared.Judged.the-variants.{Fits, Declines}
 use Rattle.reading.specs.declared.Reading.the-variants.{Done, Refused, StoreFull, AreaFull}
-use Rattle.reading.specs.declared.Outlined.the-variants.{Written, Declined, NoRoom}
-use Rattle.reading.specs.Services.{refusal, refusalReport, readRoom, readBy, readAnswer, writtenIf, readStoreBy, readAreaBy, readStore, readArea, outlineRoom, outlineBy, outlineAnswer, outlineStoreBy, outlineStore, readingReport, outlinedReport}
-use Rattle.writing.specs.Walk.{storeLength, isDone, answerRecs}
-use Rattle.reading.specs.Judging.{Judgement, judgement, judgedAs, IsRead}
+use Rattle.outlining.specs.declared.Outlined.the-variants.{Written, Declined, NoRoom}
+use Rattle.reading.specs.Services.{readRoom, readBy, readAnswer, readStoreBy, readAreaBy, readStore, readArea, readingReport}
+use Rattle.refusals.specs.Answers.{refusal, refusalReport, writtenIf}
+use Rattle.outlining.specs.Outlining.{outlineRoom, outlineBy, outlineAnswer, outlineStoreBy, outlineStore, outlinedReport}
+use Rattle.putting.specs.Desk.{storeLength}
+use Rattle.writing.specs.Block.{isDone, answerRecs}
+use Rattle.judging.specs.Judging.{Judgement, judgement, judgedAs, IsRead}
 
 -- a text that is read keeps the limits, and its tokens say so
 pub read-of : (s : List ℕ) (rs : List Rec) → outline s ≡ done rs → (length s ≤ 16777216) × (decided s ≡ done rs)

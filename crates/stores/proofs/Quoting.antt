@@ -22,8 +22,8 @@ use Rattle.values.specs.declared.Found.the-variants.{Value}
 use Rattle.values.specs.Values.{Reason, Class, block, loop, save, tag, value, overLimit, nothing, Lexed, lexed, closed, lexValue, lexAsValue}
 use Rattle.values.specs.Finding.{foundAt}
 use Rattle.values.proofs.Laws.{found-token, found-none}
-use Rattle.stores.specs.Contents.{isKind, isAlone}
-use Rattle.stores.specs.Pieces.{inQuotes, plain}
+use Rattle.values.specs.Alone.{isKind, isAlone}
+use Rattle.quotes.specs.Content.{inQuotes, plain}
 
 -- In quotes, byte by byte
 

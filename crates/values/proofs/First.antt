@@ -15,8 +15,8 @@ use Rattle.words.proofs.Words.{word-span}
 use Rattle.keywords.specs.Keywords.{lower, reserved, isFreeLetter}
 use Rattle.keywords.proofs.Keywords.{reserved-low}
 use Rattle.keywords.proofs.Letters.{free-letter-is, free-letter}
-use Rattle.numbers.specs.Cuts.{startsNumber}
-use Rattle.numbers.specs.Plain.{decimalEnd}
+use Rattle.numbers.specs.Pieces.{startsNumber}
+use Rattle.decimals.specs.Plain.{decimalEnd}
 use Rattle.numbers.proofs.Judged.{starts-none, PlainWord, plain-word}
 use Rattle.values.specs.declared.Why.the-variants.{NoStart}
 use Rattle.values.specs.declared.Found.the-variants.{Value, Missing}

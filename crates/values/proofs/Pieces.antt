@@ -20,7 +20,7 @@ use Rattle.words.proofs.Words.{word-size}
 use Rattle.quotes.proofs.Quotes.{Ends, quote-behind, quote-nothing, quote-ends, field-behind, field-nothing, field-ends}
 use Rattle.numbers.specs.Parts.{parts, isNumber, within}
 use Rattle.numbers.specs.Meaning.{meaning, numberOf}
-use Rattle.numbers.specs.Cuts.{startsNumber}
+use Rattle.numbers.specs.Pieces.{startsNumber}
 use Rattle.numbers.specs.declared.Decimal.{Decimal}
 use Rattle.numbers.specs.declared.Number.{Number}
 use Rattle.numbers.specs.declared.Number.the-variants.{Not, Is, Over as Long}

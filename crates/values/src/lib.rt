@@ -158,7 +158,7 @@ fn pack_decimal(s: &[u8], at: usize) -> usize
     requires { ⌜ (length (now s) < 2 ^ 32) × (at < length (now s)) × (startsDecimal (getD (now s) at 0) ≡ true) ⌝ }
     ensures { λ r. ⌜ r ≡ packedAt (now (s .entry)) at ⌝ }
 {
-    let end = numbers::decimal_end(s, at);
+    let end = decimals::decimal_end(s, at);
     if end <= at {
         return pack_word(s, at);
     }
@@ -266,7 +266,7 @@ pub fn parse_value(s: &[u8], at: usize) -> Value
         }
         let end = at + size;
         return Value::Number {
-            decimal: numbers::decimal_of(&s[at..end]),
+            decimal: decimals::decimal_of(&s[at..end]),
             size,
         };
     }

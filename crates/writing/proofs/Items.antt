@@ -20,31 +20,33 @@ use Rattle.values.specs.Values.{Class, block, loop, save, tag, value, overLimit
 use Rattle.kinds.specs.Kinds.{kindOf, marksOf}
 use Rattle.values.specs.declared.Found.{Found}
 use Rattle.values.specs.declared.Found.the-variants.{Value, Over, Missing}
-use Rattle.items.specs.Tokens.{inBlock, lexIn, lex, after, Tok, tok}
-use Rattle.items.specs.Machine.{Rec, rec, loopEnd}
-use Rattle.items.specs.Descent.{nameRecs, afterNames, valueRecs, afterValues, Item, taken, failed, broken, isOver, rows, loopBy, loopItem, single, tagItem, itemBy, item}
-use Rattle.items.specs.Sizes.{storeSize, sizesOf}
-use Rattle.items.specs.Decisions.{tokensAt, headAt}
+use Rattle.grammar.specs.Tokens.{inBlock, lexIn, lex, after, Tok, tok}
+use Rattle.grammar.specs.Machine.{Rec, rec, loopEnd}
+use Rattle.grammar.specs.Descent.{nameRecs, afterNames, valueRecs, afterValues, Item, taken, failed, broken, isOver, rows, loopBy, loopItem, single, tagItem, itemBy, item}
+use Rattle.sizes.specs.Sizes.{storeSize, sizesOf}
+use Rattle.grammar.specs.Tokens.{tokensAt, headAt}
 use Rattle.items.specs.declared.Item.the-variants.{NoItem}
-use Rattle.items.specs.Answers.{tagAt, itemAnswer, itemAt}
+use Rattle.items.specs.Answers.{itemAnswer, itemAt}
+use Rattle.grammar.specs.Tokens.{tagAt}
 use Rattle.values.specs.Finding.{foundAt}
-use Rattle.items.proofs.Descent.{NoName, name-or-not, names-more, names-none}
-use Rattle.items.proofs.Offsets.{tokens-gap, Met, met-loop, met-tag, first, both, both-spot}
+use Rattle.grammar.proofs.Descent.{NoName, name-or-not, names-more, names-none}
+use Rattle.grammar.proofs.Offsets.{tokens-gap, Met, met-loop, met-tag, first, both, both-spot}
 use Rattle.items.proofs.Items.{head-at, item-none}
 use Rattle.items.proofs.Lists.{met-value}
 use Rattle.values.specs.Finding.{wanted}
 use Rattle.items.proofs.Wanted.{found-wanted}
 use Rattle.items.proofs.Passes.{names-alike}
-use Rattle.writing.specs.declared.Cursor.{Cursor}
-use Rattle.writing.specs.Writing.{tagsOf}
-use Rattle.writing.specs.Walk.{Desk, desk, Room, IsToken, recAt, WroteOne, Wrote, Onward, behindGap, ValueHere, itemRecs, itemRest, isTaken, itemOf, ItemHere, WroteItem}
-use Rattle.writing.proofs.Bytes.{area-size-append, store-length-append}
-use Rattle.writing.proofs.Lines.{part-token}
-use Rattle.writing.proofs.Lists.{namesFrom, behindNames, valuesFrom, behindValues, trim-bare}
-use Rattle.writing.proofs.Onward.{onward-here, onward-then, room-onward, wrote-onward, one-onward, onward-wrote}
-use Rattle.writing.proofs.SoFar.{room-first}
-use Rattle.writing.proofs.Values.{trim-at, trim-area, trim-place, trim-going, trim-offset, trim-room, trim-one}
-use Rattle.writing.proofs.Turns.{name-turn, name-none, value-here, value-turn, value-none}
+use Rattle.putting.specs.declared.Cursor.{Cursor}
+use Rattle.walking.specs.Writing.{tagsOf}
+use Rattle.walking.specs.Walk.{Wrote, Onward, behindGap, itemRecs, itemRest, isTaken, itemOf, ItemHere, WroteItem}
+use Rattle.putting.specs.Desk.{Desk, desk, Room, IsToken, recAt, WroteOne, ValueHere}
+use Rattle.walking.proofs.Appends.{area-size-append, store-length-append}
+use Rattle.putting.proofs.Lines.{part-token}
+use Rattle.walking.proofs.Lists.{namesFrom, behindNames, valuesFrom, behindValues, trim-bare}
+use Rattle.walking.proofs.Onward.{onward-here, onward-then, room-onward, wrote-onward, one-onward, onward-wrote}
+use Rattle.walking.proofs.SoFar.{room-first}
+use Rattle.walking.proofs.Values.{trim-at, trim-area, trim-place, trim-going, trim-offset, trim-room, trim-one}
+use Rattle.walking.proofs.Turns.{name-turn, name-none, value-here, value-turn, value-none}
 
 -- Counting tags
 

@@ -12,19 +12,20 @@ use Rattle.text.proofs.Ranges.{allBelow, fails}
 use Rattle.words.specs.Words.{wordEnd}
 use Rattle.kinds.specs.Kinds.{kindOf, shapeOf}
 use Rattle.values.specs.declared.Found.the-variants.{Value}
-use Rattle.items.specs.Tokens.{inBlock, Tok}
-use Rattle.items.specs.Machine.{Rec}
-use Rattle.items.specs.Descent.{nameRecs, afterNames, valueRecs, afterValues}
-use Rattle.items.specs.Decisions.{tokensAt, headAt}
-use Rattle.items.specs.Answers.{tagAt}
+use Rattle.grammar.specs.Tokens.{inBlock, Tok}
+use Rattle.grammar.specs.Machine.{Rec}
+use Rattle.grammar.specs.Descent.{nameRecs, afterNames, valueRecs, afterValues}
+use Rattle.grammar.specs.Tokens.{tokensAt, headAt}
+use Rattle.grammar.specs.Tokens.{tagAt}
 use Rattle.values.specs.Finding.{foundAt}
 use Rattle.items.proofs.Items.{head-at}
-use Rattle.items.proofs.Offsets.{tokens-gap}
-use Rattle.writing.specs.declared.Cursor.{Cursor}
-use Rattle.writing.specs.Walk.{Desk, desk, Going, Room, IsToken, recAt, WroteOne, Wrote, behindGap, ValueHere}
-use Rattle.writing.proofs.SoFar.{isCount, room-first, SoFar, start, next, over-gap, all}
-use Rattle.writing.proofs.Turns.{name-turn, name-none, here-turn, value-none}
-use Rattle.writing.proofs.Values.{trim-offset, trim-going, trim-room, trim-wrote}
+use Rattle.grammar.proofs.Offsets.{tokens-gap}
+use Rattle.putting.specs.declared.Cursor.{Cursor}
+use Rattle.walking.specs.Walk.{Wrote, behindGap}
+use Rattle.putting.specs.Desk.{Desk, desk, Going, Room, IsToken, recAt, WroteOne, ValueHere}
+use Rattle.walking.proofs.SoFar.{isCount, room-first, SoFar, start, next, over-gap, all}
+use Rattle.walking.proofs.Turns.{name-turn, name-none, here-turn, value-none}
+use Rattle.walking.proofs.Values.{trim-offset, trim-going, trim-room, trim-wrote}
 
 -- the names, the values from an offset on, and what stands behind them
 abbrev pub namesFrom : List ℕ → ℕ → List Rec

@@ -10,11 +10,12 @@ use Rattle.values.specs.declared.Why.{Why}
 use Rattle.items.specs.declared.Item.the-variants.{NoValue, Over}
 use Rattle.values.specs.declared.Found.{Found}
 use Rattle.values.specs.declared.Found.the-variants.{Value}
-use Rattle.items.specs.Answers.{tagAt, itemAt}
+use Rattle.items.specs.Answers.{itemAt}
+use Rattle.grammar.specs.Tokens.{tagAt}
 use Rattle.values.specs.Finding.{foundAt, isOverFound, whyFound}
 use Rattle.items.proofs.Items.{TagRead, tag-value, tag-alone}
 use Rattle.writing.specs.declared.Next.the-variants.{Item, Stop}
-use Rattle.writing.specs.Walk.{nextOf}
+use Rattle.writing.specs.Block.{nextOf}
 
 module _ (s : List ℕ) (o end stop : ℕ) where
   tag-read : (f : Found) → gap (drop o s) ≡ 0 → tagAt s o ≡ true → end ≡ wordEnd s o → stop ≡ gapEnd s end → f ≡ foundAt s stop → TagRead s o end stop f

@@ -15,23 +15,27 @@ use Rattle.keywords.specs.Keywords.{startsAt, keySave, keyData}
 use Rattle.values.specs.Values.{Class, lexed, block, loop, save, tag, value, overLimit, nothing}
 use Rattle.items.specs.declared.Item.{Item as Answered}
 use Rattle.items.specs.declared.Item.the-variants.{Loop, Single, Ragged, NoValue, NoItem, NoNames, Over}
-use Rattle.items.specs.Tokens.{Mode, before, inBlock, inFrame, lexIn, lex, Tok, tok}
-use Rattle.items.specs.Machine.{Rec, rec, Answer, refused, done, run, follow, move, atItem, fails, closes, config, items}
-use Rattle.items.specs.Descent.{Item, taken, failed, broken, item}
-use Rattle.items.specs.Decisions.{tokensAt, headAt, headWhy, Told, told, tells, refusal, room}
+use Rattle.grammar.specs.Tokens.{Mode, before, inBlock, inFrame, lexIn, lex, Tok, tok}
+use Rattle.grammar.specs.Machine.{Rec, rec, Answer, refused, done, run, follow, move, atItem, fails, closes, config, items}
+use Rattle.grammar.specs.Descent.{Item, taken, failed, broken, item}
+use Rattle.deciding.specs.Decisions.{Told, told, tells, refusal, room}
+use Rattle.grammar.specs.Tokens.{tokensAt, headAt}
+use Rattle.items.specs.Answers.{headWhy}
 use Rattle.values.specs.declared.Found.the-variants.{Value}
 use Rattle.items.specs.Answers.{itemAnswer, itemAt}
 use Rattle.values.specs.Finding.{foundAt}
-use Rattle.items.specs.Frames.{left, modeOf, blockAt, inFrameOf}
-use Rattle.items.specs.Reading.{decided}
-use Rattle.items.proofs.Descent.{itemRun}
-use Rattle.items.proofs.Offsets.{Met, met-open, met-close, met-data, first, both, both-spot}
+use Rattle.deciding.specs.Frames.{left, modeOf, blockAt, inFrameOf}
+use Rattle.grammar.specs.Reading.{decided}
+use Rattle.grammar.proofs.Descent.{itemRun}
+use Rattle.grammar.proofs.Offsets.{Met, met-open, met-close, met-data, first, both, both-spot}
 use Rattle.values.specs.Finding.{wanted}
 use Rattle.items.proofs.Wanted.{found-wanted}
 use Rattle.items.proofs.Passes.{AlikeItem, alike-taken, alike-ragged, alike-alone, alike-absent, alike-unnamed, alike-over, item-alike}
-use Rattle.items.proofs.Onward.{DroppedAt, PassedInside, item-inside, frame-item, block-item, left-from, plain, open-reads, left-gap, open-answer, close-answer, begin-reads, end-answer, failed-stops, no-data, decided-from}
+use Rattle.deciding.proofs.Onward.{DroppedAt, PassedInside, item-inside, frame-item, block-item, left-from, plain, open-reads, left-gap, open-answer, close-answer, begin-reads, end-answer, failed-stops, no-data, decided-from}
 use Rattle.writing.specs.declared.Next.the-variants.{Item as Item′, Stop}
-use Rattle.writing.specs.Walk.{recAt, itemRecs, itemRest, isTaken, itemOf, answerRecs, isDone, recsLeft, nextOf}
+use Rattle.walking.specs.Walk.{itemRecs, itemRest, isTaken, itemOf}
+use Rattle.putting.specs.Desk.{recAt}
+use Rattle.writing.specs.Block.{answerRecs, isDone, recsLeft, nextOf}
 use Rattle.writing.proofs.Prefix.{prefixed, started, run-after}
 
 -- what is kept already comes before the rest

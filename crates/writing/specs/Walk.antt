@@ -15,18 +15,19 @@ use Rattle.kinds.specs.Kinds.{kindOf, shapeLength, marksOf}
 use Rattle.records.specs.Put.{put}
 use Rattle.values.specs.declared.Found.the-variants.{Value}
 use Rattle.values.specs.Finding.{foundAt}
-use Rattle.items.specs.Tokens.{Tok, inBlock}
-use Rattle.items.specs.Machine.{Rec, Answer, refused, done}
-use Rattle.items.specs.Frames.{left}
+use Rattle.grammar.specs.Tokens.{Tok, inBlock}
+use Rattle.grammar.specs.Machine.{Rec, Answer, refused, done}
+use Rattle.deciding.specs.Frames.{left}
 use Rattle.items.specs.declared.Item.{Item as Answered}
 use Rattle.items.specs.declared.Item.the-variants.{Loop, Single, Ragged, NoValue as NoValue′, NoItem, NoNames, Over}
-use Rattle.items.specs.Descent.{Item, taken, failed, broken, item}
-use Rattle.items.specs.Decisions.{tokensAt, headAt}
-use Rattle.items.specs.Sizes.{contentSize, storeSize, outlineSize, areaSize}
-use Rattle.writing.specs.declared.Cursor.{Cursor}
+use Rattle.grammar.specs.Descent.{Item, taken, failed, broken, item}
+use Rattle.grammar.specs.Tokens.{tokensAt, headAt}
+use Rattle.sizes.specs.Sizes.{contentSize, storeSize, outlineSize, areaSize}
+use Rattle.putting.specs.declared.Cursor.{Cursor}
 use Rattle.writing.specs.declared.Next.{Next}
 use Rattle.writing.specs.declared.Next.the-variants.{Item as Item′, Stop}
-use Rattle.writing.specs.Writing.{shapeIn, recordBytes, storeOf, contentOf, areaOf, areaIn}
+use Rattle.walking.specs.Writing.{storeOf, areaOf, areaIn}
+use Rattle.putting.specs.Written.{shapeIn, recordBytes, contentOf}
 
 -- the store's bytes that records take
 unfoldable pub storeLength : Bool → List Rec → ℕ

@@ -9,18 +9,22 @@ ghost use Rattle.gaps.specs.Gaps.{gapEnd};
 ghost use Rattle.keywords.specs.Keywords.{startsAt, keyLoop, keySave};
 ghost use Rattle.kinds.specs.Kinds.{kindOf, shapeOf};
 ghost use Rattle.kinds.specs.declared.Shape.the-variants.{Content, Place as PlaceAlone};
-ghost use Rattle.items.specs.Sizes.{areaSize};
+ghost use Rattle.sizes.specs.Sizes.{areaSize};
 ghost use Rattle.records.specs.Put.{front, put};
-ghost use Rattle.items.specs.Machine.{loopEnd};
+ghost use Rattle.grammar.specs.Machine.{loopEnd};
 ghost use mathlib.Core.Option.{none};
-ghost use Rattle.items.specs.Answers.{tagAt, Here, itemAt};
-ghost use Rattle.items.specs.Reading.{decided};
+ghost use Rattle.items.specs.Answers.{Here, itemAt};
+ghost use Rattle.grammar.specs.Tokens.{tagAt};
+ghost use Rattle.grammar.specs.Reading.{decided};
 ghost use Rattle.text.specs.Limits.{limit};
-ghost use Rattle.items.specs.Tokens.{inBlock};
-ghost use Rattle.items.specs.Decisions.{tokensAt, headAt};
-ghost use Rattle.items.specs.Descent.{nameRecs, afterNames, valueRecs, afterValues};
-ghost use Rattle.writing.specs.Writing.{storeOf, areaIn, placed, tokenAt, contentBytes, loopBytes, numberBytes, recordBytes};
-ghost use Rattle.writing.specs.Walk.{storeLength, recordLength, Going, Room, IsToken, recAt, WroteOne, Wrote, behindGap, ValueHere, ItemHere, WroteItem, nextOf, Closing, Closed, Ahead, Moved, recsLeft, isDone, answerRecs, desk};
+ghost use Rattle.grammar.specs.Tokens.{inBlock};
+ghost use Rattle.grammar.specs.Tokens.{tokensAt, headAt};
+ghost use Rattle.grammar.specs.Descent.{nameRecs, afterNames, valueRecs, afterValues};
+ghost use Rattle.walking.specs.Writing.{storeOf, areaIn};
+ghost use Rattle.putting.specs.Written.{placed, tokenAt, contentBytes, loopBytes, numberBytes, recordBytes};
+ghost use Rattle.walking.specs.Walk.{Wrote, behindGap, ItemHere, WroteItem};
+ghost use Rattle.putting.specs.Desk.{storeLength, recordLength, Going, Room, IsToken, recAt, WroteOne, ValueHere, desk};
+ghost use Rattle.writing.specs.Block.{nextOf, Closing, Closed, Ahead, Moved, recsLeft, isDone, answerRecs};
 use items::Item;
 use kinds::Kind;
 use numbers::Decimal;
@@ -152,7 +156,7 @@ fn put_number(s: &[u8], full: bool, store: &mut [u8], c: Cursor, kind: u8, size:
     }
     let offset = place.offset;
     let end = offset + size;
-    put_decimal(store, at, token, numbers::decimal_of(&s[offset..end]));
+    put_decimal(store, at, token, decimals::decimal_of(&s[offset..end]));
 }
 
 // A token that has content.

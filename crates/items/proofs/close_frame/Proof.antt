@@ -3,11 +3,11 @@ use Prim.Native.Nat.{_*_}
 use native.Mathlib.Omega.{arith}
 use borrow.Author.Tests.{not-true, not-false}
 use Rattle.text.specs.Limits.{limit}
-use Rattle.items.specs.Frames.{frameEnd}
-use Rattle.items.proofs.Room.{upto-more}
+use Rattle.deciding.specs.Frames.{frameEnd}
+use Rattle.sizes.proofs.Room.{upto-more}
 use borrow.Author.Needs.{needs}
-use Rattle.items.proofs.close_frame.Statement.{statement}
-use Rattle.items.proofs.close_frame.Tie as tie
+use Rattle.deciding.proofs.close_frame.Statement.{statement}
+use Rattle.deciding.proofs.close_frame.Tie as tie
 
 at-save-requires : tie.Need-at-save-requires
 at-save-requires c κs = search needs

@@ -6,7 +6,7 @@ use borrow.Author.Tests.{not-true, not-false}
 use lib.ListN.{length}
 use Rattle.text.specs.Limits.{limit}
 use Rattle.items.proofs.Lists.{NamesSoFar, names-start, names-next, names-all, name-step}
-use Rattle.items.proofs.Room.{upto-more}
+use Rattle.sizes.proofs.Room.{upto-more}
 use Rattle.items.proofs.count_names.Statement.{statement}
 use Rattle.items.proofs.count_names.Tie as tie
 

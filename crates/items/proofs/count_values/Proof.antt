@@ -9,7 +9,7 @@ use Rattle.values.proofs.Choices.{not-value, over-left}
 use Rattle.values.proofs.Packs.{found-packed}
 use Rattle.values.proofs.Laws.{found-lies}
 use Rattle.items.proofs.Lists.{ValuesSoFar, values-start, values-next, values-all, value-step}
-use Rattle.items.proofs.Room.{upto-more}
+use Rattle.sizes.proofs.Room.{upto-more}
 use Rattle.items.proofs.count_values.Statement.{statement}
 use Rattle.items.proofs.count_values.Tie as tie
 

@@ -3,10 +3,10 @@ use Prim.Native.Nat.{_*_, _-_}
 use native.Mathlib.Omega.{arith}
 use lib.ListN.{length}
 use Rattle.text.specs.Limits.{limit}
-use Rattle.items.proofs.Onward.{data-within, Begun, block-begins, block-goes-on, block-ends, block-refused, stepped-read, stepped-refused}
-use Rattle.items.proofs.Room.{upto-none, upto-more}
-use Rattle.items.proofs.parse_data_block.Statement.{statement}
-use Rattle.items.proofs.parse_data_block.Tie as tie
+use Rattle.deciding.proofs.Onward.{data-within, Begun, block-begins, block-goes-on, block-ends, block-refused, stepped-read, stepped-refused}
+use Rattle.sizes.proofs.Room.{upto-none, upto-more}
+use Rattle.deciding.proofs.parse_data_block.Statement.{statement}
+use Rattle.deciding.proofs.parse_data_block.Tie as tie
 
 abbrev Inv-loop : tie.InvT-loop
 Inv-loop s start end sizes₀ at₀ sizes at = Begun s start at sizes

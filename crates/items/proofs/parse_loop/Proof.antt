@@ -4,7 +4,7 @@ use mathlib.Core.Path.{refl, _∙_}
 use native.Mathlib.Omega.{arith}
 use Rattle.text.specs.Limits.{limit}
 use Rattle.items.proofs.Items.{loop-from, loop-named, loop-none, loop-valued, loop-over, loop-rows}
-use Rattle.items.proofs.Room.{upto-more}
+use Rattle.sizes.proofs.Room.{upto-more}
 use borrow.Author.Needs.{needs}
 use Rattle.items.proofs.parse_loop.Statement.{statement}
 use Rattle.items.proofs.parse_loop.Tie as tie

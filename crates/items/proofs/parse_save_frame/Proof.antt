@@ -4,11 +4,11 @@ use native.Mathlib.Omega.{arith}
 use lib.ListN.{length}
 use mathlib.Core.Option.{none, some}
 use Rattle.text.specs.Limits.{limit}
-use Rattle.items.specs.Frames.{Passed}
-use Rattle.items.proofs.Onward.{PassedInside, save-within, frame-opens, inside-known, inside-read, inside-dropped, inside-refused, passed-then, frame-ends, frame-refused}
-use Rattle.items.proofs.Room.{upto-none, upto-more}
-use Rattle.items.proofs.parse_save_frame.Statement.{statement}
-use Rattle.items.proofs.parse_save_frame.Tie as tie
+use Rattle.deciding.specs.Frames.{Passed}
+use Rattle.deciding.proofs.Onward.{PassedInside, save-within, frame-opens, inside-known, inside-read, inside-dropped, inside-refused, passed-then, frame-ends, frame-refused}
+use Rattle.sizes.proofs.Room.{upto-none, upto-more}
+use Rattle.deciding.proofs.parse_save_frame.Statement.{statement}
+use Rattle.deciding.proofs.parse_save_frame.Tie as tie
 
 abbrev Inv-loop : tie.InvT-loop
 Inv-loop s start end sizes₀ at₀ sizes at = Passed s none start (some start) at sizes

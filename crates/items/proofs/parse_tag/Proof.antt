@@ -3,12 +3,12 @@ use Prim.Native.Nat.{_*_, _-_}
 use mathlib.Core.Path.{sym, _∙_}
 use native.Mathlib.Omega.{arith}
 use Rattle.text.specs.Limits.{limit}
-use Rattle.items.specs.Sizes.{noSizes}
+use Rattle.sizes.specs.Sizes.{noSizes}
 use Rattle.values.proofs.Choices.{not-value, over-left}
 use Rattle.values.proofs.Packs.{found-packed}
 use Rattle.values.proofs.Laws.{found-lies}
 use Rattle.items.proofs.Items.{TagRead, tag-onward, tag-value-within, tag-value, tag-alone}
-use Rattle.items.proofs.Room.{upto-none, upto-added}
+use Rattle.sizes.proofs.Room.{upto-none, upto-added}
 use borrow.Author.Needs.{needs}
 use Rattle.items.proofs.parse_tag.Statement.{statement}
 use Rattle.items.proofs.parse_tag.Tie as tie

@@ -2,9 +2,9 @@
 use Prim.Native.Nat.{_*_}
 use native.Mathlib.Omega.{arith}
 use Rattle.text.specs.Limits.{limit}
-use Rattle.items.specs.Sizes.{noSizes, Upto}
+use Rattle.sizes.specs.Sizes.{noSizes, Upto}
 use Rattle.items.proofs.Items.{rows-ragged, rows-whole}
-use Rattle.items.proofs.Room.{upto-none, upto-added, upto-joined, upto-more}
+use Rattle.sizes.proofs.Room.{upto-none, upto-added, upto-joined, upto-more}
 use borrow.Author.Needs.{needs}
 use Rattle.items.proofs.rows.Statement.{statement}
 use Rattle.items.proofs.rows.Tie as tie

@@ -1,14 +1,14 @@
 -- `reading::judge`: the two limits first, then what the tokens say. Assumes nothing.
 use mathlib.Core.Path.{_∙_}
 use borrow.Author.Tests.{lt-ltb, le-ltb}
-use Rattle.items.specs.Reading.{outline}
+use Rattle.grammar.specs.Reading.{outline}
 use Rattle.text.specs.Limits.{limit}
-use Rattle.reading.specs.Services.{refusal, refusalReport}
-use Rattle.reading.specs.Judging.{judgement, judgedAs, noSizes}
-use Rattle.reading.proofs.Judgements.{declined-judgement}
+use Rattle.refusals.specs.Answers.{refusal, refusalReport}
+use Rattle.judging.specs.Judging.{judgement, judgedAs, noSizes}
+use Rattle.judging.proofs.Judgements.{declined-judgement}
 use borrow.Author.Needs.{needs}
-use Rattle.reading.proofs.judge.Statement.{statement}
-use Rattle.reading.proofs.judge.Tie as tie
+use Rattle.judging.proofs.judge.Statement.{statement}
+use Rattle.judging.proofs.judge.Tie as tie
 
 returns : tie.Need-returns
 unfolding outline limit judgement judgedAs refusalReport refusal noSizes

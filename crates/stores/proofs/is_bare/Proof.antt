@@ -5,9 +5,10 @@ use borrow.Author.Tests.{eq-eqb, ne-eqb}
 use Rattle.values.specs.Finding.{foundAt}
 use Rattle.values.proofs.Choices.{not-value}
 use Rattle.values.proofs.Packs.{found-packed}
-use Rattle.stores.proofs.Quoting.{bare-value, bare-other}
-use Rattle.stores.proofs.is_bare.Statement.{statement}
-use Rattle.stores.proofs.is_bare.Tie as tie
+use Rattle.stores.proofs.Quoting.{bare-value}
+use Rattle.values.proofs.Alone.{bare-other}
+use Rattle.contents.proofs.is_bare.Statement.{statement}
+use Rattle.contents.proofs.is_bare.Tie as tie
 
 -- what is found
 found : (b : tie.After-of) → b .of .result ≡ foundAt (b .before .before .before .args .content .now) 0

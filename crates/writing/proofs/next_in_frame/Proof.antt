@@ -7,7 +7,7 @@ use Rattle.text.specs.Limits.{limit}
 use Rattle.values.specs.Finding.{foundAt}
 use Rattle.values.proofs.Choices.{not-value}
 use Rattle.values.proofs.Packs.{found-packed}
-use Rattle.writing.specs.Walk.{nextOf}
+use Rattle.writing.specs.Block.{nextOf}
 use Rattle.writing.proofs.Nexts.{next-value, next-alone}
 use Rattle.writing.proofs.next_in_frame.Statement.{statement}
 use Rattle.writing.proofs.next_in_frame.Tie as tie

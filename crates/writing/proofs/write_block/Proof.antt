@@ -7,8 +7,8 @@ use Rattle.places.proofs.Places.{is-start}
 use Rattle.words.proofs.Words.{word-from}
 use Rattle.kinds.specs.Kinds.{kindOf, shapeOf}
 use Rattle.text.specs.Limits.{limit}
-use Rattle.writing.specs.declared.Cursor.{Cursor}
-use Rattle.writing.specs.Writing.{placed}
+use Rattle.putting.specs.declared.Cursor.{Cursor}
+use Rattle.putting.specs.Written.{placed}
 use Rattle.writing.proofs.Block.{Fits, begun, begins, block-going, block-token, block-room, block-ahead, block-stored, block-copied}
 use Rattle.writing.proofs.write_block.Statement.{statement}
 use Rattle.writing.proofs.write_block.Tie as tie

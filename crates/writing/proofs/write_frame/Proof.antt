@@ -7,7 +7,7 @@ use lib.ListN.{length}
 use Rattle.words.proofs.Words.{word-from}
 use Rattle.kinds.specs.Kinds.{kindOf, shapeOf}
 use Rattle.text.specs.Limits.{limit}
-use Rattle.writing.specs.Walk.{desk}
+use Rattle.putting.specs.Desk.{desk}
 use Rattle.writing.proofs.Frames.{Inside, inside-start, inside-next, frame-all, heading-token, heading-room, heading-moved, frame-item-here, frame-item-moved, frame-closing, frame-closed}
 use Rattle.writing.proofs.write_frame.Statement.{statement}
 use Rattle.writing.proofs.write_frame.Tie as tie

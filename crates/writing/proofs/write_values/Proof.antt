@@ -8,13 +8,13 @@ use Rattle.text.specs.Limits.{limit}
 use Rattle.values.specs.Finding.{foundAt}
 use Rattle.values.proofs.Choices.{not-value}
 use Rattle.values.proofs.Packs.{found-packed}
-use Rattle.writing.specs.Walk.{desk}
-use Rattle.writing.proofs.SoFar.{SoFar, start}
-use Rattle.writing.proofs.Lists.{valuesFrom, behindValues, value-room, value-next, value-gap, value-last, trim-bare}
-use Rattle.writing.proofs.Turns.{value-here}
-use Rattle.writing.proofs.Values.{trim-offset}
-use Rattle.writing.proofs.write_values.Statement.{statement}
-use Rattle.writing.proofs.write_values.Tie as tie
+use Rattle.putting.specs.Desk.{desk}
+use Rattle.walking.proofs.SoFar.{SoFar, start}
+use Rattle.walking.proofs.Lists.{valuesFrom, behindValues, value-room, value-next, value-gap, value-last, trim-bare}
+use Rattle.walking.proofs.Turns.{value-here}
+use Rattle.walking.proofs.Values.{trim-offset}
+use Rattle.walking.proofs.write_values.Statement.{statement}
+use Rattle.walking.proofs.write_values.Tie as tie
 
 abbrev Inv-loop : tie.InvT-loop
 Inv-loop s full store₀ area₀ last₀ store area last = SoFar full s (valuesFrom s) (behindValues s) (desk last₀ store₀ area₀) (desk last store area)

@@ -1,10 +1,10 @@
 -- `items::Sizes::add`: one record's lengths and content more; all stays below the word's end. Assumes nothing.
 use native.Mathlib.Omega.{arith}
 use Rattle.text.specs.Limits.{limit}
-use Rattle.items.proofs.Room.{body-small, outline-small, content-small, added-steps}
+use Rattle.sizes.proofs.Room.{body-small, outline-small, content-small, added-steps}
 use borrow.Author.Needs.{needs}
-use Rattle.items.proofs.Sizes.add.Statement.{statement}
-use Rattle.items.proofs.Sizes.add.Tie as tie
+use Rattle.sizes.proofs.Sizes.add.Statement.{statement}
+use Rattle.sizes.proofs.Sizes.add.Tie as tie
 
 add-t4 : tie.Need-add-t4
 unfolding limit

@@ -1,10 +1,10 @@
 -- `items::Sizes::add_value`: by the shape of the value's kind. Assumes nothing.
 use mathlib.Core.Path.{sym, _∙_}
-use Rattle.items.proofs.Choices.{no-content}
-use Rattle.items.proofs.Room.{value-marks, grown-content, grown-other}
+use Rattle.kinds.proofs.Choices.{no-content}
+use Rattle.sizes.proofs.Room.{value-marks, grown-content, grown-other}
 use borrow.Author.Needs.{needs}
-use Rattle.items.proofs.Sizes.add_value.Statement.{statement}
-use Rattle.items.proofs.Sizes.add_value.Tie as tie
+use Rattle.sizes.proofs.Sizes.add_value.Statement.{statement}
+use Rattle.sizes.proofs.Sizes.add_value.Tie as tie
 
 of-requires : tie.Need-of-requires
 of-requires c κs = search needs

@@ -2,9 +2,9 @@
 use mathlib.Core.Path.{refl}
 use native.Mathlib.Omega.{arith}
 use Rattle.text.specs.Limits.{limit}
-use Rattle.items.specs.Sizes.{joined}
-use Rattle.items.proofs.Sizes.join.Statement.{statement}
-use Rattle.items.proofs.Sizes.join.Tie as tie
+use Rattle.sizes.specs.Sizes.{joined}
+use Rattle.sizes.proofs.Sizes.join.Statement.{statement}
+use Rattle.sizes.proofs.Sizes.join.Tie as tie
 
 add-t3 : tie.Need-add-t3
 unfolding limit

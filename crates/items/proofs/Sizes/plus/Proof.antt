@@ -1,10 +1,10 @@
 -- `items::Sizes::plus`: a shape's body is at most 38 bytes. Assumes nothing.
 use native.Mathlib.Omega.{arith}
 use Rattle.text.specs.Limits.{limit}
-use Rattle.items.proofs.Room.{shape-small, grown-steps}
+use Rattle.sizes.proofs.Room.{shape-small, grown-steps}
 use borrow.Author.Needs.{needs}
-use Rattle.items.proofs.Sizes.plus.Statement.{statement}
-use Rattle.items.proofs.Sizes.plus.Tie as tie
+use Rattle.sizes.proofs.Sizes.plus.Statement.{statement}
+use Rattle.sizes.proofs.Sizes.plus.Tie as tie
 
 add-t4 : tie.Need-add-t4
 unfolding limit
