@@ -81,7 +81,11 @@ fn reason(w: Why) {
     }
 }
 
+// The value that a text starts with. Lengths of values take four bytes.
 pub fn value(s: &[u8]) {
+    if 4294967295 < s.len() {
+        return;
+    }
     let v = values::parse_value(s, 0);
     match v {
         Value::Token { kind, size } => {

@@ -13,7 +13,7 @@ use entries::Parts;
 use kinds::Kind;
 use kinds::Shape;
 use quotes::Closing;
-use values::Value;
+use values::Found;
 
 // One word, perhaps an empty one.
 fn is_name(content: &[u8]) -> bool
@@ -24,10 +24,10 @@ fn is_name(content: &[u8]) -> bool
 
 // A bare value and nothing behind it.
 fn is_bare(content: &[u8]) -> bool
+    requires { ⌜ length (now content) < 2 ^ 32 ⌝ }
     ensures { λ r. ⌜ r ≡ isAlone 10 (now (content .entry)) ⌝ }
 {
-    let value = values::parse_value(content, 0);
-    let Value::Token { kind, size } = value else {
+    let Found::Value { kind, size } = Found::of(values::pack_value(content, 0)) else {
         return false;
     };
     if kind != Kind::BARE {
@@ -74,6 +74,7 @@ fn is_field(content: &[u8]) -> bool
 
 // Whether a content could be read as its kind, if it is all ASCII.
 fn is_readable_by(kind: Kind, content: &[u8]) -> bool
+    requires { ⌜ length (now content) < 2 ^ 32 ⌝ }
     ensures { λ r. ⌜ r ≡ readableBy kind (now (content .entry)) ⌝ }
 {
     match kind {
@@ -88,6 +89,7 @@ fn is_readable_by(kind: Kind, content: &[u8]) -> bool
 
 // Whether a content could be read as its kind: only ASCII is.
 fn is_readable(kind: Kind, content: &[u8]) -> bool
+    requires { ⌜ length (now content) < 2 ^ 32 ⌝ }
     ensures { λ r. ⌜ r ≡ readable kind (now (content .entry)) ⌝ }
 {
     if text::ascii_end(content) != content.len() {

@@ -7,12 +7,9 @@ use lib.Dec.{ltb}
 use lib.ListN.{length}
 use Rattle.text.specs.Bytes.{isAscii}
 use Rattle.text.specs.Runs.{span}
+use Rattle.text.specs.Limits.{limit}
 use Rattle.grammar.specs.Tokens.{tokens}
 use Rattle.grammar.specs.Machine.{Answer, refused, done, run, config, start}
-
--- the largest text, and the largest rendering
-unfoldable pub limit : ℕ
-limit = 16777216
 
 -- what the tokens say
 unfoldable pub decided : List ℕ → Answer

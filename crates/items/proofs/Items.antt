@@ -17,22 +17,24 @@ use Rattle.values.specs.Values.{Class, block, loop, save, tag, value, overLimit
 use Rattle.sizes.specs.declared.Sizes.{Sizes}
 use Rattle.items.specs.declared.Names.{Names}
 use Rattle.items.specs.declared.Values.{Values}
-use Rattle.items.specs.declared.Found.{Found}
-use Rattle.items.specs.declared.Found.the-variants.{Value}
+use Rattle.values.specs.declared.Found.{Found}
+use Rattle.values.specs.declared.Found.the-variants.{Value}
 use Rattle.items.specs.declared.Item.{Item as Answered}
 use Rattle.items.specs.declared.Item.the-variants.{Loop, Single, Ragged, NoValue as TagAlone, NoItem, NoNames, Over}
 use Rattle.grammar.specs.Tokens.{Mode, inBlock, lexIn, lex, after, Tok, tok, tokensAt, headAt, tagFirst, tagAt}
 use Rattle.grammar.specs.Machine.{Rec, rec, loopEnd}
 use Rattle.sizes.specs.Sizes.{sizesOf, noSizes, added, joined, Upto}
 use Rattle.grammar.specs.Descent.{nameRecs, afterNames, valueRecs, afterValues, taken, failed, broken, isOver, rows, loopBy, loopItem, single, tagItem, itemBy, item}
-use Rattle.items.specs.Answers.{headWhy, whyNot, foundAt, isOverFound, whyFound, namesOf, namesAt, headOver, valuesOf, valuesAt, rowsOf, itemAnswer, itemAt}
+use Rattle.items.specs.Answers.{headWhy, whyNot, namesOf, namesAt, headOver, valuesOf, valuesAt, rowsOf, itemAnswer, itemAt}
+use Rattle.values.specs.Finding.{foundAt, isOverFound, whyFound}
 use Rattle.grammar.proofs.Descent.{Ends, names-ends, values-ends}
 use Rattle.grammar.proofs.Lexes.{lex-other, startsItem}
 use Rattle.items.proofs.Lists.{met-value, name-step, value-step}
 use Rattle.grammar.proofs.Offsets.{tokens-gap, tokens-ends, Met, met-loop, met-tag, first, both, both-spot}
 use Rattle.items.proofs.Passes.{names-alike, values-alike}
 use Rattle.sizes.proofs.Room.{sizes-cons, sizes-one, sizes-snoc, sizes-append, joined-assoc, added-none, upto-more}
-use Rattle.items.proofs.Wanted.{wanted, found-wanted}
+use Rattle.values.specs.Finding.{wanted}
+use Rattle.items.proofs.Wanted.{found-wanted}
 
 -- the first token stands behind space and comments
 pub head-at : (m : Mode) (s : List ℕ) (o : ℕ) → headAt (tokensAt m s o) ≡ gapEnd s o

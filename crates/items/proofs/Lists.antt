@@ -19,19 +19,21 @@ use Rattle.values.specs.declared.Why.{Why}
 use Rattle.sizes.specs.declared.Sizes.{Sizes}
 use Rattle.items.specs.declared.Names.{Names}
 use Rattle.items.specs.declared.Values.{Values}
-use Rattle.items.specs.declared.Found.{Found}
-use Rattle.items.specs.declared.Found.the-variants.{Value}
+use Rattle.values.specs.declared.Found.{Found}
+use Rattle.values.specs.declared.Found.the-variants.{Value}
 use Rattle.grammar.specs.Tokens.{inBlock, lexIn, lex, after, Tok, tok, tokensAt, headAt, tagFirst, tagAt}
 use Rattle.grammar.specs.Machine.{rec}
 use Rattle.sizes.specs.Sizes.{sizesOf, noSizes, added, joined, Upto}
 use Rattle.grammar.specs.Descent.{nameRecs, valueRecs, isOver}
-use Rattle.items.specs.Answers.{headWhy, whyNot, foundAt, isOverFound, whyFound, namesOf, namesAt, headOver, valuesOf, valuesAt}
+use Rattle.items.specs.Answers.{headWhy, whyNot, namesOf, namesAt, headOver, valuesOf, valuesAt}
+use Rattle.values.specs.Finding.{foundAt, isOverFound, whyFound}
 use Rattle.grammar.proofs.Descent.{NoName, NoValue, value-or-not, names-more, names-none, values-more, values-none}
 use Rattle.grammar.proofs.Fits.{isValue, lexIn-pos}
 use Rattle.grammar.proofs.Lexes.{no-name}
 use Rattle.grammar.proofs.Offsets.{tokens-gap, Met, met, met-tag, first}
 use Rattle.sizes.proofs.Room.{sizes-cons, added-joined, sizes-none, none-joined, joined-none, upto-none, upto-added}
-use Rattle.items.proofs.Wanted.{wanted, found-wanted}
+use Rattle.values.specs.Finding.{wanted}
+use Rattle.items.proofs.Wanted.{found-wanted}
 
 -- names counted so far, and those from here on
 unfoldable pub addNames : ℕ → Sizes → Names → Names

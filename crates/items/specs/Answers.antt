@@ -1,4 +1,4 @@
--- What the code answers of a value, a loop's names and values, and the item at an offset. Assumes nothing.
+-- What the code answers of a loop's names and values, and the item at an offset. Assumes nothing.
 use Prim.Native.Nat.{ℕ, _+_, _*_, _%_, _≤_}
 use mathlib.Core.Path.{_≡_}
 use mathlib.Core.Bool.{Bool, true, false, cond}
@@ -6,21 +6,13 @@ use mathlib.Core.List.{List, [], _∷_}
 use lib.Dec.{eqb}
 use lib.ListN.{length, drop}
 use Rattle.gaps.specs.Gaps.{gap}
-use Rattle.numbers.specs.declared.Decimal.{Decimal}
-use Rattle.values.specs.Values.{Class, block, loop, save, tag, value, overLimit, nothing}
-use Rattle.values.specs.Answers.{whyOf, valueAt}
-use Rattle.values.specs.declared.Why.{Why}
-use Rattle.values.specs.declared.Why.the-variants.{AtEnd, Reserved, NoStart}
-use Rattle.values.specs.declared.Value.{Value as ValueAnswer}
-use Rattle.values.specs.declared.Value.the-variants.{Token, Number, Over as OverAnswer, Missing as MissingAnswer}
-use Rattle.items.specs.declared.Found.{Found}
-use Rattle.items.specs.declared.Found.the-variants.{Value as FoundValue, Over as FoundOver, Missing as FoundMissing}
+use Rattle.values.specs.Values.{block, loop, nothing}
 use Rattle.items.specs.declared.Names.{Names}
 use Rattle.items.specs.declared.Values.{Values}
 use Rattle.items.specs.declared.Item.{Item as Answered}
 use Rattle.items.specs.declared.Item.the-variants.{Loop, Single, Ragged, NoValue, NoItem, NoNames, Over}
 use Rattle.grammar.specs.Tokens.{Tok, inBlock, tokensAt, headAt}
-use Rattle.grammar.specs.Reading.{limit}
+use Rattle.text.specs.Limits.{limit}
 use Rattle.sizes.specs.Sizes.{sizesOf, noSizes, added, joined}
 use Rattle.grammar.specs.Descent.{Item, taken, failed, broken, item, nameRecs, afterNames, valueRecs, afterValues, isOver}
 
@@ -48,41 +40,6 @@ pub record Here (s : List ℕ) (o : ℕ) : Type 0 where
   pub within : o ≤ length s
   pub small : length s ≤ limit
   pub none : gap (drop o s) ≡ 0
-
--- kind 14, or 15 with uncertainty
-abbrev pub kindOfNumber : Decimal → ℕ
-kindOfNumber d = cond (d .uncertain) 15 14
-
-abbrev pub foundOf : ValueAnswer → Found
-foundOf (Token k n) = FoundValue k n
-foundOf (Number d n) = FoundValue (kindOfNumber d) n
-foundOf OverAnswer = FoundOver
-foundOf (MissingAnswer w) = FoundMissing w
-
-abbrev pub foundAt : List ℕ → ℕ → Found
-foundAt s o = foundOf (valueAt s o)
-
--- a value's kind and length as one number, and 0 for what is no value: kinds end at 15, and none is 0
-unfoldable pub pack : ℕ → ℕ → ℕ
-pack k n = k + n * 16
-
-abbrev pub packedOf : Found → ℕ
-packedOf (FoundValue k n) = pack k n
-packedOf FoundOver = 0
-packedOf (FoundMissing w) = 0
-
-abbrev pub packedAt : List ℕ → ℕ → ℕ
-packedAt s o = packedOf (foundAt s o)
-
-abbrev pub isOverFound : Found → Bool
-isOverFound (FoundValue k n) = false
-isOverFound FoundOver = true
-isOverFound (FoundMissing w) = false
-
-abbrev pub whyFound : Found → Why
-whyFound (FoundValue k n) = AtEnd
-whyFound FoundOver = AtEnd
-whyFound (FoundMissing w) = w
 
 -- the names that tokens start with
 unfoldable pub namesOf : List Tok → Names

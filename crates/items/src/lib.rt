@@ -2,20 +2,15 @@
 ghost use mathlib.Core.Path.{_≡_};
 ghost use mathlib.Core.Bool.{true};
 ghost use Prim.Native.Nat.{_+_, _*_, _≤_, _<_};
-ghost use lib.ListN.{length, getD};
-ghost use Rattle.values.specs.Answers.{valueAt};
-ghost use Rattle.values.specs.Pieces.{quoteAt, fieldAt};
+ghost use lib.ListN.{length};
 ghost use Rattle.keywords.specs.Keywords.{startsAt, keyLoop};
 ghost use Rattle.sizes.specs.Sizes.{Upto};
-ghost use Rattle.items.specs.First.{isLetter, startsReserved, startsBare, startsDecimal, plainKind};
-ghost use Rattle.grammar.specs.Reading.{limit};
-ghost use Rattle.items.specs.Answers.{Ready, Here, kindOfNumber, foundAt, pack, packedAt, isOverFound, whyFound, namesAt, valuesAt, rowsOf, itemAt};
+ghost use Rattle.text.specs.Limits.{limit};
+ghost use Rattle.items.specs.Answers.{Ready, Here, namesAt, valuesAt, rowsOf, itemAt};
 ghost use Rattle.grammar.specs.Tokens.{tagAt};
 use kinds::Kind;
-use numbers::Decimal;
-use quotes::Closing;
 use sizes::Sizes;
-use values::Value;
+use values::Found;
 use values::Why;
 
 // What reading an item comes to, one case for each: read, with the offset behind it and the space and comments there;
@@ -51,13 +46,6 @@ pub enum Item {
     },
 }
 
-// What stands where a value may: one, by its kind and length; a number over a digit limit; none.
-pub enum Found {
-    Value { kind: u8, size: usize },
-    Over,
-    Missing { why: Why },
-}
-
 // The names of a loop: how many, and the offset behind them and the space and comments there.
 struct Names {
     count: usize,
@@ -82,273 +70,6 @@ pub fn at_tag(s: &[u8], at: usize) -> bool
         return false;
     }
     s[at] == b'_'
-}
-
-// Kind 14, or 15 with uncertainty.
-pub fn number_kind(decimal: Decimal) -> u8
-    ensures { λ r. ⌜ r ≡ kindOfNumber decimal ⌝ }
-{
-    if decimal.uncertain {
-        return 15;
-    }
-    14
-}
-
-// The value at an offset, by its kind and length, for any first byte. It takes apart what `parse_value` makes, which is slow.
-fn find_other(s: &[u8], at: usize) -> Found
-    ensures { λ r. ⌜ r ≡ foundAt (now (s .entry)) at ⌝ }
-{
-    let value = values::parse_value(s, at);
-    match value {
-        Value::Token { kind, size } => Found::Value { kind, size },
-        Value::Number { decimal, size } => Found::Value {
-            kind: number_kind(decimal),
-            size,
-        },
-        Value::Over => Found::Over,
-        Value::Missing { why } => Found::Missing { why },
-    }
-}
-
-fn is_letter(b: u8) -> bool
-    ensures { λ r. ⌜ r ≡ isLetter b ⌝ }
-{
-    if b < 65 {
-        return false;
-    }
-    if b <= 90 {
-        return true;
-    }
-    if b < 97 {
-        return false;
-    }
-    b <= 122
-}
-
-// Whether a letter may start a reserved word: d, g, l or s in either case.
-fn starts_reserved(b: u8) -> bool
-    ensures { λ r. ⌜ r ≡ startsReserved b ⌝ }
-{
-    if b == 100 {
-        return true;
-    }
-    if b == 68 {
-        return true;
-    }
-    if b == 103 {
-        return true;
-    }
-    if b == 71 {
-        return true;
-    }
-    if b == 108 {
-        return true;
-    }
-    if b == 76 {
-        return true;
-    }
-    if b == 115 {
-        return true;
-    }
-    b == 83
-}
-
-// Whether only a bare value can start with a byte.
-fn starts_bare(b: u8) -> bool
-    ensures { λ r. ⌜ r ≡ startsBare b ⌝ }
-{
-    if !is_letter(b) {
-        return false;
-    }
-    !starts_reserved(b)
-}
-
-// Whether a number, or a bare value, starts with a byte.
-fn starts_decimal(b: u8) -> bool
-    ensures { λ r. ⌜ r ≡ startsDecimal b ⌝ }
-{
-    if text::is_digit(b) {
-        return true;
-    }
-    if b == 43 {
-        return true;
-    }
-    b == 45
-}
-
-// The kind of a plain number, by its last byte.
-fn plain_kind(s: &[u8], end: usize) -> u8
-    requires { ⌜ (0 < end) × (end ≤ length (now s)) ⌝ }
-    ensures { λ r. ⌜ r ≡ plainKind (now (s .entry)) end ⌝ }
-{
-    if s[end - 1] == 41 {
-        return 15;
-    }
-    14
-}
-
-// A value's kind and length as one number: one comes back from a call in a register, a `Found` through memory.
-fn packed(kind: u8, size: usize) -> usize
-    requires { ⌜ size ≤ limit ⌝ }
-    ensures { λ r. ⌜ r ≡ pack kind size ⌝ }
-{
-    kind as usize + size * 16
-}
-
-// The value at an offset, packed, for any first byte; 0 where none stands.
-fn pack_other(s: &[u8], at: usize) -> usize
-    requires { ⌜ length (now s) ≤ limit ⌝ }
-    ensures { λ r. ⌜ r ≡ packedAt (now (s .entry)) at ⌝ }
-{
-    let Found::Value { kind, size } = find_other(s, at) else {
-        return 0;
-    };
-    packed(kind, size)
-}
-
-// The same where a digit or a sign stands.
-fn pack_decimal(s: &[u8], at: usize) -> usize
-    requires { ⌜ (length (now s) ≤ limit) × (at < length (now s)) × (startsDecimal (getD (now s) at 0) ≡ true) ⌝ }
-    ensures { λ r. ⌜ r ≡ packedAt (now (s .entry)) at ⌝ }
-{
-    let end = decimals::decimal_end(s, at);
-    if end <= at {
-        return pack_other(s, at);
-    }
-    packed(plain_kind(s, end), end - at)
-}
-
-// The same where a quoted value stands, if it is closed.
-fn pack_quote(s: &[u8], at: usize, mark: u8, kind: u8) -> usize
-    requires { ⌜ (length (now s) ≤ limit) × (at < length (now s)) × (valueAt (now s) at ≡ quoteAt mark kind (now s) at) ⌝ }
-    ensures { λ r. ⌜ r ≡ packedAt (now (s .entry)) at ⌝ }
-{
-    let Closing::Behind(end) = quotes::parse_enclosed(s, at + 1, mark) else {
-        return 0;
-    };
-    packed(kind, end - at)
-}
-
-// The same where a text field stands, if it is closed.
-fn pack_field(s: &[u8], at: usize) -> usize
-    requires { ⌜ (length (now s) ≤ limit) × (at < length (now s)) × (valueAt (now s) at ≡ fieldAt (now s) at) ⌝ }
-    ensures { λ r. ⌜ r ≡ packedAt (now (s .entry)) at ⌝ }
-{
-    let Closing::Behind(end) = quotes::parse_multiline_string(s, at + 1) else {
-        return 0;
-    };
-    packed(13, end - at)
-}
-
-// The same where a letter stands that a reserved word may start with.
-fn pack_letter(s: &[u8], at: usize) -> usize
-    requires { ⌜ (length (now s) ≤ limit) × (at < length (now s)) × (startsReserved (getD (now s) at 0) ≡ true) ⌝ }
-    ensures { λ r. ⌜ r ≡ packedAt (now (s .entry)) at ⌝ }
-{
-    if keywords::is_reserved(s, at) {
-        return 0;
-    }
-    let end = words::parse_identifier(s, at);
-    packed(10, end - at)
-}
-
-// The same where `.` stands: without a digit behind it, it is no number.
-fn pack_point(s: &[u8], at: usize) -> usize
-    requires { ⌜ (length (now s) ≤ limit) × (at < length (now s)) × (getD (now s) at 0 ≡ 46) ⌝ }
-    ensures { λ r. ⌜ r ≡ packedAt (now (s .entry)) at ⌝ }
-{
-    let next = at + 1;
-    if s.len() <= next {
-        return packed(8, 1);
-    }
-    if !text::is_digit(s[next]) {
-        return packed(8, 1);
-    }
-    pack_other(s, at)
-}
-
-// The same for a first byte that is no digit, no sign, and no letter but those of reserved words. A tag is no value.
-fn pack_marked(s: &[u8], at: usize, b: u8) -> usize
-    requires { ⌜ (length (now s) ≤ limit) × (at < length (now s)) × (b ≡ getD (now s) at 0) ⌝ }
-    ensures { λ r. ⌜ r ≡ packedAt (now (s .entry)) at ⌝ }
-{
-    if b == 39 {
-        return pack_quote(s, at, 39, 11);
-    }
-    if b == 34 {
-        return pack_quote(s, at, 34, 12);
-    }
-    if b == 59 {
-        return pack_field(s, at);
-    }
-    if b == 46 {
-        return pack_point(s, at);
-    }
-    if b == 95 {
-        return 0;
-    }
-    if starts_reserved(b) {
-        return pack_letter(s, at);
-    }
-    pack_other(s, at)
-}
-
-// The same for every first byte: it tells most values, without making what they mean.
-pub fn pack_value(s: &[u8], at: usize) -> usize
-    requires { ⌜ length (now s) ≤ limit ⌝ }
-    ensures { λ r. ⌜ r ≡ packedAt (now (s .entry)) at ⌝ }
-{
-    if s.len() <= at {
-        return 0;
-    }
-    let b = s[at];
-    if starts_bare(b) {
-        let end = words::parse_identifier(s, at);
-        return packed(10, end - at);
-    }
-    if starts_decimal(b) {
-        return pack_decimal(s, at);
-    }
-    if b == 63 {
-        return packed(9, 1);
-    }
-    pack_marked(s, at, b)
-}
-
-// The value at an offset, by its kind and length. Longer texts are refused before; here their lengths might not fit.
-pub fn find_value(s: &[u8], at: usize) -> Found
-    ensures { λ r. ⌜ r ≡ foundAt (now (s .entry)) at ⌝ }
-{
-    if 16777216 < s.len() {
-        return find_other(s, at);
-    }
-    let token = pack_value(s, at);
-    if token == 0 {
-        return find_other(s, at);
-    }
-    let kind = token % 16;
-    Found::Value {
-        kind: kind as u8,
-        size: token / 16,
-    }
-}
-
-fn is_over(found: Found) -> bool
-    ensures { λ r. ⌜ r ≡ isOverFound found ⌝ }
-{
-    match found {
-        Found::Over => true,
-        _ => false,
-    }
-}
-
-fn why_not(found: Found) -> Why
-    ensures { λ r. ⌜ r ≡ whyFound found ⌝ }
-{
-    match found {
-        Found::Missing { why } => why,
-        _ => Why::AtEnd,
-    }
 }
 
 // The names of a loop, from behind its `loop_` on.
@@ -383,14 +104,23 @@ fn count_values(s: &[u8], from: usize) -> Values
     let mut count: usize = 0;
     let mut sizes = Sizes::none();
     loop {
-        let found = find_value(s, at);
+        let found = Found::of(values::pack_value(s, at));
         let Found::Value { kind, size } = found else {
+            let Found::Missing { why } = found else {
+                return Values {
+                    count,
+                    next: at,
+                    sizes,
+                    over: true,
+                    why: Why::AtEnd,
+                };
+            };
             return Values {
                 count,
                 next: at,
                 sizes,
-                over: is_over(found),
-                why: why_not(found),
+                over: false,
+                why,
             };
         };
         sizes = sizes.add_value(kind, size);
@@ -451,7 +181,7 @@ fn parse_tag(s: &[u8], at: usize) -> Item
 {
     let end = words::long_word_end(s, at);
     let stop = gaps::gap_end(s, end);
-    let found = find_value(s, stop);
+    let found = Found::of(values::pack_value(s, stop));
     if let Found::Value { kind, size } = found {
         let sizes = Sizes::none().add(Kind::TAG, end - at).add_value(kind, size);
         return Item::Single {
@@ -459,14 +189,10 @@ fn parse_tag(s: &[u8], at: usize) -> Item
             sizes,
         };
     }
-    if is_over(found) {
+    let Found::Missing { why } = found else {
         return Item::Over { at: stop };
-    }
-    Item::NoValue {
-        at,
-        stop,
-        why: why_not(found),
-    }
+    };
+    Item::NoValue { at, stop, why }
 }
 
 // The item at an offset where no space or comment stands.

@@ -135,3 +135,8 @@ reserved-low s o h l =
     let b = getD s o 0 in
     let no : (c : ℕ) → allBelow (λ k. not (eqb (lower (0 + k)) c)) 68 ≡ true → eqb (lower b) c ≡ false = λ c t. fails (λ x. eqb (lower x) c) 0 68 t b (omega arith) (omega arith) in
     reserved-first s o (lower b) h refl ∙ rw (no 100 refl, no 103 refl, no 108 refl, no 115 refl)
+
+-- the five reserved words
+pub reserved-words : (s : List ℕ) → reserved s ≡ (starts keyData s || starts keyGlobal s || starts keyLoop s || starts keySave s || starts keyStop s)
+unfolding reserved
+reserved-words s = refl

@@ -3,3 +3,4 @@ pub mod Shape
 pub mod Ended
 pub mod Starts
 pub mod Offsets
+pub mod Letters

@@ -1,7 +1,7 @@
 -- Keywords (document 01): they match in any letter case, as prefixes. Assumes nothing.
 use Prim.Native.Nat.{ℕ, _+_}
+use mathlib.Core.Bool.{Bool, true, false, cond, not, _&&_, _||_}
 use Prim.Native.Char.{code}
-use mathlib.Core.Bool.{Bool, true, false, cond, _&&_, _||_}
 use mathlib.Core.List.{List, [], _∷_}
 use lib.Dec.{leb}
 use lib.ListN.{drop}
@@ -39,3 +39,7 @@ keyStop = bytes "stop_"
 -- no value starts with one of the five
 unfoldable pub reserved : List ℕ → Bool
 reserved s = starts keyData s || starts keyGlobal s || starts keyLoop s || starts keySave s || starts keyStop s
+
+-- a letter that none of the five starts with: not d, g, l, s in either case
+unfoldable pub isFreeLetter : ℕ → Bool
+isFreeLetter b = let c = lower b in leb 97 c && (leb c 122 && not (is 100 c || (is 103 c || (is 108 c || is 115 c))))

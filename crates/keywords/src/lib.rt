@@ -2,7 +2,7 @@
 ghost use mathlib.Core.Path.{_≡_};
 ghost use Prim.Native.Nat.{_<_};
 ghost use lib.ListN.{drop};
-ghost use Rattle.keywords.specs.Keywords.{lower, startsAt, keyData, keyLoop, keySave, reserved};
+ghost use Rattle.keywords.specs.Keywords.{lower, startsAt, keyData, keyLoop, keySave, reserved, isFreeLetter};
 
 // From a capital letter to its small one.
 const TO_SMALL: u8 = b'a' - b'A';
@@ -88,4 +88,27 @@ pub fn is_reserved(s: &[u8], at: usize) -> bool
         return true;
     }
     start_with(s, at, b"stop_")
+}
+
+// Whether a byte is a letter that no reserved word starts with.
+pub fn is_free_letter(b: u8) -> bool
+    ensures { λ r. ⌜ r ≡ isFreeLetter b ⌝ }
+{
+    let first = to_lower(b);
+    if first < b'a' {
+        return false;
+    }
+    if b'z' < first {
+        return false;
+    }
+    if first == b'd' {
+        return false;
+    }
+    if first == b'g' {
+        return false;
+    }
+    if first == b'l' {
+        return false;
+    }
+    first != b's'
 }

@@ -10,4 +10,4 @@ pub mod Bridge
 pub mod Facts
 pub mod Counting
 pub mod Rendered
-pub mod Kept
+pub mod Judged

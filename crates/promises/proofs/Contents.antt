@@ -89,8 +89,8 @@ read-between s _ k n (bare p) e g l h = let z : 10 ≡ k = cc in absurd (omega a
 read-between s _ k n (quote t m q c) e g l h = let z : 11 ≡ k = cc in rw (← z, ← g) (between 39 s t m q (quote-ends 39 t m c))
 read-between s _ k n (double t m q c) e g l h = let z : 12 ≡ k = cc in rw (← z, ← g) (between 34 s t m q (quote-ends 34 t m c))
 read-between s _ k n (multi t m q c) e g l h = let z : 13 ≡ k = cc in rw (← z, ← g) (between 59 s t m q (field-ends t m c))
-read-between s _ k n (number true u p) e g l h = let z : 15 ≡ k = cc in absurd (omega arith)
-read-between s _ k n (number false u p) e g l h = let z : 14 ≡ k = cc in absurd (omega arith)
+read-between s _ k n (number true u w p) e g l h = let z : 15 ≡ k = cc in absurd (omega arith)
+read-between s _ k n (number false u w p) e g l h = let z : 14 ≡ k = cc in absurd (omega arith)
 read-between s _ k n (over p) e g l h = never (cc)
 
 -- a value taken out of the text is alone what it was

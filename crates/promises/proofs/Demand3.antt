@@ -17,7 +17,8 @@ use Rattle.text.specs.Runs.{span}
 use Rattle.places.specs.Places.{placeAt}
 use Rattle.grammar.specs.Tokens.{before, tokens}
 use Rattle.grammar.specs.Machine.{Rec, refused, done, config, start}
-use Rattle.grammar.specs.Reading.{limit, decided, outline}
+use Rattle.grammar.specs.Reading.{decided, outline}
+use Rattle.text.specs.Limits.{limit}
 use Rattle.promises.specs.Differences.{insideRecs, Differ, DigitsDiffer, ContentsDiffer}
 use Rattle.promises.proofs.Places.{placeAt-w}
 use Rattle.promises.proofs.ShapeTokens.{outline-σ}

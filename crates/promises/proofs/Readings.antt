@@ -18,9 +18,10 @@ use Rattle.values.specs.Answers.{whyOf, answer, valueAnswer}
 use Rattle.grammar.specs.Tokens.{saveSize, lexIn, lex, after, tok, emit, step, tokensFrom, tokens}
 use Rattle.grammar.specs.Machine.{config, rec, loopEnd, closes, fails, atItem, loopEnds, atValue, noMoreNames, atName, atWant, atStart, move, follow, run}
 use Rattle.sizes.specs.Sizes.{contentSize, storeSize, areaSize}
-use Rattle.grammar.specs.Reading.{limit, decided, outline}
-use Rattle.putting.specs.Written.{contentOf}
+use Rattle.grammar.specs.Reading.{decided, outline}
+use Rattle.text.specs.Limits.{limit}
 use Rattle.walking.specs.Writing.{areaOf}
+use Rattle.putting.specs.Written.{contentOf}
 use Rattle.reading.specs.Services.{readRoom, readBy, readAnswer}
 use Rattle.refusals.specs.Answers.{refusal}
 use Rattle.promises.specs.Readings.{bytes, rowOf, seen, asked, reads, means, done-with, decimal, whole, readings, ReadingsHold}

@@ -15,7 +15,8 @@ use Rattle.places.specs.Reports.{success, refusedAt, refusedBare, noRoom}
 use Rattle.values.specs.Values.{Class, block, loop, save, tag, value, overLimit, nothing, atEnd, reservedWord, noStart, openQuote, openField}
 use Rattle.grammar.specs.Tokens.{Tok, tokens}
 use Rattle.grammar.specs.Machine.{Rec, Answer, refused, done, State, start, items, names, values, wants, Config, config, Outcome, go, stop, rec, loopEnd, closes, fails, atItem, loopEnds, atValue, noMoreNames, atName, atWant, atStart, move, follow, run}
-use Rattle.grammar.specs.Reading.{limit, decided, outline}
+use Rattle.grammar.specs.Reading.{decided, outline}
+use Rattle.text.specs.Limits.{limit}
 use Rattle.sizes.specs.Sizes.{storeSize, areaSize}
 use Rattle.reading.specs.Services.{readRoom, readBy, readAnswer}
 use Rattle.refusals.specs.Answers.{refusal}

@@ -29,7 +29,8 @@ use Rattle.kinds.specs.Kinds.{kindOf, numberOf, shapeOf, isContent}
 use Rattle.records.specs.Put.{front}
 use Rattle.grammar.specs.Tokens.{before, inBlock, lex, after, tok, tokensFrom, tokens}
 use Rattle.grammar.specs.Machine.{Rec, done, start, config, go, rec, loopEnd, atStart, move, follow, run}
-use Rattle.grammar.specs.Reading.{limit, decided, outline}
+use Rattle.grammar.specs.Reading.{decided, outline}
+use Rattle.text.specs.Limits.{limit}
 use Rattle.sizes.specs.Sizes.{storeSize, areaSize}
 use Rattle.words.proofs.Ended.{word-ended}
 use Rattle.keywords.proofs.Ended.{starts-ended, noLf}

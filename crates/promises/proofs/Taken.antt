@@ -19,7 +19,8 @@ use Rattle.gaps.proofs.Gaps.{gap-fits}
 use Rattle.values.specs.Values.{Class, block, loop, save, tag, value, overLimit, nothing, atEnd, reservedWord, noStart, openQuote, openField, Lexed, lexed}
 use Rattle.grammar.specs.Tokens.{Mode, before, inBlock, inFrame, lex, after, Tok, tok, emit, step, tokensFrom, tokens}
 use Rattle.grammar.specs.Machine.{Rec, Answer, refused, done, State, start, items, names, values, wants, Config, config, Outcome, go, stop, rec, loopEnd, closes, fails, atItem, loopEnds, atValue, noMoreNames, atName, atWant, atStart, move, follow, run}
-use Rattle.grammar.specs.Reading.{limit, decided, outline}
+use Rattle.grammar.specs.Reading.{decided, outline}
+use Rattle.text.specs.Limits.{limit}
 use Rattle.grammar.proofs.Fits.{lex-fits}
 use Rattle.promises.proofs.Lines.{modeOf}
 use Rattle.promises.proofs.Lexing.{never}

@@ -13,9 +13,9 @@ use Rattle.words.proofs.Words.{word-end, word-plain, word-fits}
 use Rattle.values.proofs.Laws.{lies-within, lies-plain, lies-last}
 use Rattle.kinds.specs.Kinds.{kindOf, marksOf}
 use Rattle.kinds.proofs.Marks.{value-marks}
-use Rattle.items.specs.declared.Found.the-variants.{Value}
-use Rattle.items.specs.Answers.{foundAt}
-use Rattle.items.proofs.First.{found-lies}
+use Rattle.values.specs.declared.Found.the-variants.{Value}
+use Rattle.values.specs.Finding.{foundAt}
+use Rattle.values.proofs.Laws.{found-lies}
 use Rattle.putting.specs.Desk.{IsToken}
 
 -- the first bytes of a word

@@ -8,40 +8,14 @@ use lib.ListN.{take, drop}
 use Rattle.numbers.specs.declared.Decimal.{Decimal}
 use Rattle.numbers.specs.Parts.{parts, within}
 use Rattle.numbers.specs.Meaning.{meaning}
-use Rattle.numbers.proofs.Facts.{is-number, number-facts}
-use Rattle.values.specs.Answers.{valueAt}
-use Rattle.values.specs.declared.Value.{Value as Found}
-use Rattle.values.specs.declared.Value.the-variants.{Token, Number, Over, Missing}
-use Rattle.values.proofs.Laws.{value-token}
-use Rattle.values.proofs.Kept.{number-kept}
+use Rattle.numbers.proofs.Facts.{number-facts}
+use Rattle.values.specs.Finding.{kindOfNumber}
+use Rattle.values.proofs.Laws.{found-lies, found-number}
 use Rattle.kinds.specs.declared.Shape.the-variants.{Place as PlaceAlone, Content}
 use Rattle.kinds.specs.Kinds.{kindOf, shapeOf}
-use Rattle.items.specs.declared.Found.the-variants.{Value}
-use Rattle.items.specs.Answers.{foundOf, foundAt, kindOfNumber}
-use Rattle.items.proofs.First.{found-lies}
 use Rattle.putting.specs.Written.{decimalOf, tokenText}
 use Rattle.putting.specs.Desk.{IsToken, ValueHere, recAt}
 use Rattle.putting.proofs.Lines.{value-token as found-token}
-
--- a value of kind 14 or 15 is a number
-record FoundNumber (s : List ℕ) (o k n : ℕ) : Type 0 where
-  decimal : Decimal
-  value : valueAt s o ≡ Number decimal n
-  kind : k ≡ kindOfNumber decimal
-
-found-number : (s : List ℕ) (o k n : ℕ) → foundAt s o ≡ Value k n → 14 ≤ k → FoundNumber s o k n
-found-number s o k n f l = by (valueAt s o) refl f
-  where
-    by : (v : Found) → valueAt s o ≡ v → foundOf v ≡ Value k n → FoundNumber s o k n
-    by (Token j m) q e =
-        let z : j ≡ k = cc in
-        absurd (omega (arith, value-token s o j m q .high))
-    by (Number d m) q e =
-        let z : m ≡ n = cc in
-        let y : k ≡ kindOfNumber d = cc in
-        record { decimal = d; value = rw (← z) q; kind = y }
-    by Over q e = let z : _≡_ {A = ℕ} 0 1 = cc in absurd (omega arith)
-    by (Missing w) q e = let z : _≡_ {A = ℕ} 0 1 = cc in absurd (omega arith)
 
 -- what Read and Outline want of a number
 pub record NumberToken (s : List ℕ) (o k n : ℕ) : Type 0 where
@@ -55,14 +29,13 @@ pub number-token : (s : List ℕ) (o k n : ℕ) → ValueHere s o k n → 14 ≤
 unfolding decimalOf tokenText
 number-token s o k n h l =
     let f = found-number s o k n (h .found) l in
-    let i = is-number (take n (drop o s)) (f .decimal) (number-kept s o (f .decimal) n (f .value)) in
-    let b = number-facts (take n (drop o s)) (f .decimal) (number-kept s o (f .decimal) n (f .value)) in
+    let b = number-facts (take n (drop o s)) _ (f .number) in
     record {
       token = found-token s o k n (h .found);
       most = found-lies s o k n (h .found) .high;
-      kind = rw (i .means) (f .kind);
-      limits = i .kept;
-      places = rw (i .means) (omega (arith, b .places));
+      kind = f .kind;
+      limits = f .kept;
+      places = omega (arith, b .places);
     }
 
 -- a part of the text means what its record says

@@ -11,8 +11,8 @@ use Rattle.places.specs.Places.{placeAt, IsPlace}
 use Rattle.kinds.specs.declared.Shape.the-variants.{Place as PlaceAlone, Content}
 use Rattle.kinds.specs.Kinds.{kindOf, shapeOf, shapeLength, marksOf}
 use Rattle.records.specs.Put.{put}
-use Rattle.items.specs.declared.Found.the-variants.{Value}
-use Rattle.items.specs.Answers.{foundAt}
+use Rattle.values.specs.declared.Found.the-variants.{Value}
+use Rattle.values.specs.Finding.{foundAt}
 use Rattle.grammar.specs.Machine.{Rec, loopEnd}
 use Rattle.sizes.specs.Sizes.{contentSize, storeSize, outlineSize, areaSize}
 use Rattle.putting.specs.declared.Cursor.{Cursor}

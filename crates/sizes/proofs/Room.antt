@@ -1,11 +1,9 @@
 -- Laws of sizes: those of appended records add up, and records take at most 64 bytes for each byte of text. Assumes nothing.
-use Prim.Native.Nat.{ℕ, suc, _+_, _-_, _≤_, _<_}
-use mathlib.Core.Path.{_≡_, refl}
-use mathlib.Core.Bool.{Bool, true, false, cond}
+use Prim.Native.Nat.{ℕ, zero, suc, _+_, _-_, _≤_, _<_}
+use mathlib.Core.Path.{_≡_, refl, sym}
+use mathlib.Core.Bool.{Bool, true, false, cond, true≢false}
 use mathlib.Core.List.{List, [], _∷_, _++_}
 use native.Mathlib.Omega.{arith}
-use borrow.Author.Tests.{eqb-true, eqb-false}
-use lib.Dec.{eqb}
 use Rattle.kinds.specs.declared.Kind.{Kind}
 use Rattle.kinds.specs.declared.Shape.{Shape}
 use Rattle.kinds.specs.declared.Shape.the-variants.{Empty, Place, Content, Count, Parts, PartsUncertain}
@@ -147,39 +145,56 @@ pub grown-steps : (z : Sizes) (x : Shape) (n a : ℕ) → a ≡ shapeLength x �
 unfolding grown shapeLength
 grown-steps z x n a e = same (omega arith) (omega arith) (omega arith)
 
-module _ (z : Sizes) where
-  pub grown-bare : (n : ℕ) → grown z Content n ≡ added z 10 n
-  unfolding grown added bodyLength outlineLength contentSize hasContent isContent kindOf shapeOf outlineShape marksOf
-  grown-bare n = same refl refl (omega arith)
+-- what holds of each kind of value
+value-kinds : (P : ℕ → Type 0) → P 8 → P 9 → P 10 → P 11 → P 12 → P 13 → P 14 → P 15 → (k : ℕ) → 8 ≤ k → k ≤ 15 → P k
+value-kinds P a b c d e f g h k l u = at (k - 8) (omega arith)
+  where
+    at : (j : ℕ) → k ≡ 8 + j → P k
+    at zero q = rw q a
+    at (suc zero) q = rw q b
+    at (suc (suc zero)) q = rw q c
+    at (suc (suc (suc zero))) q = rw q d
+    at (suc (suc (suc (suc zero)))) q = rw q e
+    at (suc (suc (suc (suc (suc zero))))) q = rw q f
+    at (suc (suc (suc (suc (suc (suc zero)))))) q = rw q g
+    at (suc (suc (suc (suc (suc (suc (suc zero))))))) q = rw q h
+    at (suc (suc (suc (suc (suc (suc (suc (suc j)))))))) q = absurd (omega arith)
 
-  pub grown-number : (n : ℕ) → grown z Parts 0 ≡ added z 14 n
-  unfolding grown added bodyLength outlineLength contentSize hasContent isContent kindOf shapeOf outlineShape
-  grown-number n = refl
+isEmpty : Shape → Bool
+isEmpty Empty = true
+isEmpty Place = false
+isEmpty Content = false
+isEmpty Count = false
+isEmpty Parts = false
+isEmpty PartsUncertain = false
 
-  pub grown-uncertain : (n : ℕ) → grown z PartsUncertain 0 ≡ added z 15 n
-  unfolding grown added bodyLength outlineLength contentSize hasContent isContent kindOf shapeOf outlineShape
-  grown-uncertain n = refl
+-- a value's body is not empty
+value-body : (k : ℕ) → 8 ≤ k → k ≤ 15 → isEmpty (shapeOf (kindOf k)) ≡ false
+unfolding isEmpty kindOf shapeOf
+value-body = value-kinds (λ k. isEmpty (shapeOf (kindOf k)) ≡ false) refl refl refl refl refl refl refl refl
 
-  pub grown-place : (k n : ℕ) → 8 ≤ k → k < 10 → grown z Place 0 ≡ added z k n
-  unfolding grown added bodyLength outlineLength contentSize hasContent isContent kindOf shapeOf outlineShape
-  grown-place k n l h = by (eqb k 8) refl
-    where
-      by : (t : Bool) → eqb k 8 ≡ t → grown z Place 0 ≡ added z k n
-      by true e = rw (eqb-true k 8 e)
-      by false e =
-          let d : ¬ (k ≡ 8) = eqb-false k 8 e in
-          let q : k ≡ 9 = omega arith in
-          rw q
+-- a value has its marks
+pub value-marks : (n k : ℕ) → 8 ≤ k → k ≤ 15 → (11 ≤ k → k ≤ 13 → 2 ≤ n) → marksOf (kindOf k) ≤ n
+unfolding kindOf marksOf
+value-marks n =
+    value-kinds (λ k. (11 ≤ k → k ≤ 13 → 2 ≤ n) → marksOf (kindOf k) ≤ n)
+    (λ m. omega arith) (λ m. omega arith) (λ m. omega arith)
+    (λ m. m (omega arith) (omega arith)) (λ m. m (omega arith) (omega arith)) (λ m. m (omega arith) (omega arith))
+    (λ m. omega arith) (λ m. omega arith)
 
-  pub grown-quoted : (k n : ℕ) → 11 ≤ k → k ≤ 13 → grown z Content (n - 2) ≡ added z k n
-  unfolding grown added bodyLength outlineLength contentSize hasContent isContent kindOf shapeOf outlineShape marksOf
-  grown-quoted k n l h = by (eqb k 11) (eqb k 12) refl refl
-    where
-      by : (t u : Bool) → eqb k 11 ≡ t → eqb k 12 ≡ u → grown z Content (n - 2) ≡ added z k n
-      by true u e f = rw (eqb-true k 11 e)
-      by false true e f = rw (eqb-true k 12 f)
-      by false false e f =
-          let c : ¬ (k ≡ 11) = eqb-false k 11 e in
-          let d : ¬ (k ≡ 12) = eqb-false k 12 f in
-          let q : k ≡ 13 = omega arith in
-          rw q
+-- one with content, and one without
+pub grown-content : (z : Sizes) (k n : ℕ) → shapeOf (kindOf k) ≡ Content → grown z Content (n - marksOf (kindOf k)) ≡ added z k n
+unfolding grown added bodyLength outlineLength contentSize hasContent isContent outlineShape
+grown-content z k n e = rw e
+
+grown-shape : (z : Sizes) (k n : ℕ) (x : Shape) → shapeOf (kindOf k) ≡ x → isContent x ≡ false → isEmpty x ≡ false → grown z x 0 ≡ added z k n
+unfolding grown added bodyLength outlineLength contentSize hasContent isContent outlineShape isEmpty
+grown-shape z k n Empty e c d = absurd (true≢false d)
+grown-shape z k n Content e c d = absurd (true≢false c)
+grown-shape z k n Place e c d = rw e
+grown-shape z k n Count e c d = rw e
+grown-shape z k n Parts e c d = rw e
+grown-shape z k n PartsUncertain e c d = rw e
+
+pub grown-other : (z : Sizes) (k n : ℕ) → 8 ≤ k → k ≤ 15 → (x : Shape) → x ≡ shapeOf (kindOf k) → isContent x ≡ false → grown z x 0 ≡ added z k n
+grown-other z k n l u x e c = grown-shape z k n x (sym e) c (rw e (value-body k l u))

@@ -2,7 +2,7 @@
 ghost use mathlib.Core.Path.{_≡_};
 ghost use Prim.Native.Nat.{_*_, _≤_};
 ghost use Rattle.sizes.specs.Sizes.{contentSize, noSizes, grown, added, joined, Upto};
-ghost use Rattle.grammar.specs.Reading.{limit};
+ghost use Rattle.text.specs.Limits.{limit};
 use kinds::Kind;
 use kinds::Shape;
 
@@ -65,24 +65,17 @@ impl Sizes {
         }
     }
 
-    // One value more: as `add`, without its tables, since values are most of a text.
+    // One value more: as `add`, by the value's shape, which is not empty.
     pub fn add_value(self, kind: u8, size: usize) -> Sizes
         requires { ⌜ Upto (limit * limit) self × (size ≤ limit) × (8 ≤ kind) × (kind ≤ 15) × (11 ≤ kind → kind ≤ 13 → 2 ≤ size) ⌝ }
         ensures { λ r. ⌜ r ≡ added self kind size ⌝ }
     {
-        if kind == Kind::BARE {
-            return self.plus(Shape::Content, size);
-        }
-        if kind == Kind::NUMBER {
-            return self.plus(Shape::Parts, 0);
-        }
-        if kind == Kind::UNCERTAIN {
-            return self.plus(Shape::PartsUncertain, 0);
-        }
-        if kind < Kind::BARE {
-            return self.plus(Shape::Place, 0);
-        }
-        self.plus(Shape::Content, size - Kind::QUOTE_MARKS)
+        let kind = Kind::of(kind);
+        let shape = kind.shape();
+        let Shape::Content = shape else {
+            return self.plus(shape, 0);
+        };
+        self.plus(Shape::Content, size - kind.marks())
     }
 
     // The records of both.

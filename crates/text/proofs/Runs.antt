@@ -1,6 +1,6 @@
 -- Laws of `span` and `spanEnd`, for any class. Assumes nothing.
 use Prim.Native.Nat.{ℕ, zero, suc, _+_, _-_, _≤_, _<_}
-use mathlib.Core.Path.{_≡_, refl, sym}
+use mathlib.Core.Path.{_≡_, refl, sym, _∙_}
 use mathlib.Core.Bool.{Bool, true, false, cond, not, _&&_, _||_}
 use mathlib.Core.List.{List, [], _∷_}
 use native.Mathlib.Numerals.{add-one}
@@ -180,3 +180,14 @@ module _ (p : ℕ → Bool) (s : List ℕ) (o : ℕ) where
   pub runs-stop : o < length s → p (getD s o 0) ≡ false → runs p 1 s o ≡ false
   unfolding runs span
   runs-stop h g = rw (drop-cons s o 0, g)
+
+-- a run ends where its bytes pass and the next one does not
+pub span-to : (p : ℕ → Bool) (s : List ℕ) (n o : ℕ) → o + n ≤ length s → ((k : ℕ) → o ≤ k → k < o + n → p (getD s k 0) ≡ true)
+    → spanEnd p s (o + n) ≡ o + n → spanEnd p s o ≡ o + n
+span-to p s zero o h f e =
+    let z : o + 0 ≡ o = omega arith in
+    rw z (rw z at e)
+span-to p s (suc n) o h f e =
+    let z : o + 1 + n ≡ o + suc n = omega arith in
+    span-go p s o (omega arith) (f o (omega arith) (omega arith))
+    ∙ rw z at (span-to p s n (o + 1) (omega arith) (λ k l u. f k (omega arith) (omega arith)) (rw z e))

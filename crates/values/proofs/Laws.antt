@@ -1,126 +1,86 @@
--- Laws of values: what an answer of valueAt says of the token there, and where that token lies. Assumes nothing.
+-- Laws of values: what is found says of the token there, where that token lies, and what a number means. Assumes nothing.
 use Prim.Native.Nat.{ℕ, zero, suc, _+_, _-_, _≤_, _<_}
-use mathlib.Core.Path.{_≡_, refl, ap, _∙_}
-use mathlib.Core.Bool.{Bool, true, false, cond}
-use mathlib.Core.List.{List, _∷_}
+use mathlib.Core.Path.{_≡_, refl, sym, ap, _∙_}
+use mathlib.Core.Bool.{Bool, true, false, cond, _||_}
+use mathlib.Core.List.{List, [], _∷_}
 use mathlib.Core.Option.{some}
 use native.Mathlib.Omega.{arith}
+use borrow.Author.Tests.{eqb-true, ne-eqb}
+use lib.Dec.{eqb}
 use lib.ListN.{length, take, drop, getD, length-drop}
 use lib.Seq.{getD-drop}
-use Rattle.text.specs.Bytes.{isEol}
-use Rattle.words.specs.Words.{word}
+use Rattle.text.specs.Bytes.{is, isEol}
+use Rattle.words.specs.Words.{word, isOrdinary}
+use Rattle.keywords.specs.Keywords.{reserved}
 use Rattle.quotes.specs.Quotes.{quoted}
 use Rattle.words.proofs.Words.{word-end, word-fits, word-plain}
 use Rattle.quotes.proofs.Quotes.{Ends, quote-ends, quote-plain, field-ends}
-use Rattle.numbers.specs.Parts.{parts}
-use Rattle.numbers.specs.Meaning.{meaning}
+use Rattle.numbers.specs.Parts.{parts, within}
+use Rattle.numbers.specs.Meaning.{meaning, numberOf}
+use Rattle.numbers.specs.declared.Number.the-variants.{Is}
+use Rattle.numbers.proofs.Facts.{is-number}
+use Rattle.numbers.proofs.Judged.{meaning-uncertain}
 use Rattle.numbers.specs.declared.Decimal.{Decimal}
-use Rattle.values.specs.declared.Value.{Value}
-use Rattle.values.specs.declared.Value.the-variants.{Token, Number, Over, Missing}
 use Rattle.values.specs.declared.Why.{Why}
-use Rattle.values.specs.Values.{Reason, value, overLimit, nothing, Lexed, lexed, lexAsValue}
-use Rattle.values.specs.Answers.{whyOf, answer, valueAnswer, valueAt}
+use Rattle.values.specs.declared.Value.the-variants.{Token, Number, Over as OverAnswer, Missing as MissingAnswer}
+use Rattle.values.specs.declared.Found.{Found}
+use Rattle.values.specs.declared.Found.the-variants.{Value, Over, Missing}
+use Rattle.values.specs.Values.{atEnd, reservedWord, noStart, Class, block, loop, save, tag, value, overLimit, nothing, Lexed, lexed, lexValue, lexAsValue}
+use Rattle.values.specs.Answers.{answer, valueAnswer, valueAt}
+use Rattle.values.specs.Finding.{wanted, foundAt, kindOfNumber, meant}
 use Rattle.values.proofs.Views.{Read, missing, point, unknown, bare, quote, double, multi, number, over, view}
 
--- The answers, by case
-
--- a token of kind k
-pub record IsToken (x : Lexed) (k n : ℕ) : Type 0 where
-  pub token : x ≡ lexed (value k) n
-  pub low : 8 ≤ k
-  pub high : k ≤ 13
-
--- a number: its kind tells whether an uncertainty stands there, and its bytes what it means
-pub record IsNumber (s : List ℕ) (x : Lexed) (d : Decimal) (n : ℕ) : Type 0 where
-  pub token : x ≡ lexed (value (cond (d .uncertain) 15 14)) n
-  pub means : d ≡ meaning (parts (take n s))
-  pub whole : n ≡ word s
-
--- no value, for a reason
-pub record IsMissing (x : Lexed) (w : Why) : Type 0 where
-  pub reason : Reason
-  pub why : whyOf reason ≡ w
-  pub token : x ≡ lexed (nothing reason) 0
-
--- what the token x at the start of s is, by the answer that it gives
-pub data Told (s : List ℕ) (x : Lexed) : Value → Type 0 where
-  isToken : (k n : ℕ) → IsToken x k n → Told s x (Token k n)
-  isNumber : (d : Decimal) (n : ℕ) → IsNumber s x d n → Told s x (Number d n)
-  isOver : x ≡ lexed overLimit (word s) → Told s x Over
-  isMissing : (w : Why) → IsMissing x w → Told s x (Missing w)
-
-told-token : (s : List ℕ) (k n : ℕ) → 8 ≤ k → k ≤ 13 → Told s (lexed (value k) n) (Token k n)
-told-token s k n l h = isToken k n (record { token = refl; low = l; high = h })
-
-told-number : (s : List ℕ) (u : Bool) → parts (take (word s) s) .unc .here ≡ u → Told s (lexed (value (cond u 15 14)) (word s)) (Number (meaning (parts (take (word s) s))) (word s))
-unfolding meaning
-told-number s u q = isNumber (meaning (parts (take (word s) s))) (word s) (record { token = rw q; means = refl; whole = refl })
-
-told : (s : List ℕ) (x : Lexed) → Read s x → Told s x (answer s (x .class) (x .size))
-unfolding lexed answer
-told s _ (missing r) = isMissing (whyOf r) (record { reason = r; why = refl; token = refl })
-told s _ (point t q) = told-token s 8 1 (omega arith) (omega arith)
-told s _ (unknown t q) = told-token s 9 1 (omega arith) (omega arith)
-told s _ (bare p) = told-token s 10 (word s) (omega arith) (omega arith)
-told s _ (quote t n q c) = told-token s 11 (suc n) (omega arith) (omega arith)
-told s _ (double t n q c) = told-token s 12 (suc n) (omega arith) (omega arith)
-told s _ (multi t n q c) = told-token s 13 (suc n) (omega arith) (omega arith)
-told s _ (number true q p) = told-number s true q
-told s _ (number false q p) = told-number s false q
-told s _ (over p) = isOver refl
-
-pub value-told : (s : List ℕ) (o : ℕ) → Told (drop o s) (lexAsValue (drop o s)) (valueAt s o)
-unfolding valueAt valueAnswer
-value-told s o = told (drop o s) (lexAsValue (drop o s)) (view (drop o s))
+-- What is found, and the token that stands there
 
 never : {A : Type 0} → _≡_ {A = ℕ} 0 1 → A
 never e = absurd (omega arith)
 
-module _ (s : List ℕ) (x : Lexed) where
-  to-token : (k n : ℕ) (v : Value) → Told s x v → v ≡ Token k n → IsToken x k n
-  to-token k n _ (isToken j m i) e =
-      let a : j ≡ k = cc in
-      let b : m ≡ n = cc in
-      rw (← a, ← b) i
-  to-token k n _ (isNumber d m i) e = never (cc)
-  to-token k n _ (isOver i) e = never (cc)
-  to-token k n _ (isMissing w i) e = never (cc)
+wanted-value : (c : Class) (m k n : ℕ) → wanted c m ≡ Value k n → (c ≡ value k) × (m ≡ n)
+unfolding wanted
+wanted-value (value j) m k n e =
+    let a : j ≡ k = cc in
+    let b : m ≡ n = cc in
+    (rw a, b)
+wanted-value overLimit m k n e = never (cc)
+wanted-value block m k n e = never (cc)
+wanted-value loop m k n e = never (cc)
+wanted-value save m k n e = never (cc)
+wanted-value tag m k n e = never (cc)
+wanted-value (nothing w) m k n e = never (cc)
 
-  to-number : (d : Decimal) (n : ℕ) (v : Value) → Told s x v → v ≡ Number d n → IsNumber s x d n
-  to-number d n _ (isToken k m i) e = never (cc)
-  to-number d n _ (isNumber c m i) e =
-      let a : c ≡ d = cc in
-      let b : m ≡ n = cc in
-      rw (← a, ← b) i
-  to-number d n _ (isOver i) e = never (cc)
-  to-number d n _ (isMissing w i) e = never (cc)
+-- what is found is what the token there is, as a value
+pub found-as-value : (s : List ℕ) (o : ℕ) → foundAt s o ≡ wanted (lexAsValue (drop o s) .class) (lexAsValue (drop o s) .size)
+unfolding foundAt
+found-as-value s o = refl
 
-  to-over : (v : Value) → Told s x v → v ≡ Over → x ≡ lexed overLimit (word s)
-  to-over _ (isToken k m i) e = never (cc)
-  to-over _ (isNumber d m i) e = never (cc)
-  to-over _ (isOver i) e = i
-  to-over _ (isMissing w i) e = never (cc)
+-- that token: none at the end, none where a reserved word stands, and else by its first byte
+pub as-value-end : lexAsValue [] ≡ lexed (nothing atEnd) 0
+unfolding lexAsValue
+as-value-end = refl
 
-  to-missing : (w : Why) (v : Value) → Told s x v → v ≡ Missing w → IsMissing x w
-  to-missing w _ (isToken k m i) e = never (cc)
-  to-missing w _ (isNumber d m i) e = never (cc)
-  to-missing w _ (isOver i) e = never (cc)
-  to-missing w _ (isMissing y i) e =
-      let a : y ≡ w = cc in
-      rw (← a) i
+pub as-value : (b : ℕ) (s : List ℕ) → lexAsValue (b ∷ s) ≡ cond (reserved (b ∷ s)) (lexed (nothing reservedWord) 0) (lexValue b s)
+unfolding lexAsValue
+as-value b s = refl
 
-module _ (s : List ℕ) (o : ℕ) where
-  pub value-token : (k n : ℕ) → valueAt s o ≡ Token k n → IsToken (lexAsValue (drop o s)) k n
-  value-token k n e = to-token (drop o s) (lexAsValue (drop o s)) k n (valueAt s o) (value-told s o) e
+-- a tag is no value
+pub tag-none : (b : ℕ) (s : List ℕ) → is 95 b ≡ true → lexValue b s ≡ lexed (nothing noStart) 0
+unfolding is lexValue isOrdinary
+tag-none b s e = rw (eqb-true b 95 e)
 
-  pub value-number : (d : Decimal) (n : ℕ) → valueAt s o ≡ Number d n → IsNumber (drop o s) (lexAsValue (drop o s)) d n
-  value-number d n e = to-number (drop o s) (lexAsValue (drop o s)) d n (valueAt s o) (value-told s o) e
+-- a value is found where its token stands
+pub found-token : (s : List ℕ) (o k n : ℕ) → foundAt s o ≡ Value k n → lexAsValue (drop o s) ≡ lexed (value k) n
+unfolding foundAt lexed
+found-token s o k n e = by (lexAsValue (drop o s)) e
+  where
+    by : (x : Lexed) → wanted (x .class) (x .size) ≡ Value k n → x ≡ record { class = value k; size = n }
+    by x q =
+        let w = wanted-value (x .class) (x .size) k n q in
+        rw (← w .0, ← w .1)
 
-  pub value-over : valueAt s o ≡ Over → lexAsValue (drop o s) ≡ lexed overLimit (word (drop o s))
-  value-over e = to-over (drop o s) (lexAsValue (drop o s)) (valueAt s o) (value-told s o) e
-
-  pub value-missing : (w : Why) → valueAt s o ≡ Missing w → IsMissing (lexAsValue (drop o s)) w
-  value-missing w e = to-missing (drop o s) (lexAsValue (drop o s)) w (valueAt s o) (value-told s o) e
+-- and nowhere else
+pub found-none : (s : List ℕ) (o : ℕ) → ((k n : ℕ) → foundAt s o ≡ Value k n → ⊥) → (k : ℕ) → lexAsValue (drop o s) .class ≡ value k → ⊥
+unfolding foundAt wanted
+found-none s o h k e = h k (lexAsValue (drop o s) .size) (rw e)
 
 -- Where a value lies
 
@@ -199,8 +159,8 @@ read-lies s _ k n (bare p) e g = let h : 10 ≡ k = cc in rw (← h, ← g) (lie
 read-lies s _ k n (quote t m q c) e g = let h : 11 ≡ k = cc in rw (← h, ← g) (lies-quote 11 39 s t m (omega arith) (omega arith) q refl c)
 read-lies s _ k n (double t m q c) e g = let h : 12 ≡ k = cc in rw (← h, ← g) (lies-quote 12 34 s t m (omega arith) (omega arith) q refl c)
 read-lies s _ k n (multi t m q c) e g = let h : 13 ≡ k = cc in rw (← h, ← g) (lies-closed 13 59 s t m (omega arith) (omega arith) q (field-ends t m c) (λ f. absurd (f refl)) (λ f. refl))
-read-lies s _ k n (number true u p) e g = let h : 15 ≡ k = cc in rw (← h, ← g) (lies-word 15 s (omega arith) (omega arith) p (λ f. omega arith))
-read-lies s _ k n (number false u p) e g = let h : 14 ≡ k = cc in rw (← h, ← g) (lies-word 14 s (omega arith) (omega arith) p (λ f. omega arith))
+read-lies s _ k n (number true u w p) e g = let h : 15 ≡ k = cc in rw (← h, ← g) (lies-word 15 s (omega arith) (omega arith) p (λ f. omega arith))
+read-lies s _ k n (number false u w p) e g = let h : 14 ≡ k = cc in rw (← h, ← g) (lies-word 14 s (omega arith) (omega arith) p (λ f. omega arith))
 read-lies s _ k n (over p) e g = never (cc)
 
 pub value-lies : (s : List ℕ) (k n : ℕ) → lexAsValue s ≡ lexed (value k) n → Lies s k n
@@ -222,8 +182,89 @@ module _ (s : List ℕ) (o k n : ℕ) (i : Lies (drop o s) k n) where
       let e : o + (n - 1) ≡ o + n - 1 = omega (arith, i .pos) in
       rw (← e, ← getD-drop o s (n - 1) 0) (i .last f)
 
-pub token-lies : (s : List ℕ) (o k n : ℕ) → valueAt s o ≡ Token k n → Lies (drop o s) k n
-token-lies s o k n e = value-lies (drop o s) k n (value-token s o k n e .token)
+-- where a value that is found lies
+pub found-lies : (s : List ℕ) (o k n : ℕ) → foundAt s o ≡ Value k n → Lies (drop o s) k n
+found-lies s o k n e = value-lies (drop o s) k n (found-token s o k n e)
 
-pub number-lies : (s : List ℕ) (o : ℕ) (d : Decimal) (n : ℕ) → valueAt s o ≡ Number d n → Lies (drop o s) (cond (d .uncertain) 15 14) n
-number-lies s o d n e = value-lies (drop o s) (cond (d .uncertain) 15 14) n (value-number s o d n e .token)
+-- a value is no longer than its text
+pub found-within : (s : List ℕ) (o k n : ℕ) → foundAt s o ≡ Value k n → o + n ≤ length s
+found-within s o k n e = lies-within s o k n (found-lies s o k n e)
+
+-- What a number that is found means
+
+-- its bytes are a number; its kind goes by its meaning, and it keeps the limits
+pub record NumberFound (s : List ℕ) (k n : ℕ) : Type 0 where
+  pub number : numberOf (take n s) ≡ Is (meaning (parts (take n s)))
+  pub kind : k ≡ kindOfNumber (meaning (parts (take n s)))
+  pub kept : within (parts (take n s)) ≡ true
+
+read-number : (s : List ℕ) (x : Lexed) (k n : ℕ) → Read s x → x .class ≡ value k → x .size ≡ n → 14 ≤ k → NumberFound s k n
+unfolding lexed
+read-number s _ k n (missing r) e g l = never (cc)
+read-number s _ k n (point t q) e g l = let h : 8 ≡ k = cc in absurd (omega arith)
+read-number s _ k n (unknown t q) e g l = let h : 9 ≡ k = cc in absurd (omega arith)
+read-number s _ k n (bare p) e g l = let h : 10 ≡ k = cc in absurd (omega arith)
+read-number s _ k n (quote t m q c) e g l = let h : 11 ≡ k = cc in absurd (omega arith)
+read-number s _ k n (double t m q c) e g l = let h : 12 ≡ k = cc in absurd (omega arith)
+read-number s _ k n (multi t m q c) e g l = let h : 13 ≡ k = cc in absurd (omega arith)
+read-number s _ k n (number true u w p) e g l =
+    let h : 15 ≡ k = cc in
+    rw (← h, ← g) (record { number = w; kind = rw (meaning-uncertain (parts (take (word s) s)), u); kept = is-number (take (word s) s) _ w .kept })
+read-number s _ k n (number false u w p) e g l =
+    let h : 14 ≡ k = cc in
+    rw (← h, ← g) (record { number = w; kind = rw (meaning-uncertain (parts (take (word s) s)), u); kept = is-number (take (word s) s) _ w .kept })
+read-number s _ k n (over p) e g l = never (cc)
+
+-- a value of kind 14 or 15 is a number
+pub found-number : (s : List ℕ) (o k n : ℕ) → foundAt s o ≡ Value k n → 14 ≤ k → NumberFound (drop o s) k n
+unfolding lexed
+found-number s o k n e l =
+    let t = found-token s o k n e in
+    read-number (drop o s) (lexAsValue (drop o s)) k n (view (drop o s)) (ap (λ (x : Lexed). x .class) t) (ap (λ (x : Lexed). x .size) t) l
+
+-- What is found says what the value there is: a number has its meaning, other values are what they are
+
+answered : (s : List ℕ) (c : Class) (n : ℕ) (f : Found) → wanted c n ≡ f → answer s c n ≡ meant s f
+unfolding answer meant wanted
+answered s (value k) n f e = rw (← e)
+answered s overLimit n f e = rw (← e)
+answered s block n f e = rw (← e)
+answered s loop n f e = rw (← e)
+answered s save n f e = rw (← e)
+answered s tag n f e = rw (← e)
+answered s (nothing w) n f e = rw (← e)
+
+-- the value with its meaning
+pub value-found : (s : List ℕ) (o : ℕ) (f : Found) → foundAt s o ≡ f → valueAt s o ≡ meant (drop o s) f
+unfolding foundAt valueAt valueAnswer
+value-found s o f e = answered (drop o s) (lexAsValue (drop o s) .class) (lexAsValue (drop o s) .size) f e
+
+module _ (s : List ℕ) (o : ℕ) where
+  pub value-token : (k n : ℕ) → foundAt s o ≡ Value k n → k < 14 → Token k n ≡ valueAt s o
+  unfolding meant
+  value-token k n e l =
+      let a : eqb k 14 ≡ false = ne-eqb k 14 (λ q. omega arith) in
+      let b : eqb k 15 ≡ false = ne-eqb k 15 (λ q. omega arith) in
+      sym (value-found s o (Value k n) e ∙ rw (a, b))
+
+  pub value-number : (k n : ℕ) (d : Decimal) → foundAt s o ≡ Value k n → 14 ≤ k → d ≡ meaning (parts (take (o + n - o) (drop o s))) → Number d n ≡ valueAt s o
+  unfolding meant
+  value-number k n d e l q =
+      let z : o + n - o ≡ n = omega arith in
+      sym (value-found s o (Value k n) e ∙ rw (either k l (found-lies s o k n e .high), rw z at q))
+    where
+      either : (k : ℕ) → 14 ≤ k → k ≤ 15 → (eqb k 14 || eqb k 15) ≡ true
+      either k l h = by (k - 14) (omega arith)
+        where
+          by : (j : ℕ) → k ≡ 14 + j → (eqb k 14 || eqb k 15) ≡ true
+          by zero e = rw e
+          by (suc zero) e = rw e
+          by (suc (suc j)) e = absurd (omega arith)
+
+  pub value-over : (f : Found) → foundAt s o ≡ f → f ≡ Over → OverAnswer ≡ valueAt s o
+  unfolding meant
+  value-over f e q = sym (value-found s o Over (e ∙ q))
+
+  pub value-missing : (w : Why) → foundAt s o ≡ Missing w → MissingAnswer w ≡ valueAt s o
+  unfolding meant
+  value-missing w e = sym (value-found s o (Missing w) e)

@@ -1,8 +1,9 @@
-pub mod Points
 pub mod Pieces
 pub mod Views
 pub mod Laws
 pub mod Tokens
 pub mod Ended
 pub mod Alone
-pub mod Kept
+pub mod Choices
+pub mod First
+pub mod Packs

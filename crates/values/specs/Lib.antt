@@ -1,4 +1,5 @@
 pub mod Values
 pub mod Answers
+pub mod Finding
 pub mod Pieces
 pub mod Alone

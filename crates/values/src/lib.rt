@@ -1,9 +1,14 @@
-// One value, or why none stands here.
+// One way to find a value: by its first byte, its kind and length, or why none stands here. What a number means comes on top of it.
 ghost use mathlib.Core.Path.{_≡_};
-ghost use Prim.Native.Nat.{_≤_, _<_};
-ghost use lib.ListN.{length};
+ghost use mathlib.Core.Bool.{true, false};
+ghost use Prim.Native.Nat.{_-_, _≤_, _<_, _^_};
+ghost use lib.ListN.{length, getD};
+ghost use Rattle.words.specs.Words.{wordEnd};
 ghost use Rattle.values.specs.Answers.{valueAt};
+ghost use Rattle.values.specs.Finding.{startsDecimal, kindOfNumber, pack, packedOf, packedAt, whyOfNumber, unpackedOf};
 ghost use Rattle.values.specs.Pieces.{numberAt, wordAt, pointAt, quoteAt, fieldAt};
+ghost use Rattle.values.specs.declared.Found.the-variants.{Value as FoundValue};
+use kinds::Kind;
 use numbers::Decimal;
 use numbers::Number;
 use quotes::Closing;
@@ -17,7 +22,14 @@ pub enum Why {
     OpenField,
 }
 
-// What stands where a value may: a token of kinds 8 to 13, a number, a number over a digit limit, or no value.
+// What stands where a value may: one, by its kind and length; a number over a digit limit; none.
+pub enum Found {
+    Value { kind: u8, size: usize },
+    Over,
+    Missing { why: Why },
+}
+
+// The same, and what a number means: a token of kinds 8 to 13, a number, a number over a digit limit, or no value.
 pub enum Value {
     Token { kind: u8, size: usize },
     Number { decimal: Decimal, size: usize },
@@ -25,108 +37,241 @@ pub enum Value {
     Missing { why: Why },
 }
 
-// The bytes between two offsets as a number, or what they are otherwise.
-fn number_or(s: &[u8], at: usize, end: usize, other: Value) -> Value
-    requires { ⌜ (at ≤ end) × (end ≤ length (now s)) ⌝ }
-    ensures { λ r. ⌜ r ≡ numberAt other (now (s .entry)) at end ⌝ }
+// What is found is packed into one number, since one comes back from a call in a register, an enum through memory; `Found::of` takes it apart. A value
+// is its kind and its length times `KINDS`; what is no value has no length, and a number below `KINDS` says what it is.
+const KINDS: usize = 32;
+
+const AT_END: usize = 0;
+
+const RESERVED: usize = 1;
+
+const NO_START: usize = 2;
+
+const OPEN_QUOTE: usize = 3;
+
+const OPEN_FIELD: usize = 4;
+
+const OVER: usize = 5;
+
+// A value, packed.
+fn packed(kind: u8, size: usize) -> usize
+    requires { ⌜ size < 2 ^ 32 ⌝ }
+    ensures { λ r. ⌜ r ≡ pack kind size ⌝ }
 {
-    let found = numbers::parse_numeric(&s[at..end]);
-    match found {
-        Number::Is(decimal) => Value::Number {
-            decimal,
-            size: end - at,
-        },
-        Number::Over => Value::Over,
-        Number::Not => other,
+    kind as usize + size * KINDS
+}
+
+// Kind 14, or 15 with uncertainty.
+fn number_kind(decimal: Decimal) -> u8
+    ensures { λ r. ⌜ r ≡ kindOfNumber decimal ⌝ }
+{
+    if decimal.uncertain {
+        return Kind::UNCERTAIN;
+    }
+    Kind::NUMBER
+}
+
+// The bytes between two offsets as a number, or else a value of a kind and length.
+fn number_or(s: &[u8], at: usize, end: usize, kind: u8, size: usize) -> usize
+    requires { ⌜ (at ≤ end) × (end ≤ length (now s)) × (length (now s) < 2 ^ 32) × (size < 2 ^ 32) ⌝ }
+    ensures { λ r. ⌜ r ≡ packedOf (numberAt (FoundValue kind size) (now (s .entry)) at end) ⌝ }
+{
+    let number = numbers::parse_numeric(&s[at..end]);
+    match number {
+        Number::Is(decimal) => packed(number_kind(decimal), end - at),
+        Number::Over => OVER,
+        Number::Not => packed(kind, size),
     }
 }
 
 // A word: a number or bare text.
-fn parse_word(s: &[u8], at: usize) -> Value
-    requires { ⌜ at < length (now s) ⌝ }
-    ensures { λ r. ⌜ r ≡ wordAt (now (s .entry)) at ⌝ }
+fn pack_word(s: &[u8], at: usize) -> usize
+    requires { ⌜ (length (now s) < 2 ^ 32) × (at < length (now s)) ⌝ }
+    ensures { λ r. ⌜ r ≡ packedOf (wordAt (now (s .entry)) at) ⌝ }
 {
     let end = words::parse_identifier(s, at);
-    let size = end - at;
-    number_or(s, at, end, Value::Token { kind: 10, size })
+    number_or(s, at, end, Kind::BARE, end - at)
+}
+
+// A word that is no number.
+fn pack_bare(s: &[u8], at: usize) -> usize
+    requires { ⌜ (length (now s) < 2 ^ 32) × (at < length (now s)) ⌝ }
+    ensures { λ r. ⌜ r ≡ pack 10 (wordEnd (now (s .entry)) at - at) ⌝ }
+{
+    let end = words::parse_identifier(s, at);
+    packed(Kind::BARE, end - at)
 }
 
 // `.`: a number or inapplicable. Its word is scanned only where a digit follows, so that a run of dots takes one step each.
-fn parse_point(s: &[u8], at: usize) -> Value
-    requires { ⌜ at < length (now s) ⌝ }
-    ensures { λ r. ⌜ r ≡ pointAt (now (s .entry)) at ⌝ }
+fn pack_point(s: &[u8], at: usize) -> usize
+    requires { ⌜ (length (now s) < 2 ^ 32) × (at < length (now s)) ⌝ }
+    ensures { λ r. ⌜ r ≡ packedOf (pointAt (now (s .entry)) at) ⌝ }
 {
     let next = at + 1;
     if s.len() <= next {
-        return Value::Token { kind: 8, size: 1 };
+        return packed(Kind::INAPPLICABLE, 1);
     }
     if !text::is_digit(s[next]) {
-        return Value::Token { kind: 8, size: 1 };
+        return packed(Kind::INAPPLICABLE, 1);
     }
     let end = words::parse_identifier(s, at);
-    number_or(s, at, end, Value::Token { kind: 8, size: 1 })
+    number_or(s, at, end, Kind::INAPPLICABLE, 1)
 }
 
 // A quoted value, from its opening mark on.
-fn parse_quote(s: &[u8], at: usize, mark: u8, kind: u8) -> Value
-    requires { ⌜ at < length (now s) ⌝ }
-    ensures { λ r. ⌜ r ≡ quoteAt mark kind (now (s .entry)) at ⌝ }
+fn pack_quote(s: &[u8], at: usize, mark: u8, kind: u8) -> usize
+    requires { ⌜ (length (now s) < 2 ^ 32) × (at < length (now s)) ⌝ }
+    ensures { λ r. ⌜ r ≡ packedOf (quoteAt mark kind (now (s .entry)) at) ⌝ }
 {
     let Closing::Behind(end) = quotes::parse_enclosed(s, at + 1, mark) else {
-        return Value::Missing {
-            why: Why::OpenQuote,
-        };
+        return OPEN_QUOTE;
     };
-    Value::Token {
-        kind,
-        size: end - at,
-    }
+    packed(kind, end - at)
 }
 
 // A text field, from its opening `;` on.
-fn parse_field(s: &[u8], at: usize) -> Value
-    requires { ⌜ at < length (now s) ⌝ }
-    ensures { λ r. ⌜ r ≡ fieldAt (now (s .entry)) at ⌝ }
+fn pack_field(s: &[u8], at: usize) -> usize
+    requires { ⌜ (length (now s) < 2 ^ 32) × (at < length (now s)) ⌝ }
+    ensures { λ r. ⌜ r ≡ packedOf (fieldAt (now (s .entry)) at) ⌝ }
 {
     let Closing::Behind(end) = quotes::parse_multiline_string(s, at + 1) else {
-        return Value::Missing {
-            why: Why::OpenField,
-        };
+        return OPEN_FIELD;
     };
-    Value::Token {
-        kind: 13,
-        size: end - at,
+    packed(Kind::MULTILINE, end - at)
+}
+
+// Whether a number, or a bare value, starts with a byte: a digit or a sign.
+fn starts_decimal(b: u8) -> bool
+    ensures { λ r. ⌜ r ≡ startsDecimal b ⌝ }
+{
+    if text::is_digit(b) {
+        return true;
+    }
+    if b == b'+' {
+        return true;
+    }
+    b == b'-'
+}
+
+// What stands where a digit or a sign does. Most numbers are plain ones, and their last byte tells the kind.
+fn pack_decimal(s: &[u8], at: usize) -> usize
+    requires { ⌜ (length (now s) < 2 ^ 32) × (at < length (now s)) × (startsDecimal (getD (now s) at 0) ≡ true) ⌝ }
+    ensures { λ r. ⌜ r ≡ packedAt (now (s .entry)) at ⌝ }
+{
+    let end = decimals::decimal_end(s, at);
+    if end <= at {
+        return pack_word(s, at);
+    }
+    if s[end - 1] == b')' {
+        return packed(Kind::UNCERTAIN, end - at);
+    }
+    packed(Kind::NUMBER, end - at)
+}
+
+// What stands where another byte does: a mark, a letter that may start a reserved word, or another byte.
+fn pack_marked(s: &[u8], at: usize, b: u8) -> usize
+    requires { ⌜ (length (now s) < 2 ^ 32) × (at < length (now s)) × (b ≡ getD (now s) at 0) × (startsDecimal b ≡ false) ⌝ }
+    ensures { λ r. ⌜ r ≡ packedAt (now (s .entry)) at ⌝ }
+{
+    if b == b'?' {
+        return packed(Kind::UNKNOWN, 1);
+    }
+    if b == b'\'' {
+        return pack_quote(s, at, b'\'', Kind::SINGLE_QUOTED);
+    }
+    if b == b'"' {
+        return pack_quote(s, at, b'"', Kind::DOUBLE_QUOTED);
+    }
+    if b == b';' {
+        return pack_field(s, at);
+    }
+    if b == b'.' {
+        return pack_point(s, at);
+    }
+    if keywords::is_reserved(s, at) {
+        return RESERVED;
+    }
+    if !words::is_ordinary(b) {
+        return NO_START;
+    }
+    pack_bare(s, at)
+}
+
+// What stands at an offset where a value may, behind space and comments, packed for `Found::of`. The first byte tells most values, without making what
+// they mean. Lengths are stored in four bytes.
+pub fn pack_value(s: &[u8], at: usize) -> usize
+    requires { ⌜ length (now s) < 2 ^ 32 ⌝ }
+    ensures { λ r. ⌜ r ≡ packedAt (now (s .entry)) at ⌝ }
+{
+    if s.len() <= at {
+        return AT_END;
+    }
+    let b = s[at];
+    if keywords::is_free_letter(b) {
+        return pack_bare(s, at);
+    }
+    if starts_decimal(b) {
+        return pack_decimal(s, at);
+    }
+    pack_marked(s, at, b)
+}
+
+// Why no value stands, by its number.
+fn why_of(token: usize) -> Why
+    ensures { λ r. ⌜ r ≡ whyOfNumber token ⌝ }
+{
+    if token == AT_END {
+        return Why::AtEnd;
+    }
+    if token == RESERVED {
+        return Why::Reserved;
+    }
+    if token == NO_START {
+        return Why::NoStart;
+    }
+    if token == OPEN_QUOTE {
+        return Why::OpenQuote;
+    }
+    Why::OpenField
+}
+
+impl Found {
+    // What a packed number says.
+    pub fn of(token: usize) -> Found
+        ensures { λ r. ⌜ r ≡ unpackedOf token ⌝ }
+    {
+        if KINDS <= token {
+            let kind = token % KINDS;
+            return Found::Value {
+                kind: kind as u8,
+                size: token / KINDS,
+            };
+        }
+        if token == OVER {
+            return Found::Over;
+        }
+        Found::Missing { why: why_of(token) }
     }
 }
 
-// The value at an offset, where space and comments are passed already.
+// What stands there, and what a number means.
 pub fn parse_value(s: &[u8], at: usize) -> Value
+    requires { ⌜ length (now s) < 2 ^ 32 ⌝ }
     ensures { λ r. ⌜ r ≡ valueAt (now (s .entry)) at ⌝ }
 {
-    if s.len() <= at {
-        return Value::Missing { why: Why::AtEnd };
+    let found = Found::of(pack_value(s, at));
+    if let Found::Value { kind, size } = found {
+        if kind < Kind::NUMBER {
+            return Value::Token { kind, size };
+        }
+        let end = at + size;
+        return Value::Number {
+            decimal: decimals::decimal_of(&s[at..end]),
+            size,
+        };
     }
-    if keywords::is_reserved(s, at) {
-        return Value::Missing { why: Why::Reserved };
-    }
-    let b = s[at];
-    if b == 46 {
-        return parse_point(s, at);
-    }
-    if b == 63 {
-        return Value::Token { kind: 9, size: 1 };
-    }
-    if b == 39 {
-        return parse_quote(s, at, 39, 11);
-    }
-    if b == 34 {
-        return parse_quote(s, at, 34, 12);
-    }
-    if b == 59 {
-        return parse_field(s, at);
-    }
-    if words::is_ordinary(b) {
-        return parse_word(s, at);
-    }
-    Value::Missing { why: Why::NoStart }
+    let Found::Missing { why } = found else {
+        return Value::Over;
+    };
+    Value::Missing { why }
 }

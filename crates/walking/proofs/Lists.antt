@@ -11,12 +11,12 @@ use Rattle.gaps.proofs.Bare.{gap-bare, gap-twice}
 use Rattle.places.proofs.Places.{place-offset}
 use Rattle.words.specs.Words.{wordEnd}
 use Rattle.kinds.specs.Kinds.{kindOf, shapeOf}
-use Rattle.items.specs.declared.Found.the-variants.{Value}
+use Rattle.values.specs.declared.Found.the-variants.{Value}
 use Rattle.grammar.specs.Tokens.{inBlock, Tok}
 use Rattle.grammar.specs.Machine.{Rec}
 use Rattle.grammar.specs.Descent.{nameRecs, afterNames, valueRecs, afterValues}
 use Rattle.grammar.specs.Tokens.{tokensAt, headAt}
-use Rattle.items.specs.Answers.{foundAt}
+use Rattle.values.specs.Finding.{foundAt}
 use Rattle.grammar.specs.Tokens.{tagAt}
 use Rattle.items.proofs.Items.{head-at}
 use Rattle.grammar.proofs.Offsets.{tokens-gap}

@@ -14,15 +14,15 @@ use Rattle.words.specs.Words.{word, wordEnd}
 use Rattle.words.proofs.Words.{word-end}
 use Rattle.values.specs.Values.{tag, value, lexed}
 use Rattle.kinds.specs.Kinds.{kindOf, marksOf}
-use Rattle.items.specs.declared.Found.the-variants.{Value}
+use Rattle.values.specs.declared.Found.the-variants.{Value}
 use Rattle.grammar.specs.Tokens.{inBlock, lexIn, lex, after, tok}
 use Rattle.grammar.specs.Machine.{rec}
 use Rattle.grammar.specs.Descent.{nameRecs, afterNames, valueRecs, afterValues}
 use Rattle.grammar.specs.Tokens.{tokensAt}
-use Rattle.items.specs.Answers.{foundAt}
+use Rattle.values.specs.Finding.{foundAt}
 use Rattle.grammar.specs.Tokens.{tagAt}
 use Rattle.grammar.proofs.Descent.{names-more, names-none, values-more, values-none}
-use Rattle.items.proofs.First.{found-lies}
+use Rattle.values.proofs.Laws.{found-lies}
 use Rattle.grammar.proofs.Lexes.{no-name}
 use Rattle.items.proofs.Wanted.{found-wanted}
 use Rattle.items.proofs.Lists.{met-value, no-value}

@@ -8,8 +8,8 @@ use lib.ListN.{length, drop}
 use Rattle.gaps.specs.Gaps.{gap, gapEnd}
 use Rattle.places.specs.Places.{placeAt}
 use Rattle.records.specs.Put.{put}
-use Rattle.items.specs.declared.Found.the-variants.{Value}
-use Rattle.items.specs.Answers.{foundAt}
+use Rattle.values.specs.declared.Found.the-variants.{Value}
+use Rattle.values.specs.Finding.{foundAt}
 use Rattle.grammar.specs.Tokens.{Tok, inBlock}
 use Rattle.grammar.specs.Machine.{Rec}
 use Rattle.grammar.specs.Descent.{Item, taken, failed, broken, item, nameRecs, afterNames, valueRecs, afterValues}

@@ -13,6 +13,7 @@ ghost use Rattle.walking.specs.Walk.{behindGap, TokenAhead, ValueAhead, 
 use kinds::Kind;
 use places::Place;
 use putting::Cursor;
+use values::Found;
 
 // The place behind space and comments: one made of three numbers and lent, which the step moves on.
 pub fn trim_from(s: &[u8], offset: usize, line: usize, column: usize) -> Place
@@ -111,12 +112,10 @@ fn write_values(s: &[u8], full: bool, store: &mut [u8], area: &mut [u8], c: Curs
         let here = trimmed(s, last);
         let place = here.place;
         let offset = place.offset;
-        let token = items::pack_value(s, offset);
-        if token == 0 {
+        let Found::Value { kind, size } = Found::of(values::pack_value(s, offset)) else {
             return here;
-        }
-        let kind = token % 16;
-        last = write_found(s, full, store, area, here, kind as u8, token / 16);
+        };
+        last = write_found(s, full, store, area, here, kind, size);
     }
 }
 

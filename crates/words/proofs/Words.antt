@@ -1,8 +1,8 @@
 -- Laws of words and ordinary bytes. Assumes nothing.
 use Prim.Native.Nat.{ℕ, suc, _+_, _-_, _≤_, _<_}
 use mathlib.Core.Path.{_≡_, refl, sym, ap, _∙_}
-use mathlib.Core.Bool.{Bool, true, false, cond, _&&_, true≢false}
-use mathlib.Core.List.{List, [], _∷_}
+use mathlib.Core.Bool.{Bool, true, false, not, _&&_, true≢false, cond}
+use mathlib.Core.List.{List, _∷_, []}
 use native.Mathlib.Omega.{arith}
 use borrow.Author.Tests.{eqb-true, leb-true, ne-eqb}
 use lib.Dec.{leb, eqb}
@@ -93,3 +93,8 @@ ordinary-in-word b e =
     let low : 33 ≤ b = leb-true 33 b (and-l (leb 33 b) (leb b 126) r) in
     let high : b ≤ 126 = leb-true b 126 (and-r (leb 33 b) (leb b 126) r) in
     passes inWord 33 94 refl b low (omega arith)
+
+-- a word is the run of bytes that don't end one
+pub word-span : (s : List ℕ) (o : ℕ) → wordEnd s o ≡ spanEnd (λ b. not (endsWord b)) s o
+unfolding wordEnd word spanEnd inWord
+word-span s o = refl

@@ -8,10 +8,11 @@ use Rattle.gaps.specs.Gaps.{gap, gapEnd}
 use Rattle.words.specs.Words.{wordEnd}
 use Rattle.values.specs.declared.Why.{Why}
 use Rattle.items.specs.declared.Item.the-variants.{NoValue, Over}
-use Rattle.items.specs.declared.Found.{Found}
-use Rattle.items.specs.declared.Found.the-variants.{Value}
-use Rattle.items.specs.Answers.{foundAt, isOverFound, whyFound, itemAt}
+use Rattle.values.specs.declared.Found.{Found}
+use Rattle.values.specs.declared.Found.the-variants.{Value}
+use Rattle.items.specs.Answers.{itemAt}
 use Rattle.grammar.specs.Tokens.{tagAt}
+use Rattle.values.specs.Finding.{foundAt, isOverFound, whyFound}
 use Rattle.items.proofs.Items.{TagRead, tag-value, tag-alone}
 use Rattle.writing.specs.declared.Next.the-variants.{Item, Stop}
 use Rattle.writing.specs.Block.{nextOf}

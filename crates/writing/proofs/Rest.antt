@@ -22,18 +22,20 @@ use Rattle.grammar.specs.Descent.{Item, taken, failed, broken, item}
 use Rattle.deciding.specs.Decisions.{Told, told, tells, refusal, room}
 use Rattle.grammar.specs.Tokens.{tokensAt, headAt}
 use Rattle.items.specs.Answers.{headWhy}
-use Rattle.items.specs.declared.Found.the-variants.{Value}
-use Rattle.items.specs.Answers.{foundAt, itemAnswer, itemAt}
+use Rattle.values.specs.declared.Found.the-variants.{Value}
+use Rattle.items.specs.Answers.{itemAnswer, itemAt}
+use Rattle.values.specs.Finding.{foundAt}
 use Rattle.deciding.specs.Frames.{left, modeOf, blockAt, inFrameOf}
 use Rattle.grammar.specs.Reading.{decided}
 use Rattle.grammar.proofs.Descent.{itemRun}
 use Rattle.grammar.proofs.Offsets.{Met, met-open, met-close, met-data, first, both, both-spot}
-use Rattle.items.proofs.Wanted.{wanted, found-wanted}
+use Rattle.values.specs.Finding.{wanted}
+use Rattle.items.proofs.Wanted.{found-wanted}
 use Rattle.items.proofs.Passes.{AlikeItem, alike-taken, alike-ragged, alike-alone, alike-absent, alike-unnamed, alike-over, item-alike}
 use Rattle.deciding.proofs.Onward.{DroppedAt, PassedInside, item-inside, frame-item, block-item, left-from, plain, open-reads, left-gap, open-answer, close-answer, begin-reads, end-answer, failed-stops, no-data, decided-from}
 use Rattle.writing.specs.declared.Next.the-variants.{Item as Item′, Stop}
-use Rattle.putting.specs.Desk.{recAt}
 use Rattle.walking.specs.Walk.{itemRecs, itemRest, isTaken, itemOf}
+use Rattle.putting.specs.Desk.{recAt}
 use Rattle.writing.specs.Block.{answerRecs, isDone, recsLeft, nextOf}
 use Rattle.writing.proofs.Prefix.{prefixed, started, run-after}
 

@@ -2,29 +2,35 @@
 use mathlib.Core.Path.{_≡_, sym, _∙_}
 use borrow.Author.Needs.{needs}
 use borrow.Author.Tests.{eq-eqb, ne-eqb}
-use Rattle.values.proofs.Alone.{bare-token, bare-other}
+use Rattle.values.specs.Finding.{foundAt}
+use Rattle.values.proofs.Choices.{not-value}
+use Rattle.values.proofs.Packs.{found-packed}
+use Rattle.stores.proofs.Quoting.{bare-value}
+use Rattle.values.proofs.Alone.{bare-other}
 use Rattle.contents.proofs.is_bare.Statement.{statement}
 use Rattle.contents.proofs.is_bare.Tie as tie
 
-parse-value-requires : tie.Need-parse-value-requires
-parse-value-requires c κs = search needs
+-- what is found
+found : (b : tie.After-of) → b .of .result ≡ foundAt (b .before .before .before .args .content .now) 0
+found b = found-packed _ _ _ _ (b .before .pack-value .ensures) (b .of .ensures)
 
-enum-known-value : tie.Need-enum-known-value
-enum-known-value c = search needs
+pack-value-requires : tie.Need-pack-value-requires
+pack-value-requires c κs = search needs
+
+of-requires : tie.Need-of-requires
+of-requires c κs = search needs
+
+enum-known-kind : tie.Need-enum-known-kind
+enum-known-kind c = search needs
 
 returns : tie.Need-returns
-returns c = sym (bare-other _ (c .before .parse-value .result) (sym (c .before .parse-value .ensures)) (c .match .keys2))
+returns c = sym (bare-other _ (λ k n q. not-value (c .before .of .result) (c .match .keys2) k n (found (c .before) ∙ q)))
 
 returns-2 : tie.Need-returns-2
-returns-2 c =
-    let got = c .before .before .value .given in
-    sym (bare-token _ (got .0 .0) (got .0 .1 .0) (sym (c .before .before .before .before .parse-value .ensures) ∙ got .1) ∙ rw (ne-eqb _ _ (c .if1 .taken)))
+returns-2 c = sym (bare-value _ _ _ (sym (found (c .before .before .before .before)) ∙ c .before .before .kind .given .1) ∙ rw (ne-eqb _ _ (c .if1 .taken)))
 
 returns-3 : tie.Need-returns-3
-returns-3 c =
-    let got = c .before .before .value .given in
-    sym (bare-token _ (got .0 .0) (got .0 .1 .0) (sym (c .before .before .before .before .parse-value .ensures) ∙ got .1) ∙ rw (eq-eqb _ _ (c .if1 .left)))
+returns-3 c = sym (bare-value _ _ _ (sym (found (c .before .before .before .before)) ∙ c .before .before .kind .given .1) ∙ rw (eq-eqb _ _ (c .if1 .left)))
 
 pub is-bare-spec : {M : Type 1} → statement M
-is-bare-spec =
-    tie.close (tie.spec parse-value-requires enum-known-value returns returns-2 returns-3)
+is-bare-spec = tie.close (tie.spec pack-value-requires of-requires enum-known-kind returns returns-2 returns-3)

@@ -2,7 +2,7 @@
 use Prim.Native.Nat.{_*_}
 use native.Mathlib.Omega.{arith}
 use borrow.Author.Tests.{not-true, not-false}
-use Rattle.grammar.specs.Reading.{limit}
+use Rattle.text.specs.Limits.{limit}
 use Rattle.deciding.specs.Frames.{frameEnd}
 use Rattle.sizes.proofs.Room.{upto-more}
 use borrow.Author.Needs.{needs}

@@ -2,7 +2,7 @@
 use Prim.Native.Nat.{_*_, _-_}
 use native.Mathlib.Omega.{arith}
 use lib.ListN.{length}
-use Rattle.grammar.specs.Reading.{limit}
+use Rattle.text.specs.Limits.{limit}
 use Rattle.deciding.proofs.Onward.{data-within, Begun, block-begins, block-goes-on, block-ends, block-refused, stepped-read, stepped-refused}
 use Rattle.sizes.proofs.Room.{upto-none, upto-more}
 use Rattle.deciding.proofs.parse_data_block.Statement.{statement}

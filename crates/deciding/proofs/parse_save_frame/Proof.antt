@@ -3,7 +3,7 @@ use Prim.Native.Nat.{_*_, _-_}
 use native.Mathlib.Omega.{arith}
 use lib.ListN.{length}
 use mathlib.Core.Option.{none, some}
-use Rattle.grammar.specs.Reading.{limit}
+use Rattle.text.specs.Limits.{limit}
 use Rattle.deciding.specs.Frames.{Passed}
 use Rattle.deciding.proofs.Onward.{PassedInside, save-within, frame-opens, inside-known, inside-read, inside-dropped, inside-refused, passed-then, frame-ends, frame-refused}
 use Rattle.sizes.proofs.Room.{upto-none, upto-more}

@@ -4,7 +4,7 @@ use mathlib.Core.Path.{sym, _∙_}
 use native.Mathlib.Omega.{arith}
 use borrow.Author.Tests.{not-true, not-false}
 use lib.ListN.{length}
-use Rattle.grammar.specs.Reading.{limit}
+use Rattle.text.specs.Limits.{limit}
 use Rattle.items.proofs.Lists.{NamesSoFar, names-start, names-next, names-all, name-step}
 use Rattle.sizes.proofs.Room.{upto-more}
 use Rattle.items.proofs.count_names.Statement.{statement}

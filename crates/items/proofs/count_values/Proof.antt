@@ -1,11 +1,13 @@
 -- `items::count_values`: the values counted, and those from here on, are those from the start on. Assumes nothing.
 use Prim.Native.Nat.{_-_, _*_}
-use mathlib.Core.Path.{sym, _∙_}
+use mathlib.Core.Path.{_≡_, sym, _∙_}
 use native.Mathlib.Omega.{arith}
 use lib.ListN.{length}
-use Rattle.grammar.specs.Reading.{limit}
-use Rattle.items.proofs.Choices.{not-value}
-use Rattle.items.proofs.First.{found-lies}
+use Rattle.text.specs.Limits.{limit}
+use Rattle.values.specs.Finding.{foundAt}
+use Rattle.values.proofs.Choices.{not-value, over-left}
+use Rattle.values.proofs.Packs.{found-packed}
+use Rattle.values.proofs.Laws.{found-lies}
 use Rattle.items.proofs.Lists.{ValuesSoFar, values-start, values-next, values-all, value-step}
 use Rattle.sizes.proofs.Room.{upto-more}
 use Rattle.items.proofs.count_values.Statement.{statement}
@@ -17,67 +19,78 @@ Inv-loop s from at₀ count₀ sizes₀ at count sizes = ValuesSoFar s from at c
 abbrev μ-loop : tie.MeasureT-loop
 μ-loop s from at₀ count₀ sizes₀ at count sizes = length s - at
 
+-- what is found
+found : (b : tie.After-of Inv-loop μ-loop) → b .of .result ≡ foundAt (b .before .before .before .before .before .args .s .now) (b .before .before .loop .at)
+found b = found-packed _ _ _ _ (b .before .pack-value .ensures) (b .of .ensures)
+
 none-requires : tie.Need-none-requires Inv-loop μ-loop
 none-requires c κs = tt
 
 loop-holds : tie.Need-loop-holds Inv-loop μ-loop
 loop-holds c = rw (c .none .ensures) (values-start _ _ (c .before .before .pre .within) (c .before .before .pre .none))
 
-find-value-requires : tie.Need-find-value-requires Inv-loop μ-loop
-find-value-requires c κs = tt
+pack-value-requires : tie.Need-pack-value-requires Inv-loop μ-loop
+unfolding limit
+pack-value-requires c κs = omega (arith, c .before .before .before .pre .small)
+
+of-requires : tie.Need-of-requires Inv-loop μ-loop
+of-requires c κs = tt
 
 enum-known-found : tie.Need-enum-known-found Inv-loop μ-loop
 enum-known-found c = c .match .keys1
 
-is-over-requires : tie.Need-is-over-requires Inv-loop μ-loop
-is-over-requires c κs = tt
-
-why-not-requires : tie.Need-why-not-requires Inv-loop μ-loop
-why-not-requires c κs = tt
+enum-known-found-2 : tie.Need-enum-known-found-2 Inv-loop μ-loop
+enum-known-found-2 c = c .match2 .keys1
 
 returns : tie.Need-returns Inv-loop μ-loop
 returns c =
     let l = c .before .before .before .before .loop in
-    let f = c .before .before .before .find-value in
-    rw (c .why-not .ensures, c .before .is-over .ensures) (values-all _ _ (l .at) (l .count) (l .sizes) (f .result) (l .inv) (f .ensures) (not-value (f .result) (c .before .before .match .keys2)))
+    let f = c .before .before .of .result in
+    rw (over-left f (c .before .match .keys2) (c .match2 .keys2))
+    at (values-all _ _ (l .at) (l .count) (l .sizes) f (l .inv) (found (c .before .before)) (not-value f (c .before .match .keys2)))
+
+returns-2 : tie.Need-returns-2 Inv-loop μ-loop
+returns-2 c =
+    let l = c .before .before .before .before .before .before .loop in
+    let f = c .before .before .before .before .of .result in
+    rw (c .before .found2 .given .1) at (values-all _ _ (l .at) (l .count) (l .sizes) f (l .inv) (found (c .before .before .before .before)) (not-value f (c .before .before .before .match .keys2)))
 
 add-value-requires : tie.Need-add-value-requires Inv-loop μ-loop
 unfolding limit
 add-value-requires c κs =
-    let l = c .before .before .before .before .loop in
-    let ready = c .before .before .before .before .before .before .before .pre in
-    let v = value-step _ (l .at) _ _ (l .inv .bare) (sym (c .before .before .before .find-value .ensures) ∙ c .before .found .given .1) in
-    let f = found-lies _ (l .at) _ _ (sym (c .before .before .before .find-value .ensures) ∙ c .before .found .given .1) in
+    let l = c .before .before .before .before .before .loop in
+    let ready = c .before .before .before .before .before .before .before .before .pre in
+    let e = sym (found (c .before .before .before)) ∙ c .before .found .given .1 in
+    let v = value-step _ (l .at) _ _ (l .inv .bare) e in
+    let f = found-lies _ (l .at) _ _ e in
     (upto-more (l .at) (limit * limit) (l .sizes) (l .inv .fits) (omega (arith, l .inv .within, ready .small)), omega (arith, v .within, ready .small), f .low, f .high, f .marks)
 
 add-count : tie.Need-add-count Inv-loop μ-loop
 unfolding limit
 add-count c =
-    let l = c .before .before .before .before .before .loop in
-    let ready = c .before .before .before .before .before .before .before .before .pre in
-    omega (arith, l .inv .few, l .inv .within, ready .small)
+    let l = c .before .before .before .before .before .before .loop in
+    omega (arith, l .inv .few, l .inv .within, c .before .before .before .before .before .before .before .before .before .pre .small)
 
 add-gap-end : tie.Need-add-gap-end Inv-loop μ-loop
 unfolding limit
 add-gap-end c =
-    let l = c .before .before .before .before .before .loop in
-    let ready = c .before .before .before .before .before .before .before .before .pre in
-    let v = value-step _ (l .at) _ _ (l .inv .bare) (sym (c .before .before .before .before .find-value .ensures) ∙ c .before .before .found .given .1) in
-    omega (arith, v .within, ready .small)
+    let l = c .before .before .before .before .before .before .loop in
+    let v = value-step _ (l .at) _ _ (l .inv .bare) (sym (found (c .before .before .before .before)) ∙ c .before .before .found .given .1) in
+    omega (arith, v .within, c .before .before .before .before .before .before .before .before .before .pre .small)
 
 gap-end-requires : tie.Need-gap-end-requires Inv-loop μ-loop
 gap-end-requires c κs = tt
 
 loop-less : tie.Need-loop-less Inv-loop μ-loop
 loop-less c =
-    let l = c .before .before .before .before .before .before .loop in
-    let n = values-next _ _ (l .at) (l .count) _ _ _ (l .sizes) _ (l .inv) (sym (c .before .before .before .before .before .find-value .ensures) ∙ c .before .before .before .found .given .1) (c .gap-end .ensures) (c .before .add-value .ensures) in
+    let l = c .before .before .before .before .before .before .before .loop in
+    let n = values-next _ _ (l .at) (l .count) _ _ _ (l .sizes) _ (l .inv) (sym (found (c .before .before .before .before .before)) ∙ c .before .before .before .found .given .1) (c .gap-end .ensures) (c .before .add-value .ensures) in
     omega (arith, n .0, n .1 .within)
 
 loop-again : tie.Need-loop-again Inv-loop μ-loop
 loop-again c =
-    let l = c .before .before .before .before .before .before .loop in
-    values-next _ _ (l .at) (l .count) _ _ _ (l .sizes) _ (l .inv) (sym (c .before .before .before .before .before .find-value .ensures) ∙ c .before .before .before .found .given .1) (c .gap-end .ensures) (c .before .add-value .ensures) .1
+    let l = c .before .before .before .before .before .before .before .loop in
+    values-next _ _ (l .at) (l .count) _ _ _ (l .sizes) _ (l .inv) (sym (found (c .before .before .before .before .before)) ∙ c .before .before .before .found .given .1) (c .gap-end .ensures) (c .before .add-value .ensures) .1
 
 pub count-values-spec : {M : Type 1} → statement M
 count-values-spec =
@@ -87,11 +100,12 @@ count-values-spec =
     μ-loop
     none-requires
     loop-holds
-    find-value-requires
+    pack-value-requires
+    of-requires
     enum-known-found
-    is-over-requires
-    why-not-requires
+    enum-known-found-2
     returns
+    returns-2
     add-value-requires
     add-count
     add-gap-end

@@ -2,7 +2,7 @@
 use Prim.Native.Nat.{_-_}
 use mathlib.Core.Path.{refl, _∙_}
 use native.Mathlib.Omega.{arith}
-use Rattle.grammar.specs.Reading.{limit}
+use Rattle.text.specs.Limits.{limit}
 use Rattle.items.proofs.Items.{loop-from, loop-named, loop-none, loop-valued, loop-over, loop-rows}
 use Rattle.sizes.proofs.Room.{upto-more}
 use borrow.Author.Needs.{needs}

@@ -1,7 +1,7 @@
 -- `items::rows`: a remainder, or whole rows whose lengths are added up. Assumes nothing.
 use Prim.Native.Nat.{_*_}
 use native.Mathlib.Omega.{arith}
-use Rattle.grammar.specs.Reading.{limit}
+use Rattle.text.specs.Limits.{limit}
 use Rattle.sizes.specs.Sizes.{noSizes, Upto}
 use Rattle.items.proofs.Items.{rows-ragged, rows-whole}
 use Rattle.sizes.proofs.Room.{upto-none, upto-added, upto-joined, upto-more}

@@ -1,79 +1,76 @@
--- `values::parse_value`: each `return` is one case of the definition. Assumes nothing.
-use mathlib.Core.Path.{sym, _∙_}
-use Rattle.values.proofs.Pieces.{value-end, value-reserved, value-point, value-unknown, value-quote, value-double, value-field, value-word, value-none}
+-- `values::parse_value`: what is found, and what a number there means. Assumes nothing.
+use Prim.Native.Nat.{_+_, _-_}
+use mathlib.Core.Path.{_≡_, sym, _∙_}
+use native.Mathlib.Omega.{arith}
+use Rattle.values.specs.Finding.{foundAt}
+use Rattle.values.proofs.Laws.{found-within, found-number, value-token, value-number, value-over, value-missing}
+use Rattle.values.proofs.Choices.{over-left}
+use Rattle.values.proofs.Packs.{found-packed}
 use borrow.Author.Needs.{needs}
 use Rattle.values.proofs.parse_value.Statement.{statement}
 use Rattle.values.proofs.parse_value.Tie as tie
 
-returns : tie.Need-returns
-returns c = sym (value-end _ _ (c .if1 .taken))
+-- what is found
+found : (b : tie.After-of) → foundAt (b .before .before .before .args .s .now) (b .before .before .before .args .at) ≡ b .of .result
+found b = sym (found-packed _ _ _ _ (b .before .pack-value .ensures) (b .of .ensures))
 
-is-reserved-requires : tie.Need-is-reserved-requires
-is-reserved-requires c κs = search needs
+pack-value-requires : tie.Need-pack-value-requires
+pack-value-requires c κs = search needs
+
+of-requires : tie.Need-of-requires
+of-requires c κs = search needs
+
+enum-known-found : tie.Need-enum-known-found
+enum-known-found c = search needs
+
+returns : tie.Need-returns
+returns c = value-token _ _ _ _ (found (c .before .before .before .before) ∙ c .before .before .found .given .1) (c .if1 .taken)
+
+add-end : tie.Need-add-end
+add-end c = omega (arith, found-within _ _ _ _ (found (c .before .before .before .before) ∙ c .before .before .found .given .1), c .before .before .before .before .before .before .before .pre)
+
+sub-decimal-of : tie.Need-sub-decimal-of
+sub-decimal-of c = search needs
+
+part-decimal-of-start : tie.Need-part-decimal-of-start
+part-decimal-of-start c = search needs
+
+part-decimal-of-end : tie.Need-part-decimal-of-end
+part-decimal-of-end c = found-within _ _ _ _ (found (c .before .before .before .before) ∙ c .before .before .found .given .1)
+
+decimal-of-requires : tie.Need-decimal-of-requires
+decimal-of-requires c κs =
+    let a = c .before .before .before .before .before .before .before .before .args in
+    let n = c .before .before .before .found .given .0 .1 .0 in
+    let z : a .at + n - a .at ≡ n = omega arith in
+    rw z (found-number _ _ _ _ (found (c .before .before .before .before .before) ∙ c .before .before .before .found .given .1) (c .before .if1 .left) .kept)
 
 returns-2 : tie.Need-returns-2
-returns-2 c = sym (value-reserved _ _ (c .before .before .if1 .left) (sym (c .before .is-reserved .ensures) ∙ c .if2 .taken))
+returns-2 c = value-number _ _ _ _ _ (found (c .before .before .before .before .before .before) ∙ c .before .before .before .before .found .given .1) (c .before .before .if1 .left) (c .decimal-of .ensures)
 
-shared-slice-read-b : tie.Need-shared-slice-read-b
-shared-slice-read-b c = search needs
-
-parse-point-requires : tie.Need-parse-point-requires
-parse-point-requires c κs = search needs
+enum-known-found-2 : tie.Need-enum-known-found-2
+enum-known-found-2 c = search needs
 
 returns-3 : tie.Need-returns-3
-returns-3 c = c .parse-point .ensures ∙ sym (value-point _ _ (c .before .before .before .before .before .if1 .left) (sym (c .before .before .before .before .is-reserved .ensures) ∙ c .before .before .before .if2 .left) (c .before .if3 .taken))
+returns-3 c = value-over _ _ _ (found (c .before .before)) (over-left (c .before .before .of .result) (c .before .match .keys2) (c .match2 .keys2))
 
 returns-4 : tie.Need-returns-4
-returns-4 c = sym (value-unknown _ _ (c .before .before .before .before .before .if1 .left) (sym (c .before .before .before .before .is-reserved .ensures) ∙ c .before .before .before .if2 .left) (c .if4 .taken))
-
-parse-quote-requires : tie.Need-parse-quote-requires
-parse-quote-requires c κs = search needs
-
-returns-5 : tie.Need-returns-5
-returns-5 c = c .parse-quote .ensures ∙ sym (value-quote _ _ (c .before .before .before .before .before .before .before .if1 .left) (sym (c .before .before .before .before .before .before .is-reserved .ensures) ∙ c .before .before .before .before .before .if2 .left) (c .before .if5 .taken))
-
-parse-quote-requires-2 : tie.Need-parse-quote-requires-2
-parse-quote-requires-2 c κs = search needs
-
-returns-6 : tie.Need-returns-6
-returns-6 c = c .parse-quote2 .ensures ∙ sym (value-double _ _ (c .before .before .before .before .before .before .before .before .if1 .left) (sym (c .before .before .before .before .before .before .before .is-reserved .ensures) ∙ c .before .before .before .before .before .before .if2 .left) (c .before .if6 .taken))
-
-parse-field-requires : tie.Need-parse-field-requires
-parse-field-requires c κs = search needs
-
-returns-7 : tie.Need-returns-7
-returns-7 c = c .parse-field .ensures ∙ sym (value-field _ _ (c .before .before .before .before .before .before .before .before .before .if1 .left) (sym (c .before .before .before .before .before .before .before .before .is-reserved .ensures) ∙ c .before .before .before .before .before .before .before .if2 .left) (c .before .if7 .taken))
-
-is-ordinary-requires : tie.Need-is-ordinary-requires
-is-ordinary-requires c κs = search needs
-
-parse-word-requires : tie.Need-parse-word-requires
-parse-word-requires c κs = search needs
-
-returns-8 : tie.Need-returns-8
-returns-8 c = c .parse-word .ensures ∙ sym (value-word _ _ (c .before .before .before .before .before .before .before .before .before .before .before .if1 .left) (sym (c .before .before .before .before .before .before .before .before .before .before .is-reserved .ensures) ∙ c .before .before .before .before .before .before .before .before .before .if2 .left) (c .before .before .before .before .before .before .before .if3 .left) (c .before .before .before .before .before .before .if4 .left) (c .before .before .before .before .before .if5 .left) (c .before .before .before .before .if6 .left) (c .before .before .before .if7 .left) (sym (c .before .before .is-ordinary .ensures) ∙ c .before .if8 .taken))
-
-returns-9 : tie.Need-returns-9
-returns-9 c = sym (value-none _ _ (c .before .before .before .before .before .before .before .before .before .before .if1 .left) (sym (c .before .before .before .before .before .before .before .before .before .is-reserved .ensures) ∙ c .before .before .before .before .before .before .before .before .if2 .left) (c .before .before .before .before .before .before .if3 .left) (c .before .before .before .before .before .if4 .left) (c .before .before .before .before .if5 .left) (c .before .before .before .if6 .left) (c .before .before .if7 .left) (sym (c .before .is-ordinary .ensures) ∙ c .if8 .left))
+returns-4 c = value-missing _ _ _ (found (c .before .before .before .before) ∙ c .before .found2 .given .1)
 
 pub parse-value-spec : {M : Type 1} → statement M
 parse-value-spec =
     tie.close
     (tie.spec
+    pack-value-requires
+    of-requires
+    enum-known-found
     returns
-    is-reserved-requires
+    add-end
+    sub-decimal-of
+    part-decimal-of-start
+    part-decimal-of-end
+    decimal-of-requires
     returns-2
-    shared-slice-read-b
-    parse-point-requires
+    enum-known-found-2
     returns-3
-    returns-4
-    parse-quote-requires
-    returns-5
-    parse-quote-requires-2
-    returns-6
-    parse-field-requires
-    returns-7
-    is-ordinary-requires
-    parse-word-requires
-    returns-8
-    returns-9)
+    returns-4)

@@ -1,6 +1,6 @@
 -- `items::Sizes::add`: one record's lengths and content more; all stays below the word's end. Assumes nothing.
 use native.Mathlib.Omega.{arith}
-use Rattle.grammar.specs.Reading.{limit}
+use Rattle.text.specs.Limits.{limit}
 use Rattle.sizes.proofs.Room.{body-small, outline-small, content-small, added-steps}
 use borrow.Author.Needs.{needs}
 use Rattle.sizes.proofs.Sizes.add.Statement.{statement}

@@ -1,7 +1,7 @@
 -- `items::Sizes::join`: length by length. Assumes nothing.
 use mathlib.Core.Path.{refl}
 use native.Mathlib.Omega.{arith}
-use Rattle.grammar.specs.Reading.{limit}
+use Rattle.text.specs.Limits.{limit}
 use Rattle.sizes.specs.Sizes.{joined}
 use Rattle.sizes.proofs.Sizes.join.Statement.{statement}
 use Rattle.sizes.proofs.Sizes.join.Tie as tie

@@ -1,6 +1,6 @@
 -- `items::Sizes::plus`: a shape's body is at most 38 bytes. Assumes nothing.
 use native.Mathlib.Omega.{arith}
-use Rattle.grammar.specs.Reading.{limit}
+use Rattle.text.specs.Limits.{limit}
 use Rattle.sizes.proofs.Room.{shape-small, grown-steps}
 use borrow.Author.Needs.{needs}
 use Rattle.sizes.proofs.Sizes.plus.Statement.{statement}

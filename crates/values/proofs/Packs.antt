@@ -1,0 +1,51 @@
+-- What is found as one number, and back. Assumes nothing.
+use Prim.Native.Nat.{ℕ, _+_, _*_, _/_, _%_, _≤_, _<_}
+use mathlib.Core.Path.{_≡_, refl, sym, _∙_}
+use mathlib.Core.List.{List}
+use native.Mathlib.Omega.{arith}
+use borrow.Author.Tests.{le-leb}
+use Rattle.values.specs.declared.Why.{Why}
+use Rattle.values.specs.declared.Why.the-variants.{AtEnd, Reserved, NoStart, OpenQuote, OpenField}
+use Rattle.values.specs.declared.Found.{Found}
+use Rattle.values.specs.declared.Found.the-variants.{Value, Over, Missing}
+use Rattle.values.specs.Finding.{foundAt, pack, packedOf, packedAt, whyOfNumber, unpackedOf}
+use Rattle.values.proofs.Laws.{found-lies}
+
+unpack-value : (k n : ℕ) → k < 32 → 0 < n → unpackedOf (pack k n) ≡ Value k n
+unfolding unpackedOf pack
+unpack-value k n h l =
+    let a : (k + n * 32) % 32 ≡ k = omega arith in
+    let b : (k + n * 32) / 32 ≡ n = omega arith in
+    rw (le-leb 32 (k + n * 32) (omega arith), a, b)
+
+unpack-missing : (w : Why) → unpackedOf (packedOf (Missing w)) ≡ Missing w
+unfolding unpackedOf whyOfNumber
+unpack-missing AtEnd = refl
+unpack-missing Reserved = refl
+unpack-missing NoStart = refl
+unpack-missing OpenQuote = refl
+unpack-missing OpenField = refl
+
+unpack-over : unpackedOf (packedOf Over) ≡ Over
+unfolding unpackedOf
+unpack-over = refl
+
+unpack : (s : List ℕ) (o : ℕ) → unpackedOf (packedAt s o) ≡ foundAt s o
+unfolding packedAt
+unpack s o = by (foundAt s o) refl
+  where
+    by : (f : Found) → foundAt s o ≡ f → unpackedOf (packedOf f) ≡ f
+    by (Value k n) q =
+        let l = found-lies s o k n q in
+        unpack-value k n (omega (arith, l .high)) (l .pos)
+    by Over q = unpack-over
+    by (Missing w) q = unpack-missing w
+
+-- what is packed comes out again
+pub found-packed : (s : List ℕ) (o t : ℕ) (f : Found) → t ≡ packedAt s o → f ≡ unpackedOf t → f ≡ foundAt s o
+found-packed s o t f e q = q ∙ rw e (unpack s o)
+
+-- one answer, packed
+pub packs : (s : List ℕ) (o : ℕ) (f : Found) → foundAt s o ≡ f → packedOf f ≡ packedAt s o
+unfolding packedAt
+packs s o f e = rw e
