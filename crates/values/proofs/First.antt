@@ -44,14 +44,14 @@ word-first s o h r e =
 -- A letter that no reserved word starts with: bare text
 
 free-none : (b : ℕ) → isFreeLetter b ≡ true → startsNumber b ≡ false
-unfolding allBelow isFreeLetter lower isDigit is
+unfolding isFreeLetter lower isDigit is
 free-none b e =
     let no : (c : ℕ) → allBelow (λ k. not (isFreeLetter (65 + k)) || not (eqb (65 + k) c)) 58 ≡ true → b ≡ c → ⊥
     = λ c t. eqb-false b c (not-true (eqb b c) (free-letter-is (λ x. not (eqb x c)) t b e)) in
     starts-none b (not-true (isDigit b) (free-letter-is (λ x. not (isDigit x)) refl b e)) (no 43 refl) (no 45 refl) (no 46 refl)
 
 pub free-found : (s : List ℕ) (o : ℕ) → o < length s → isFreeLetter (getD s o 0) ≡ true → foundAt s o ≡ Value 10 (wordEnd s o - o)
-unfolding allBelow wordFirst isOrdinary isFreeLetter lower is
+unfolding wordFirst isOrdinary isFreeLetter lower is
 free-found s o h e =
     let b = getD s o 0 in
     word-first s o h (free-letter s o h e) (free-letter-is wordFirst refl b e) ∙ bare-word s o (free-none b e)
@@ -65,7 +65,7 @@ decimal-is f t p m b e =
     (λ q. or-cases (eqb b 43) (eqb b 45) (λ r. rw (eqb-true b 43 r) p) (λ r. rw (eqb-true b 45 r) m) q) e
 
 pub decimal-word : (s : List ℕ) (o : ℕ) → o < length s → startsDecimal (getD s o 0) ≡ true → foundAt s o ≡ wordAt s o
-unfolding allBelow wordFirst isOrdinary is
+unfolding wordFirst isOrdinary is
 decimal-word s o h e =
     let b = getD s o 0 in
     let l : b < 68 = ltb-true b 68 (decimal-is (λ x. ltb x 68) refl refl refl b e) in

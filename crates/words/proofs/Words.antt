@@ -96,5 +96,5 @@ ordinary-in-word b e =
 
 -- a word is the run of bytes that don't end one
 pub word-span : (s : List ℕ) (o : ℕ) → wordEnd s o ≡ spanEnd (λ b. not (endsWord b)) s o
-unfolding wordEnd word spanEnd inWord
-word-span s o = refl
+unfolding inWord
+word-span s o = word-run s o

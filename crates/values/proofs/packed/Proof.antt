@@ -3,7 +3,6 @@ use native.Mathlib.Omega.{arith}
 use Rattle.values.specs.Finding.{pack}
 use Rattle.values.proofs.packed.Statement.{statement}
 use Rattle.values.proofs.packed.Tie as tie
-use Rattle.items.proofs.packed.Tie as tie
 
 mul-result : tie.Need-mul-result
 mul-result c = omega (arith, c .pre)
