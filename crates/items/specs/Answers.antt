@@ -6,7 +6,10 @@ use mathlib.Core.List.{List, [], _∷_}
 use lib.Dec.{eqb}
 use lib.ListN.{length, drop}
 use Rattle.gaps.specs.Gaps.{gap}
-use Rattle.values.specs.Values.{block, loop, nothing}
+use Rattle.values.specs.Values.{Class, block, loop, save, tag, value, overLimit, nothing}
+use Rattle.values.specs.Answers.{whyOf}
+use Rattle.values.specs.declared.Why.{Why}
+use Rattle.values.specs.declared.Why.the-variants.{AtEnd, Reserved, NoStart}
 use Rattle.items.specs.declared.Names.{Names}
 use Rattle.items.specs.declared.Values.{Values}
 use Rattle.items.specs.declared.Item.{Item as Answered}

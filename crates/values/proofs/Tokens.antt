@@ -38,7 +38,7 @@ read-fits s _ (bare p) = word-fits s
 read-fits s _ (quote t n q c) = rw q (omega (arith, quote-ends 39 t n c .fits))
 read-fits s _ (double t n q c) = rw q (omega (arith, quote-ends 34 t n c .fits))
 read-fits s _ (multi t n q c) = rw q (omega (arith, field-ends t n c .fits))
-read-fits s _ (number u q p) = word-fits s
+read-fits s _ (number u q w p) = word-fits s
 read-fits s _ (over p) = word-fits s
 
 -- the token lies in the text
@@ -54,7 +54,7 @@ read-bytes s _ (bare p) = inl p
 read-bytes s _ (quote t n q c) = inl (omega arith)
 read-bytes s _ (double t n q c) = inl (omega arith)
 read-bytes s _ (multi t n q c) = inl (omega arith)
-read-bytes s _ (number u q p) = inl p
+read-bytes s _ (number u q w p) = inl p
 read-bytes s _ (over p) = inl p
 
 -- the token has bytes, or nothing can be read there

@@ -2,7 +2,7 @@
 use Prim.Native.Nat.{_+_, _-_}
 use mathlib.Core.Path.{_≡_, sym, ap, _∙_}
 use native.Mathlib.Omega.{arith}
-use lib.ListN.{length, take, drop}
+use lib.ListN.{length, take, drop, length-take}
 use borrow.Author.Needs.{needs}
 use borrow.Author.Tests.{not-true, not-false}
 use Rattle.contents.specs.Contents.{readable, contentLength, contentBytes, lies}
@@ -61,7 +61,10 @@ part-is-readable-end c =
     omega (arith, inside .inside, c .content-length .ensures, content-length (given .kind) (given .fields))
 
 is-readable-requires : tie.Need-is-readable-requires
-is-readable-requires c κs = search needs
+is-readable-requires c κs =
+    let given = c .before .before .before .before .before .before .before .before .args in
+    let end = given .fields .number + c .before .content-length .result - given .fields .number in
+    omega (arith, length-take end (drop (given .fields .number) (given .area .now)), c .before .content-length .ensures, content-length (given .kind) (given .fields), c .before .before .before .before .before .before .before .before .good)
 
 returns-3 : tie.Need-returns-3
 unfolding contentBytes
