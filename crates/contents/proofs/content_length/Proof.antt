@@ -1,4 +1,4 @@
--- `stores::content_length`: by whether the marks fit. Assumes nothing.
+-- `contents::content_length`: by whether the marks fit. Assumes nothing.
 use Prim.Native.Nat.{_-_}
 use mathlib.Core.Path.{_≡_, sym, _∙_}
 use native.Mathlib.Omega.{arith}

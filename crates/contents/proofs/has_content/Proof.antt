@@ -1,4 +1,4 @@
--- `stores::has_content`: by the shape. Assumes nothing.
+-- `contents::has_content`: by the shape. Assumes nothing.
 use mathlib.Core.Path.{_≡_, sym, _∙_}
 use borrow.Author.Needs.{needs}
 use Rattle.kinds.specs.Kinds.{isContent}

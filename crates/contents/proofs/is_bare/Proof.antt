@@ -1,4 +1,4 @@
--- `stores::is_bare`: by the value that stands there. Assumes nothing.
+-- `contents::is_bare`: by the value that stands there. Assumes nothing.
 use mathlib.Core.Path.{_≡_, sym, _∙_}
 use borrow.Author.Needs.{needs}
 use borrow.Author.Tests.{eq-eqb, ne-eqb}

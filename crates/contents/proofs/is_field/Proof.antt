@@ -1,4 +1,4 @@
--- `stores::is_field`: by the last byte, and whether a `;` closes it before. Assumes nothing.
+-- `contents::is_field`: by the last byte, and whether a `;` closes it before. Assumes nothing.
 use mathlib.Core.Path.{_≡_, sym, _∙_}
 use borrow.Author.Needs.{needs}
 use borrow.Author.Tests.{not-true, not-false}

@@ -1,4 +1,4 @@
--- `stores::is_name`: the word takes it all. Assumes nothing.
+-- `contents::is_name`: the word takes it all. Assumes nothing.
 use mathlib.Core.Path.{_≡_, sym, _∙_}
 use native.Mathlib.Nat.{zero-add}
 use borrow.Author.Needs.{needs}

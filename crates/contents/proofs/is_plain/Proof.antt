@@ -1,4 +1,4 @@
--- `stores::is_plain`: the whole is plain just where what is left is. Assumes nothing.
+-- `contents::is_plain`: the whole is plain just where what is left is. Assumes nothing.
 use Prim.Native.Nat.{_-_, _≤_}
 use mathlib.Core.Path.{_≡_, refl, sym, _∙_}
 use native.Mathlib.Omega.{arith}

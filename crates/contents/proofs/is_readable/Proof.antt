@@ -1,4 +1,4 @@
--- `stores::is_readable`: ASCII first, then by the kind. Assumes nothing.
+-- `contents::is_readable`: ASCII first, then by the kind. Assumes nothing.
 use borrow.Author.Needs.{needs}
 use borrow.Author.Tests.{eq-eqb, ne-eqb}
 use Rattle.contents.specs.Contents.{readable}

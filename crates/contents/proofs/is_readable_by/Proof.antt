@@ -1,4 +1,4 @@
--- `stores::is_readable_by`: each arm is its kinds' case of the definition. Assumes nothing.
+-- `contents::is_readable_by`: each arm is its kinds' case of the definition. Assumes nothing.
 use mathlib.Core.Path.{_≡_, refl, sym, _∙_}
 use mathlib.Core.Bool.{false}
 use mathlib.Core.List.{[], _∷_}

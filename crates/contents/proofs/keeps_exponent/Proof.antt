@@ -1,4 +1,4 @@
--- `stores::keeps_exponent`: each `return` goes by the test that led there. Assumes nothing.
+-- `contents::keeps_exponent`: each `return` goes by the test that led there. Assumes nothing.
 use borrow.Author.Tests.{lt-ltb, le-ltb}
 use Rattle.contents.specs.Contents.{exponentKept}
 use Rattle.contents.proofs.keeps_exponent.Statement.{statement}

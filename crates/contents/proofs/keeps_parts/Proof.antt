@@ -1,4 +1,4 @@
--- `stores::keeps_parts`: each `return` goes by the tests that led there. Assumes nothing.
+-- `contents::keeps_parts`: each `return` goes by the tests that led there. Assumes nothing.
 use borrow.Author.Needs.{needs}
 use borrow.Author.Tests.{le-leb, lt-leb, lt-ltb, le-ltb, not-true, not-false}
 use Rattle.contents.specs.Contents.{partsKept}

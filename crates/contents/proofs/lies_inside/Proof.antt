@@ -1,4 +1,4 @@
--- `stores::lies_inside`: each `return` goes by the test that led there. Assumes nothing.
+-- `contents::lies_inside`: each `return` goes by the test that led there. Assumes nothing.
 use borrow.Author.Needs.{needs}
 use borrow.Author.Tests.{le-leb, lt-leb}
 use Rattle.contents.specs.Contents.{contentLength}

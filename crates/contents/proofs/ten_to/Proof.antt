@@ -1,4 +1,4 @@
--- `stores::ten_to`: the power so far is 10 to the count so far. Assumes nothing.
+-- `contents::ten_to`: the power so far is 10 to the count so far. Assumes nothing.
 use Prim.Native.Nat.{_-_, _*_, _^_, _≤_}
 use mathlib.Core.Path.{_≡_, refl, ap, _∙_}
 use native.Mathlib.Omega.{arith}

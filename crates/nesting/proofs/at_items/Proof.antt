@@ -1,4 +1,4 @@
--- `stores::at_items`: each `return` goes by the tests that led there. Assumes nothing.
+-- `nesting::at_items`: each `return` goes by the tests that led there. Assumes nothing.
 use borrow.Author.Needs.{needs}
 use borrow.Author.Tests.{eq-eqb, ne-eqb}
 use Rattle.nesting.specs.Nesting.{atItems}

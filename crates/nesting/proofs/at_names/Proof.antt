@@ -1,4 +1,4 @@
--- `stores::at_names`: by the tags that are left and the kind. Assumes nothing.
+-- `nesting::at_names`: by the tags that are left and the kind. Assumes nothing.
 use borrow.Author.Needs.{needs}
 use Rattle.nesting.proofs.Nesting.{names-none, names-other, names-last, names-more}
 use Rattle.nesting.proofs.at_names.Statement.{statement}

@@ -1,4 +1,4 @@
--- `stores::at_values`: by the kind, and whether the rows are whole. Assumes nothing.
+-- `nesting::at_values`: by the kind, and whether the rows are whole. Assumes nothing.
 use native.Mathlib.Numerals.{add-one}
 use borrow.Author.Needs.{needs}
 use borrow.Author.Tests.{eq-eqb, ne-eqb}

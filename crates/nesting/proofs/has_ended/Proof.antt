@@ -1,4 +1,4 @@
--- `stores::has_ended`: by what may stand next. Assumes nothing.
+-- `nesting::has_ended`: by what may stand next. Assumes nothing.
 use borrow.Author.Needs.{needs}
 use Rattle.nesting.specs.Nesting.{ended}
 use Rattle.nesting.proofs.Nesting.{ended-other}

@@ -1,4 +1,4 @@
--- `stores::is_nested`: the whole is nested just where what is left is, from here on; no more values are counted than bytes passed. Assumes nothing.
+-- `nesting::is_nested`: the whole is nested just where what is left is, from here on; no more values are counted than bytes passed. Assumes nothing.
 use Prim.Native.Nat.{_+_, _-_, _≤_, _<_}
 use mathlib.Core.Path.{_≡_, refl, sym, _∙_, ap}
 use native.Mathlib.Omega.{arith}

@@ -1,4 +1,4 @@
--- `stores::is_value`: each `return` goes by the tests that led there. Assumes nothing.
+-- `nesting::is_value`: each `return` goes by the tests that led there. Assumes nothing.
 use borrow.Author.Tests.{le-leb, lt-leb}
 use Rattle.nesting.specs.Nesting.{isValueKind}
 use Rattle.nesting.proofs.is_value.Statement.{statement}

@@ -1,4 +1,4 @@
--- `stores::open_loop`: by the number of tags. Assumes nothing.
+-- `nesting::open_loop`: by the number of tags. Assumes nothing.
 use Rattle.nesting.proofs.Nesting.{loop-none, loop-some}
 use Rattle.nesting.proofs.open_loop.Statement.{statement}
 use Rattle.nesting.proofs.open_loop.Tie as tie

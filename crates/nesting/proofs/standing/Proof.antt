@@ -1,4 +1,4 @@
--- `stores::standing`: by what may stand next. Assumes nothing.
+-- `nesting::standing`: by what may stand next. Assumes nothing.
 use mathlib.Core.Path.{_≡_, sym, _∙_}
 use native.Mathlib.Omega.{arith}
 use borrow.Author.Needs.{needs}

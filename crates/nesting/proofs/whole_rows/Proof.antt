@@ -1,4 +1,4 @@
--- `stores::whole_rows`: by whether there are tags. Assumes nothing.
+-- `nesting::whole_rows`: by whether there are tags. Assumes nothing.
 use borrow.Author.Needs.{needs}
 use Rattle.nesting.proofs.Nesting.{rows-none}
 use Rattle.nesting.proofs.whole_rows.Statement.{statement}

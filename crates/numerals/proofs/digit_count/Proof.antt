@@ -1,4 +1,4 @@
--- `rendering::digit_count` meets its contract: where the loop stands, the rest has the digits that are not counted yet, and one that is. Assumes nothing.
+-- `numerals::digit_count` meets its contract: where the loop stands, the rest has the digits that are not counted yet, and one that is. Assumes nothing.
 use native.Mathlib.Omega.{arith}
 use Rattle.numbers.proofs.Counting.{Counted, counted-first, counted-more, counted-last}
 use Rattle.numerals.proofs.digit_count.Statement.{statement}

@@ -1,4 +1,4 @@
--- `rendering::exponent_length` meets its contract. Assumes nothing.
+-- `numerals::exponent_length` meets its contract. Assumes nothing.
 use borrow.Author.Needs.{needs}
 use mathlib.Core.Path.{sym, ap}
 use native.Mathlib.Omega.{arith}

@@ -1,4 +1,4 @@
--- `rendering::number_length` meets its contract. Assumes nothing.
+-- `numerals::number_length` meets its contract. Assumes nothing.
 use borrow.Author.Needs.{needs}
 use native.Mathlib.Omega.{arith}
 use Rattle.numbers.proofs.Rendered.{number-size, sign-short, plain-short, fraction-short, exponent-short, uncertainty-short}

@@ -1,4 +1,4 @@
--- `rendering::put_byte` meets its contract. Assumes nothing.
+-- `numerals::put_byte` meets its contract. Assumes nothing.
 use borrow.Author.Needs.{needs}
 use mathlib.Core.Path.{refl}
 use native.Mathlib.Omega.{arith}

@@ -1,4 +1,4 @@
--- `rendering::put_digits` meets its contract: where the loop stands, all but the first digits are written, and those are the last of what is left. Assumes nothing.
+-- `numerals::put_digits` meets its contract: where the loop stands, all but the first digits are written, and those are the last of what is left. Assumes nothing.
 use Prim.Native.Nat.{_+_, _≤_}
 use mathlib.Core.Path.{_≡_, refl}
 use mathlib.Core.List.{_++_}

@@ -1,4 +1,4 @@
--- `rendering::put_exponent` meets its contract. Assumes nothing.
+-- `numerals::put_exponent` meets its contract. Assumes nothing.
 use borrow.Author.Needs.{needs}
 use mathlib.Core.Path.{sym}
 use mathlib.Core.List.{[], _∷_, _++_}

@@ -1,4 +1,4 @@
--- `rendering::put_fraction` meets its contract. Assumes nothing.
+-- `numerals::put_fraction` meets its contract. Assumes nothing.
 use borrow.Author.Needs.{needs}
 use Prim.Native.Nat.{_≤_}
 use mathlib.Core.Path.{sym}

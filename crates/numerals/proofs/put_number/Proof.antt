@@ -1,4 +1,4 @@
--- `rendering::put_number` meets its contract: each piece is written behind the one before. Assumes nothing.
+-- `numerals::put_number` meets its contract: each piece is written behind the one before. Assumes nothing.
 use borrow.Author.Needs.{needs}
 use mathlib.Core.Path.{sym}
 use mathlib.Core.List.{[], _++_}

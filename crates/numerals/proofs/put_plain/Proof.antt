@@ -1,4 +1,4 @@
--- `rendering::put_plain` meets its contract. Assumes nothing.
+-- `numerals::put_plain` meets its contract. Assumes nothing.
 use borrow.Author.Needs.{needs}
 use mathlib.Core.Path.{sym, _∙_, ap}
 use Rattle.numbers.specs.Spelling.{padded}

@@ -1,4 +1,4 @@
--- `rendering::put_sign` meets its contract. Assumes nothing.
+-- `numerals::put_sign` meets its contract. Assumes nothing.
 use borrow.Author.Needs.{needs}
 use mathlib.Core.Path.{sym}
 use Rattle.numerals.proofs.Wrote.{wrote-none, wrote-as, room-as}

@@ -1,4 +1,4 @@
--- `rendering::sign_length` meets its contract. Assumes nothing.
+-- `numerals::sign_length` meets its contract. Assumes nothing.
 use mathlib.Core.Path.{sym, ap}
 use lib.ListN.{length}
 use Rattle.numbers.proofs.Rendered.{sign-minus, sign-plus}

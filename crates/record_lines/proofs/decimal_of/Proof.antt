@@ -1,4 +1,4 @@
--- `rendering::decimal_of` meets its contract. Assumes nothing.
+-- `record_lines::decimal_of` meets its contract. Assumes nothing.
 use borrow.Author.Needs.{needs}
 use Rattle.record_lines.specs.Lines.{decimalOf}
 use Rattle.record_lines.specs.Writing.{sizeOf}

@@ -1,4 +1,4 @@
--- `rendering::is_end` meets its contract. Assumes nothing.
+-- `record_lines::is_end` meets its contract. Assumes nothing.
 use mathlib.Core.Path.{refl}
 use mathlib.Core.Bool.{true, false}
 use mathlib.Core.List.{[], _∷_}

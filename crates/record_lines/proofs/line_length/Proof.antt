@@ -1,4 +1,4 @@
--- `rendering::line_length` meets its contract: each arm at once for its kinds' numbers. Assumes nothing.
+-- `record_lines::line_length` meets its contract: each arm at once for its kinds' numbers. Assumes nothing.
 use borrow.Author.Needs.{needs}
 use mathlib.Core.Path.{refl, ap, _∙_}
 use mathlib.Core.Bool.{true, false}

@@ -1,4 +1,4 @@
--- `rendering::mark_of` meets its contract. Assumes nothing.
+-- `record_lines::mark_of` meets its contract. Assumes nothing.
 use borrow.Author.Needs.{needs}
 use mathlib.Core.Path.{refl}
 use mathlib.Core.List.{[], _∷_}

@@ -1,4 +1,4 @@
--- `rendering::put_body` meets its contract: by the shape of the record. Assumes nothing.
+-- `record_lines::put_body` meets its contract: by the shape of the record. Assumes nothing.
 use borrow.Author.Needs.{needs}
 use Prim.Native.Nat.{_-_}
 use mathlib.Core.Path.{sym, ap, _∙_}

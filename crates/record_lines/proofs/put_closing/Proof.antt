@@ -1,4 +1,4 @@
--- `rendering::put_closing` meets its contract: each arm at once for its kinds' numbers. Assumes nothing.
+-- `record_lines::put_closing` meets its contract: each arm at once for its kinds' numbers. Assumes nothing.
 use borrow.Author.Needs.{needs}
 use mathlib.Core.Path.{refl, sym, ap}
 use mathlib.Core.Bool.{true}

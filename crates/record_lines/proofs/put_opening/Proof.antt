@@ -1,4 +1,4 @@
--- `rendering::put_opening` meets its contract: each arm at once for its kinds' numbers. Assumes nothing.
+-- `record_lines::put_opening` meets its contract: each arm at once for its kinds' numbers. Assumes nothing.
 use borrow.Author.Needs.{needs}
 use mathlib.Core.Path.{refl, sym, ap, _∙_}
 use mathlib.Core.Bool.{true}

@@ -1,4 +1,4 @@
--- `rendering::put_part` meets its contract: where the loop stands, i bytes are copied. Assumes nothing.
+-- `record_lines::put_part` meets its contract: where the loop stands, i bytes are copied. Assumes nothing.
 use Prim.Native.Nat.{_-_, _≤_}
 use mathlib.Core.Path.{_≡_, refl, sym}
 use native.Mathlib.Omega.{arith}

@@ -1,4 +1,4 @@
--- `rendering::size_of` meets its contract. Assumes nothing.
+-- `record_lines::size_of` meets its contract. Assumes nothing.
 use borrow.Author.Needs.{needs}
 use native.Mathlib.Omega.{arith}
 use borrow.Author.Tests.{le-leb, lt-leb}

@@ -1,4 +1,4 @@
--- `rendering::write_line` meets its contract: each piece is written behind the one before. Assumes nothing.
+-- `record_lines::write_line` meets its contract: each piece is written behind the one before. Assumes nothing.
 use borrow.Author.Needs.{needs}
 use mathlib.Core.Path.{sym, _∙_}
 use mathlib.Core.List.{_++_}
