@@ -10,7 +10,8 @@ use lib.ListN.{length}
 use Rattle.text.specs.Bytes.{isAscii}
 use Rattle.text.specs.Runs.{span}
 use Rattle.grammar.specs.Machine.{Rec, Answer, refused, done}
-use Rattle.grammar.specs.Reading.{limit, decided, outline}
+use Rattle.grammar.specs.Reading.{decided, outline}
+use Rattle.text.specs.Limits.{limit}
 use Rattle.sizes.specs.Sizes.{storeSize, outlineSize, areaSize, sizesOf}
 use Rattle.deciding.specs.Decisions.{Told, refusal, room, tells}
 

@@ -94,21 +94,21 @@ pub fn is_reserved(s: &[u8], at: usize) -> bool
 pub fn is_free_letter(b: u8) -> bool
     ensures { λ r. ⌜ r ≡ isFreeLetter b ⌝ }
 {
-    let first = to_lower(b);
-    if first < b'a' {
+    let letter = to_lower(b);
+    if letter < b'a' {
         return false;
     }
-    if b'z' < first {
+    if b'z' < letter {
         return false;
     }
-    if first == b'd' {
+    if letter == b'd' {
         return false;
     }
-    if first == b'g' {
+    if letter == b'g' {
         return false;
     }
-    if first == b'l' {
+    if letter == b'l' {
         return false;
     }
-    first != b's'
+    letter != b's'
 }

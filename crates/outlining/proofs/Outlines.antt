@@ -11,7 +11,8 @@ use Rattle.places.specs.Reports.{success, noRoom}
 use Rattle.records.specs.Put.{front}
 use Rattle.sizes.specs.declared.Sizes.{Sizes}
 use Rattle.grammar.specs.Machine.{Rec, done}
-use Rattle.grammar.specs.Reading.{outline, decided, limit}
+use Rattle.grammar.specs.Reading.{outline, decided}
+use Rattle.text.specs.Limits.{limit}
 use Rattle.sizes.specs.Sizes.{outlineSize}
 use Rattle.deciding.proofs.Told.{sizes-of, outline-read}
 use Rattle.walking.specs.Writing.{storeOf}

@@ -42,7 +42,7 @@ use Rattle.walking.specs.Walk.{Wrote, Onward, itemRecs, itemRest, isTake
 use Rattle.putting.specs.Desk.{Desk, Room, IsToken, recAt, WroteOne}
 use Rattle.walking.proofs.Appends.{area-size-append, store-length-append}
 use Rattle.putting.proofs.Lines.{part-token}
-use Rattle.walking.proofs.Lists.{namesFrom, behindNames, valuesFrom, behindValues}
+use Rattle.walking.specs.Walk.{namesFrom, behindNames, valuesFrom, behindValues}
 use Rattle.walking.proofs.Onward.{onward-here, onward-then, room-onward, wrote-onward, one-onward, onward-wrote}
 use Rattle.walking.proofs.SoFar.{room-first}
 use Rattle.walking.proofs.Turns.{name-turn, name-none, value-turn, value-none}

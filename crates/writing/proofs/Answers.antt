@@ -5,7 +5,8 @@ use mathlib.Core.Bool.{Bool, true, false, false≢true}
 use mathlib.Core.List.{List}
 use lib.ListN.{length}
 use Rattle.grammar.specs.Machine.{Rec, done}
-use Rattle.grammar.specs.Reading.{limit, decided}
+use Rattle.grammar.specs.Reading.{decided}
+use Rattle.text.specs.Limits.{limit}
 use Rattle.sizes.specs.Sizes.{storeSize, outlineSize, areaSize}
 use Rattle.walking.specs.Writing.{storeOf, areaOf, areaIn}
 use Rattle.putting.specs.Desk.{storeLength}

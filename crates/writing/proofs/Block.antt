@@ -20,7 +20,7 @@ use Rattle.records.specs.Put.{front, put}
 use Rattle.records.proofs.Putting.{put-zero}
 use Rattle.grammar.specs.Machine.{Rec}
 use Rattle.sizes.specs.Sizes.{areaSize}
-use Rattle.grammar.specs.Reading.{limit}
+use Rattle.text.specs.Limits.{limit}
 use Rattle.deciding.specs.Frames.{left}
 use Rattle.putting.specs.declared.Cursor.{Cursor}
 use Rattle.walking.specs.Writing.{tagsOf, storeOf, areaIn}

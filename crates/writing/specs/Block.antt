@@ -9,7 +9,8 @@ use Rattle.gaps.specs.Gaps.{gap}
 use Rattle.keywords.specs.Keywords.{startsAt, keySave}
 use Rattle.grammar.specs.Machine.{Rec, Answer, refused, done}
 use Rattle.deciding.specs.Frames.{left}
-use Rattle.grammar.specs.Reading.{limit, decided}
+use Rattle.grammar.specs.Reading.{decided}
+use Rattle.text.specs.Limits.{limit}
 use Rattle.items.specs.declared.Item.{Item as Answered}
 use Rattle.items.specs.declared.Item.the-variants.{Loop, Single, Ragged, NoValue, NoItem, NoNames, Over}
 use Rattle.sizes.specs.Sizes.{areaSize}

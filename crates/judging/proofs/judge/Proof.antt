@@ -1,6 +1,6 @@
 -- `judging::judge`: the two limits first, then what the tokens say. Assumes nothing.
 use mathlib.Core.Path.{_∙_}
-use Rattle.grammar.specs.Reading.{limit}
+use Rattle.text.specs.Limits.{limit}
 use Rattle.deciding.proofs.Told.{outline-long, outline-foreign, outline-decided}
 use Rattle.refusals.specs.Answers.{refusal, refusalReport}
 use Rattle.judging.specs.Judging.{judgement, judgedAs, noSizes}
