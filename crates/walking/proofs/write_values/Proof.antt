@@ -11,7 +11,7 @@ use Rattle.values.proofs.Packs.{found-packed}
 use Rattle.putting.specs.Desk.{desk}
 use Rattle.walking.proofs.SoFar.{SoFar, start}
 use Rattle.walking.specs.Walk.{valuesFrom, behindValues}
-use Rattle.walking.proofs.Lists.{value-next, value-gap, value-last, trim-bare}
+use Rattle.walking.proofs.Lists.{value-room, value-next, value-gap, value-last, trim-bare}
 use Rattle.walking.proofs.Turns.{value-here}
 use Rattle.walking.proofs.Values.{trim-offset}
 use Rattle.walking.proofs.write_values.Statement.{statement}
