@@ -4,11 +4,11 @@ use Prim.Native.Nat.{ℕ, zero, suc}
 use mathlib.Core.Bool.{Bool, true, false, cond, _&&_, _||_}
 use mathlib.Core.List.{List, [], _∷_}
 use lib.Dec.{eqb}
-use Rattle.records.specs.declared.Entry.{Entry}
-use Rattle.records.specs.declared.Entry.the-variants.{Record, Nothing}
-use Rattle.records.specs.Kinds.{numberOf}
-use Rattle.stores.specs.Walk.{entries}
-use Rattle.stores.specs.Contents.{contentBytes}
+use Rattle.entries.specs.declared.Entry.{Entry}
+use Rattle.entries.specs.declared.Entry.the-variants.{Record, Nothing}
+use Rattle.kinds.specs.Kinds.{numberOf}
+use Rattle.entries.specs.Walk.{entries}
+use Rattle.contents.specs.Contents.{contentBytes}
 
 -- a name of a store: its record number, its scope (0 the block's, else the number of its frame's record) and its bytes
 pub record Name : Type 0 where

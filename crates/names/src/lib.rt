@@ -6,9 +6,9 @@ ghost use Rattle.names.specs.Names.{sameName, sameBoth, scopeAfter};
 ghost use Rattle.names.specs.Order.{lessName};
 ghost use Rattle.names.specs.Numbers.{mix as mixOf, hashOf};
 ghost use Rattle.names.specs.Steps.{isNameKind, part, nameOf, Inside, Holds, HeldAt, Counted, first, Ahead};
-use records::Entry;
-use records::Fields;
-use records::Kind;
+use entries::Entry;
+use entries::Fields;
+use kinds::Kind;
 
 // A name: its record's offset and number, its scope, and the part of the area that holds it.
 pub struct Named {
@@ -151,7 +151,7 @@ pub fn next_name(store: &[u8], area: &[u8], spot: Spot) -> Next
     let mut number = spot.number;
     let mut scope = spot.scope;
     while at < store.len() {
-        let Entry::Record { kind, fields, next } = records::read_record(store, at) else {
+        let Entry::Record { kind, fields, next } = entries::read_record(store, at) else {
             return Next::End;
         };
         let k = kind.number();
@@ -193,7 +193,7 @@ pub fn name_at(store: &[u8], area: &[u8], at: usize) -> Named
         kind,
         fields,
         next: _,
-    } = records::read_record(store, at)
+    } = entries::read_record(store, at)
     else {
         return Named {
             at,

@@ -4,8 +4,8 @@ use Prim.Native.Nat.{ℕ}
 use mathlib.Core.Bool.{Bool, cond}
 use mathlib.Core.List.{List, [], _∷_, _++_}
 use mathlib.Core.Option.{Option, none, some}
-use Rattle.text.specs.declared.Report.{Report}
-use Rattle.text.specs.Reports.{success, refusedBare}
+use Rattle.places.specs.declared.Report.{Report}
+use Rattle.places.specs.Reports.{success, refusedBare}
 use Rattle.stores.specs.Soundness.{sound}
 use Rattle.names.specs.Names.{Name, names, sameBoth}
 use Rattle.naming.specs.declared.Naming.{Naming}

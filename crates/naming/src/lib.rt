@@ -2,7 +2,7 @@
 ghost use mathlib.Core.Path.{_≡_};
 ghost use Prim.Native.Nat.{ℕ, _≤_, _<_};
 ghost use lib.ListN.{take};
-ghost use Rattle.text.specs.Reports.{refusedBare};
+ghost use Rattle.places.specs.Reports.{refusedBare};
 ghost use Rattle.names.specs.Names.{names};
 ghost use Rattle.names.specs.Steps.{nameOf, Inside, namesAt, Reached};
 ghost use Rattle.naming.specs.Names.{firstSame, repeatFrom, namingOf, nameCheck, namingReport};
@@ -11,7 +11,7 @@ use names::Named;
 use names::Next;
 use names::Spot;
 use slots::SLOTS;
-use text::Report;
+use places::Report;
 
 // The name check's answer: no name stands twice; 12; or 13 with two record numbers.
 pub enum Naming {
