@@ -1,6 +1,6 @@
 //! The name check on names that are many, that stand in frames, and that are chosen against its table.
 
-use crate::inputs::hard::{crowded_tags, framed_tags, plain_tags};
+use crate::inputs::hard::{crowded_tags, framed_tags, plain_tags, short_tags};
 use crate::library;
 use crate::stores::Stored;
 use crate::table::Table;
@@ -24,7 +24,7 @@ pub fn report(effort: Effort) {
     table.row(half.row("3,000 frames of 30 tags", None));
     let whole = timed(effort, &framed_tags(6_000, 30));
     table.row(whole.row("6,000 frames of 30 tags", Some(("3,000 frames", &half))));
-    let many = timed(effort, &plain_tags(2_000_000));
+    let many = timed(effort, &short_tags(2_000_000));
     table.row(many.row("2,000,000 tags", None));
     println!("{}", table.shown());
 }

@@ -4,7 +4,8 @@
  * file and writes no byte outside the buffers that it is lent for writing; any number of threads may call it at once.
  *
  * What the caller owes: pointers are never null, also where the length is 0; each pointer has as many bytes behind it as its length
- * says; a buffer that is written overlaps no other buffer of the same call. Nothing else: any bytes and any lengths get an answer.
+ * says; a buffer that is written overlaps no other buffer of the same call; and 64 KiB of stack. Nothing else: any bytes and any lengths
+ * get an answer. The name check takes nearly all of that stack, for a table of 48 KiB; the other functions take little.
  *
  * A text is the bytes of one CIF file. Its store holds one record for each thing in it, its area holds the contents: names and texts
  * without their marks. Both are plain bytes without pointers in them, so they may be copied, kept in a file and lent again later,

@@ -88,6 +88,22 @@ pub fn plain_tags(n: usize) -> String {
     tags((0..n).map(|number| format!("t{number}")))
 }
 
+/// A block of so many tags, each another and as short as can be: two millions are a text of 16 MB.
+pub fn short_tags(n: usize) -> String {
+    const DIGITS: &[u8; 62] = b"0123456789abcdefghijklmnopqrstuvwxyzABCDEFGHIJKLMNOPQRSTUVWXYZ";
+    tags((0..n).map(|number| {
+        let mut name = String::new();
+        let mut left = number;
+        loop {
+            name.push(char::from(DIGITS[left % 62]));
+            left /= 62;
+            if left == 0 {
+                return name;
+            }
+        }
+    }))
+}
+
 /// A block of so many tags, each another, that the name check's table puts at one place.
 pub fn crowded_tags(n: usize) -> String {
     let names = (0..).map(|number| format!("t{number}"));
@@ -122,5 +138,5 @@ fn is_crowded(name: &str) -> bool {
     let mix =
         |hash: u64, byte: u8| hash % (1 << 32) * 698_769_069 + ((hash >> 32) + u64::from(byte));
     let hash = name.bytes().chain([0, 0]).fold(0, mix);
-    hash % 12_288 < 64
+    hash % 12_032 < 64
 }

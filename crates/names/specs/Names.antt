@@ -3,7 +3,6 @@
 use Prim.Native.Nat.{ℕ, zero, suc}
 use mathlib.Core.Bool.{Bool, true, false, cond, _&&_, _||_}
 use mathlib.Core.List.{List, [], _∷_}
-use mathlib.Core.Option.{Option, none, some}
 use lib.Dec.{eqb}
 use Rattle.entries.specs.declared.Entry.{Entry}
 use Rattle.entries.specs.declared.Entry.the-variants.{Record, Nothing}
@@ -42,8 +41,3 @@ namesFrom (Record k f next ∷ es) ar i scope =
 
 unfoldable pub names : List ℕ → List ℕ → List Name
 names st ar = namesFrom (entries st) ar 0 0
-
--- the first of the names that is the same as x
-unfoldable pub firstSame : List Name → Name → Option ℕ
-firstSame [] x = none
-firstSame (y ∷ ys) x = let more = firstSame ys x in cond (sameBoth y x) (some (y .number)) more

@@ -33,6 +33,9 @@ pub enum Next {
     End,
 }
 
+// The number of the first record.
+const FIRST: usize = 0;
+
 // Whether two parts of the area are the same name: the one place that decides when names are equal.
 pub fn same_name(area: &[u8], a: usize, n: usize, b: usize, m: usize) -> bool
     requires { ⌜ (a + n ≤ length (now area)) × (b + m ≤ length (now area)) ⌝ }
@@ -70,12 +73,12 @@ pub fn is_before(area: &[u8], a: usize, n: usize, b: usize, m: usize) -> bool
     if n != m {
         return n < m;
     }
-    let mut i = 0;
-    while i < n {
-        if area[a + i] != area[b + i] {
-            return area[a + i] < area[b + i];
+    let mut k = 0;
+    while k < n {
+        if area[a + k] != area[b + k] {
+            return area[a + k] < area[b + k];
         }
-        i += 1;
+        k += 1;
     }
     false
 }
@@ -176,7 +179,7 @@ pub fn start() -> Spot
 {
     Spot {
         at: 0,
-        number: 0,
+        number: FIRST,
         scope: 0,
         count: 0,
     }

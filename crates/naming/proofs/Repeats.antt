@@ -10,13 +10,13 @@ use lib.ListN.{take, drop}
 use lib.Seq.{take-nil}
 use Rattle.stores.specs.Soundness.{sound}
 use Rattle.names.specs.declared.Spot.{Spot}
-use Rattle.names.specs.Names.{Name, names, sameBoth, firstSame}
+use Rattle.names.specs.Names.{Name, names, sameBoth}
 use Rattle.names.specs.Steps.{namesAt}
 use Rattle.names.proofs.Lists.{drop-next, take-next}
 use Rattle.naming.specs.declared.Naming.{Naming}
 use Rattle.naming.specs.declared.Naming.the-variants.{Distinct, NotSound, Repeated}
 use Rattle.naming.specs.declared.Earlier.the-variants.{At, Missing}
-use Rattle.naming.specs.Names.{repeatOr, repeatFrom, firstRepeat, namingOf, nameCheck}
+use Rattle.naming.specs.Names.{firstSame, repeatOr, repeatFrom, firstRepeat, namingOf, nameCheck}
 use Rattle.naming.specs.Scopes.{earlierOf, FreshTo}
 
 -- a search among the first n names

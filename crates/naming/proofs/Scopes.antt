@@ -10,12 +10,13 @@ use lib.Dec.{eqb, ltb}
 use lib.ListN.{length, take, drop, length-drop}
 use Rattle.names.specs.declared.Spot.{Spot}
 use Rattle.names.specs.declared.Named.{Named}
-use Rattle.names.specs.Names.{Name, names, sameBoth, firstSame}
+use Rattle.names.specs.Names.{Name, names, sameBoth}
 use Rattle.names.specs.Steps.{nameOf, namesAt, first, Reached}
 use Rattle.names.proofs.Same.{not-true, same-scope}
 use Rattle.names.proofs.Steps.{Meets, reached-first, reached-next}
-use Rattle.windows.specs.Windows.{Apart, Ran}
-use Rattle.naming.specs.Names.{repeatFrom, firstRepeat}
+use Rattle.windows.specs.Windows.{Ran}
+use Rattle.windows.proofs.Windows.{apart-at}
+use Rattle.naming.specs.Names.{firstSame, repeatFrom, firstRepeat}
 use Rattle.naming.specs.Scopes.{OfScope, Stretch, Framed, FramesApart, Frames, FreshTo}
 use Rattle.naming.proofs.Repeats.{first-none, fresh-repeat}
 
@@ -85,7 +86,7 @@ module _ (st ar : List ℕ) where
 
   -- a frame behind them
   pub framing-frame : (top s : ℕ) (h r : Spot) → Framing top h → top < s → Framed st ar s h r → Framing s r
-  unfolding FramesApart OfScope Apart
+  unfolding FramesApart OfScope
   framing-frame top s h r f g w =
       record {
         reached = w .stretch .reached;
@@ -104,7 +105,7 @@ module _ (st ar : List ℕ) where
           not-true (sameBoth x y)
           (λ u. absurd (omega (arith, f .below i x p (ltb-true i (h .count) v) d, w .stretch .all j y q (ltb-false j (h .count) o) m e, same-scope x y u)))
       by i j x y p q l m d e z false o false v =
-          w .apart i j x y p q (ltb-false i (h .count) v) (omega arith) l m d e (w .stretch .all i x p (ltb-false i (h .count) v) (omega arith) d)
+          apart-at (names st ar) s (h .count) (r .count) (r .count) (w .apart) i j x y p q (ltb-false i (h .count) v) (omega arith) l m d e (w .stretch .all i x p (ltb-false i (h .count) v) (omega arith) d)
 
   pub framing-end : (top : ℕ) (h : Spot) → Framing top h → Frames st ar h
   framing-end top h f = record { reached = f .reached; apart = f .apart }
@@ -115,7 +116,7 @@ module _ (st ar : List ℕ) where
 
   -- the block's own names and the frames' are all names
   pub fresh-all : (end : ℕ) (all from r : Spot) → Frames st ar all → end ≡ all .count → from ≡ first → Ran st ar 0 end from r → FreshTo st ar r
-  unfolding FramesApart Apart firstRepeat
+  unfolding FramesApart firstRepeat
   fresh-all end all from r f e g n =
       record {
         reached = n .walked .reached;
@@ -128,5 +129,5 @@ module _ (st ar : List ℕ) where
       by : (i j : ℕ) (x y : Name) (p q : List Name) → j < r .count → drop j (names st ar) ≡ x ∷ p → i < j → drop i (names st ar) ≡ y ∷ q → (b : Bool) → eqb (y .scope) 0 ≡ b → sameBoth y x ≡ false
       by i j x y p q l d k o true c =
           let z : from .count ≡ 0 = ap (λ (s : Spot). s .count) g in
-          n .apart i j y x q p (omega arith) (omega arith) k l o d (eqb-true (y .scope) 0 c)
+          apart-at (names st ar) 0 (from .count) (r .count) (r .count) (n .apart) i j y x q p (omega arith) (omega arith) k l o d (eqb-true (y .scope) 0 c)
       by i j x y p q l d k o false c = f .apart i j y x q p k (omega (arith, n .walked .within)) o d (eqb-false (y .scope) 0 c)

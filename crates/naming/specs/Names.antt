@@ -7,9 +7,14 @@ use mathlib.Core.Option.{Option, none, some}
 use Rattle.places.specs.declared.Report.{Report}
 use Rattle.places.specs.Reports.{success, refusedBare}
 use Rattle.stores.specs.Soundness.{sound}
-use Rattle.names.specs.Names.{Name, names, firstSame}
+use Rattle.names.specs.Names.{Name, names, sameBoth}
 use Rattle.naming.specs.declared.Naming.{Naming}
 use Rattle.naming.specs.declared.Naming.the-variants.{Distinct, NotSound, Repeated}
+
+-- the first of the names that is the same as x
+unfoldable pub firstSame : List Name → Name → Option ℕ
+firstSame [] x = none
+firstSame (y ∷ ys) x = let more = firstSame ys x in cond (sameBoth y x) (some (y .number)) more
 
 -- the earliest name that repeats one of those before it: both record numbers
 pub data Repeat : Type 0 where

@@ -21,7 +21,7 @@ module _ (t : List ℕ) (n slot mark : ℕ) where
   unfolding freeIn
   free-mark d e = rw (ne-eqb (getD t slot 0) 0 d, eq-eqb (getD t slot 0) mark e)
 
-  free-more : (getD t slot 0 ≡ 0 → ⊥) → (getD t slot 0 ≡ mark → ⊥) → freeIn t (suc n) slot mark ≡ freeIn t n ((slot + 1) % 12288) mark
+  free-more : (getD t slot 0 ≡ 0 → ⊥) → (getD t slot 0 ≡ mark → ⊥) → freeIn t (suc n) slot mark ≡ freeIn t n (slot + 1) mark
   unfolding freeIn
   free-more d e = rw (ne-eqb (getD t slot 0) 0 d, ne-eqb (getD t slot 0) mark e)
 
@@ -35,7 +35,7 @@ module _ (t : List ℕ) (slot mark : ℕ) where
   left-mark zero h d e = absurd (omega arith)
   left-mark (suc n) h d e = free-mark t n slot mark d e
 
-  pub left-more : (n : ℕ) → 0 < n → (getD t slot 0 ≡ 0 → ⊥) → (getD t slot 0 ≡ mark → ⊥) → freeIn t n slot mark ≡ freeIn t (n - 1) ((slot + 1) % 12288) mark
+  pub left-more : (n : ℕ) → 0 < n → (getD t slot 0 ≡ 0 → ⊥) → (getD t slot 0 ≡ mark → ⊥) → freeIn t n slot mark ≡ freeIn t (n - 1) (slot + 1) mark
   left-more zero h d e = absurd (omega arith)
   left-more (suc n) h d e =
       let m : suc n - 1 ≡ n = omega arith in
@@ -45,9 +45,6 @@ pub free-none : (t : List ℕ) (n slot mark : ℕ) → n ≤ 0 → freeIn t n sl
 unfolding freeIn
 free-none t zero slot mark h = refl
 free-none t (suc n) slot mark h = absurd (omega arith)
-
-next-slot : (slot : ℕ) → (slot + 1) % 12288 < 12288
-next-slot slot = omega arith
 
 -- the three cases of a slot
 slot-cases : (x mark : ℕ) {A : Type 0} → (x ≡ 0 → A) → ((x ≡ 0 → ⊥) → x ≡ mark → A) → ((x ≡ 0 → ⊥) → (x ≡ mark → ⊥) → A) → A
@@ -65,16 +62,16 @@ found-empty t (suc n) slot mark s e h =
     slot-cases (getD t slot 0) mark
     (λ a. let q : s ≡ slot = sym e ∙ free-empty t n slot mark a in rw q a)
     (λ d a. let q : s ≡ 12288 = sym e ∙ free-mark t n slot mark d a in absurd (omega arith))
-    (λ d a. found-empty t n ((slot + 1) % 12288) mark s (sym (free-more t n slot mark d a) ∙ e) h)
+    (λ d a. found-empty t n (slot + 1) mark s (sym (free-more t n slot mark d a) ∙ e) h)
 
 -- no slot is found, or one of the table
-pub found-within : (t : List ℕ) (n slot mark : ℕ) → slot < 12288 → freeIn t n slot mark ≤ 12288
+pub found-within : (t : List ℕ) (n slot mark : ℕ) → slot + n ≤ 12288 → freeIn t n slot mark ≤ 12288
 found-within t zero slot mark l = let z : freeIn t 0 slot mark ≡ 12288 = free-none t 0 slot mark (omega arith) in omega arith
 found-within t (suc n) slot mark l =
     slot-cases (getD t slot 0) mark
     (λ a. let q : freeIn t (suc n) slot mark ≡ slot = free-empty t n slot mark a in omega arith)
     (λ d a. let q : freeIn t (suc n) slot mark ≡ 12288 = free-mark t n slot mark d a in omega arith)
-    (λ d a. let q : freeIn t (suc n) slot mark ≡ freeIn t n ((slot + 1) % 12288) mark = free-more t n slot mark d a in omega (arith, found-within t n ((slot + 1) % 12288) mark (next-slot slot)))
+    (λ d a. let q : freeIn t (suc n) slot mark ≡ freeIn t n (slot + 1) mark = free-more t n slot mark d a in omega (arith, found-within t n (slot + 1) mark (omega arith)))
 
 -- an empty slot s is filled
 module _ (t : List ℕ) (s v : ℕ) (empty : getD t s 0 ≡ 0) where
@@ -82,7 +79,7 @@ module _ (t : List ℕ) (s v : ℕ) (empty : getD t s 0 ≡ 0) where
   other slot d = getD-set-other t s slot v 0 (λ e. d (rw e empty))
 
   -- what was not to be found free is not free now
-  pub filled-keeps : (n slot mark : ℕ) → slot < 12288 → freeIn t n slot mark ≡ 12288 → freeIn (set t s v) n slot mark ≡ 12288
+  pub filled-keeps : (n slot mark : ℕ) → slot + n ≤ 12288 → freeIn t n slot mark ≡ 12288 → freeIn (set t s v) n slot mark ≡ 12288
   filled-keeps zero slot mark l e = free-none (set t s v) 0 slot mark (omega arith)
   filled-keeps (suc n) slot mark l e =
       slot-cases (getD t slot 0) mark
@@ -90,9 +87,9 @@ module _ (t : List ℕ) (s v : ℕ) (empty : getD t s 0 ≡ 0) where
       (λ d a. free-mark (set t s v) n slot mark (λ z. d (sym (other slot d) ∙ z)) (other slot d ∙ a))
       (λ d a.
       free-more (set t s v) n slot mark (λ z. d (sym (other slot d) ∙ z)) (λ z. a (sym (other slot d) ∙ z))
-      ∙ filled-keeps n ((slot + 1) % 12288) mark (next-slot slot) (sym (free-more t n slot mark d a) ∙ e))
+      ∙ filled-keeps n (slot + 1) mark (omega arith) (sym (free-more t n slot mark d a) ∙ e))
 
-pub slot-within : (many : Bool) (h : ℕ) → slotOf many h < 12288
+pub slot-within : (many : Bool) (h : ℕ) → slotOf many h + 256 ≤ 12288
 unfolding slotOf
 slot-within true h = omega arith
 slot-within false h = omega arith

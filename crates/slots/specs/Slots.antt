@@ -6,9 +6,9 @@ use mathlib.Core.List.{List}
 use lib.Dec.{eqb, leb}
 use lib.ListN.{getD, set}
 
--- the slot to look at first: a few numbers stay in the first 512 slots and those behind them, which are soon emptied
+-- the slot to look at first, with 255 more behind it; a few numbers stay in the first 512 slots and those behind them, which are soon emptied
 unfoldable pub slotOf : Bool → ℕ → ℕ
-slotOf many h = cond many (h % 12288) (h % 512)
+slotOf many h = cond many (h % 12032) (h % 512)
 
 -- the mark, which is not 0
 unfoldable pub markOf : ℕ → ℕ
@@ -18,7 +18,7 @@ markOf h = h / 1073741824 % 4294967295 + 1
 unfoldable pub freeIn : List ℕ → ℕ → ℕ → ℕ → ℕ
 freeIn t zero slot mark = 12288
 freeIn t (suc n) slot mark =
-    let more = freeIn t n ((slot + 1) % 12288) mark in
+    let more = freeIn t n (slot + 1) mark in
     cond (eqb (getD t slot 0) 0) slot (cond (eqb (getD t slot 0) mark) 12288 more)
 
 -- for a number: 256 slots

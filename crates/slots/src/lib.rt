@@ -1,12 +1,15 @@
 // A table of marks: which numbers were met. It answers "perhaps" where it cannot tell, and never "no" for a number that was met.
 ghost use mathlib.Core.Path.{_≡_};
-ghost use Prim.Native.Nat.{ℕ, _≤_, _<_};
+ghost use Prim.Native.Nat.{ℕ, _+_, _≤_};
 ghost use Rattle.slots.specs.Slots.{slotOf, markOf, freeIn, known, entered};
 
 // The slots of a table: 48 KiB.
 pub const SLOTS: usize = 12288;
 
-// So many of them are enough for a few numbers.
+// A number is looked for first in one of so many, so that those behind it are in the table too.
+const STARTS: usize = 12032;
+
+// So many are enough for a few numbers.
 const FEW: usize = 512;
 
 // How many slots are looked at for a number.
@@ -17,7 +20,7 @@ fn slot_of(many: bool, h: usize) -> usize
     ensures { λ r. ⌜ r ≡ slotOf many h ⌝ }
 {
     if many {
-        return h % SLOTS;
+        return h % STARTS;
     }
     h % FEW
 }
@@ -31,7 +34,7 @@ fn mark_of(h: usize) -> u32
 
 // The first empty slot, unless the mark is met before, or too many slots are filled: then no slot.
 fn free_slot(table: &[u32; SLOTS], from: usize, mark: u32) -> usize
-    requires { ⌜ from < 12288 ⌝ }
+    requires { ⌜ from + 256 ≤ 12288 ⌝ }
     ensures { λ r. ⌜ r ≡ freeIn (now (table .entry)) 256 from mark ⌝ }
 {
     let mut slot = from;
@@ -44,7 +47,7 @@ fn free_slot(table: &[u32; SLOTS], from: usize, mark: u32) -> usize
         if held == mark {
             return SLOTS;
         }
-        slot = (slot + 1) % SLOTS;
+        slot += 1;
         left -= 1;
     }
     SLOTS

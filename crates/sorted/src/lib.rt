@@ -105,8 +105,8 @@ fn pass(
     if n <= middle {
         return at;
     }
-    let y = names::name_at(store, area, wide(table[middle]));
-    if names::is_before(area, y.from, y.size, x.from, x.size) {
+    let entry = names::name_at(store, area, wide(table[middle]));
+    if names::is_before(area, entry.from, entry.size, x.from, x.size) {
         return middle + 1;
     }
     at

@@ -38,6 +38,11 @@ pub found-same : (st ar t : List ℕ) (n s : ℕ) → Respects (foundBy st ar t 
 unfolding Respects foundBy
 found-same st ar t n s x y e = rw (find-same st ar t n (x .bytes) (y .bytes) (same-bytes x y e), same-scope x y e)
 
+-- two names that are apart
+pub apart-at : (xs : List Name) (s b m e : ℕ) → Apart xs s b m e → (i j : ℕ) (x y : Name) (p q : List Name) → b ≤ i → i < m → i < j → j < e → drop i xs ≡ x ∷ p → drop j xs ≡ y ∷ q → x .scope ≡ s → sameBoth x y ≡ false
+unfolding Apart
+apart-at xs s b m e a = a
+
 -- no name yet
 pub apart-first : (xs : List Name) (s b e : ℕ) → Apart xs s b b e
 unfolding Apart

@@ -10,10 +10,10 @@ use Rattle.names.proofs.is_before.Statement.{statement}
 use Rattle.names.proofs.is_before.Tie as tie
 
 abbrev Inv-loop : tie.InvT-loop
-Inv-loop area a n b m i₀ i = (n ≡ m) × (lessName (part area a n) (part area b m) ≡ lessLeft area a b n i)
+Inv-loop area a n b m k₀ k = (n ≡ m) × (lessName (part area a n) (part area b m) ≡ lessLeft area a b n k)
 
 abbrev μ-loop : tie.MeasureT-loop
-μ-loop area a n b m i₀ i = n - i
+μ-loop area a n b m k₀ k = n - k
 
 returns : tie.Need-returns Inv-loop μ-loop
 returns c = sym (less-size _ _ _ _ _ (c .before .pre .0) (c .before .pre .1) (c .if1 .taken))
@@ -51,8 +51,8 @@ returns-2 c =
     let here = c .before .before .before .before .before .before .loop in
     sym (here .inv .1 ∙ less-stop _ _ _ _ _ (start .pre .0) (omega arith) (c .before .before .before .before .before .loop-test .taken) (c .before .before .if2 .taken))
 
-add-i : tie.Need-add-i Inv-loop μ-loop
-add-i c = omega arith
+add-k : tie.Need-add-k Inv-loop μ-loop
+add-k c = omega arith
 
 loop-less : tie.Need-loop-less Inv-loop μ-loop
 loop-less c = omega arith
@@ -83,7 +83,7 @@ is-before-spec =
     add-result-2
     shared-slice-read-result-2
     returns-2
-    add-i
+    add-k
     loop-less
     loop-again
     returns-3)

@@ -4,7 +4,8 @@ use Prim.Native.Nat.{_-_, _≤_, _<_}
 use mathlib.Core.Path.{_≡_, refl, sym, ap, _∙_}
 use native.Mathlib.Omega.{arith}
 use lib.ListN.{take}
-use Rattle.names.specs.Names.{names, firstSame}
+use Rattle.names.specs.Names.{names}
+use Rattle.naming.specs.Names.{firstSame}
 use Rattle.names.specs.Steps.{nameOf, namesAt, Counted}
 use Rattle.naming.specs.Scopes.{earlierOf}
 use Rattle.naming.proofs.Repeats.{first-over, first-end, first-hit, first-miss}

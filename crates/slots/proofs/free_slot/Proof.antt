@@ -8,7 +8,7 @@ use Rattle.slots.proofs.free_slot.Statement.{statement}
 use Rattle.slots.proofs.free_slot.Tie as tie
 
 abbrev Inv-loop : tie.InvT-loop
-Inv-loop table from mark slot₀ left₀ slot left = (slot < 12288) × (freeIn table 256 from mark ≡ freeIn table left slot mark)
+Inv-loop table from mark slot₀ left₀ slot left = (slot + left ≤ 12288) × (freeIn table 256 from mark ≡ freeIn table left slot mark)
 
 abbrev μ-loop : tie.MeasureT-loop
 μ-loop table from mark slot₀ left₀ slot left = left
