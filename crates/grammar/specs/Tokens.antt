@@ -3,7 +3,7 @@ use Prim.Native.Nat.{ℕ, zero, suc}
 use mathlib.Core.Bool.{Bool, false, cond, _||_}
 use mathlib.Core.List.{List, [], _∷_}
 use lib.ListN.{drop}
-use Rattle.text.specs.Bytes.{is}
+use Rattle.text.specs.Bytes.{is, underscore}
 use Rattle.gaps.specs.Gaps.{gap}
 use Rattle.words.specs.Words.{word}
 use Rattle.keywords.specs.Keywords.{starts, keyData, keyGlobal, keyLoop, keySave, keyStop}
@@ -23,7 +23,7 @@ unfoldable pub lexIn : Mode → List ℕ → Lexed
 lexIn m [] = lexed (nothing atEnd) 0
 lexIn m (b ∷ s) =
     let v = lexValue b s in
-    let rest = cond (is 95 b) (lexed tag (word (b ∷ s))) v in
+    let rest = cond (is underscore b) (lexed tag (word (b ∷ s))) v in
     cond (starts keyData (b ∷ s) || starts keyGlobal (b ∷ s) || starts keyStop (b ∷ s)) (lexed (nothing reservedWord) 0)
     (cond (starts keyLoop (b ∷ s)) (lexed loop 5)
     (cond (starts keySave (b ∷ s)) (lexed save (saveSize m (b ∷ s))) rest))
@@ -85,7 +85,7 @@ headAt (t ∷ ts) = t .at
 -- a tag starts with `_`
 unfoldable pub tagFirst : List ℕ → Bool
 tagFirst [] = false
-tagFirst (b ∷ s) = is 95 b
+tagFirst (b ∷ s) = is underscore b
 
 unfoldable pub tagAt : List ℕ → ℕ → Bool
 tagAt s o = tagFirst (drop o s)

@@ -42,4 +42,4 @@ reserved s = starts keyData s || starts keyGlobal s || starts keyLoop s || start
 
 -- a letter that none of the five starts with: not d, g, l, s in either case
 unfoldable pub isFreeLetter : ℕ → Bool
-isFreeLetter b = let c = lower b in leb 97 c && (leb c 122 && not (is 100 c || (is 103 c || (is 108 c || is 115 c))))
+isFreeLetter b = let c = lower b in leb 97 c && (leb c 122 && not (is (code "d") c || (is (code "g") c || (is (code "l") c || is (code "s") c))))

@@ -5,7 +5,7 @@ use mathlib.Core.Bool.{Bool, true, false, cond, _||_}
 use mathlib.Core.List.{List}
 use lib.Dec.{leb, eqb}
 use lib.ListN.{take, drop}
-use Rattle.text.specs.Bytes.{is, isDigit}
+use Rattle.text.specs.Bytes.{is, isDigit, plusSign, minusSign}
 use Rattle.numbers.specs.Parts.{parts}
 use Rattle.numbers.specs.Meaning.{meaning}
 use Rattle.numbers.specs.declared.Decimal.{Decimal}
@@ -55,7 +55,7 @@ kindOfNumber d = cond (d .uncertain) 15 14
 
 -- a number, or a bare value, starts with a digit or a sign
 unfoldable pub startsDecimal : ℕ → Bool
-startsDecimal b = isDigit b || (is 43 b || is 45 b)
+startsDecimal b = isDigit b || (is plusSign b || is minusSign b)
 
 -- As one number: a value's kind, which is below 32, and its length times 32; what is no value has no length
 

@@ -5,7 +5,7 @@ use mathlib.Core.Bool.{Bool, cond, _||_}
 use mathlib.Core.List.{List, [], _∷_}
 use mathlib.Core.Option.{Option, none, some}
 use lib.ListN.{take}
-use Rattle.text.specs.Bytes.{is}
+use Rattle.text.specs.Bytes.{is, doubleQuote, singleQuote, fullStop, semicolon, questionMark}
 use Rattle.words.specs.Words.{word, isOrdinary}
 use Rattle.keywords.specs.Keywords.{reserved}
 use Rattle.quotes.specs.Quotes.{quoted, field}
@@ -48,14 +48,14 @@ unfoldable pub lexValue : ℕ → List ℕ → Lexed
 lexValue b s =
     let whole = wordOr (lexed (value 10) (word (b ∷ s))) (b ∷ s) in
     let dot = wordOr (lexed (value 8) 1) (b ∷ s) in
-    let quote = closed 11 openQuote (quoted 39 s) in
-    let double = closed 12 openQuote (quoted 34 s) in
+    let quote = closed 11 openQuote (quoted singleQuote s) in
+    let double = closed 12 openQuote (quoted doubleQuote s) in
     let multi = closed 13 openField (field s) in
-    cond (is 46 b) dot
-    (cond (is 63 b) (lexed (value 9) 1)
-    (cond (is 39 b) quote
-    (cond (is 34 b) double
-    (cond (is 59 b) multi
+    cond (is fullStop b) dot
+    (cond (is questionMark b) (lexed (value 9) 1)
+    (cond (is singleQuote b) quote
+    (cond (is doubleQuote b) double
+    (cond (is semicolon b) multi
     (cond (isOrdinary b) whole (lexed (nothing noStart) 0))))))
 
 -- the value at the start of s, behind space and comments
