@@ -1,5 +1,5 @@
--- What is found where a value may stand: its kind and length, a number over a digit limit, or why there is none; and the same packed into one number.
--- Assumes nothing.
+-- What is found where a value may stand: its kind and length, a number over a digit limit, or why there is none; and
+-- the same packed into one number. Assumes nothing.
 use Prim.Native.Nat.{ℕ, _+_, _*_, _/_, _%_}
 use mathlib.Core.Bool.{Bool, true, false, cond, _||_}
 use mathlib.Core.List.{List}

@@ -1,4 +1,5 @@
--- What the pieces of the value finder answer, by first bytes; proofs/Pieces.antt has that together they answer foundAt. Assumes nothing.
+-- What the pieces of the value finder answer, by first bytes; proofs/Pieces.antt has that together they answer foundAt.
+-- Assumes nothing.
 use Prim.Native.Nat.{ℕ, suc, _+_, _-_}
 use mathlib.Core.Bool.{cond}
 use mathlib.Core.List.{List}

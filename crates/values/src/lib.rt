@@ -1,4 +1,4 @@
-// One way to find a value: by its first byte, its kind and length, or why none stands here. What a number means comes on top of it.
+// One way to find a value: by its first byte, its kind and length, or why none stands here; on top of it, what a number means.
 ghost use mathlib.Core.Path.{_≡_};
 ghost use mathlib.Core.Bool.{true, false};
 ghost use Prim.Native.Nat.{_-_, _≤_, _<_, _^_};
@@ -37,8 +37,9 @@ pub enum Value {
     Missing { why: Why },
 }
 
-// What is found is packed into one number, since one comes back from a call in a register, an enum through memory; `Found::of` takes it apart. A value
-// is its kind and its length times `KINDS`; what is no value has no length, and a number below `KINDS` says what it is.
+// What is found is packed into one number, since one comes back from a call in a register, an enum through memory;
+// `Found::of` takes it apart. A value is its kind and its length times `KINDS`; what is no value has no length, and a
+// number below `KINDS` says what it is.
 const KINDS: usize = 32;
 
 const AT_END: usize = 0;
@@ -197,8 +198,8 @@ fn pack_marked(s: &[u8], at: usize, b: u8) -> usize
     pack_bare(s, at)
 }
 
-// What stands at an offset where a value may, behind space and comments, packed for `Found::of`. The first byte tells most values, without making what
-// they mean. Lengths are stored in four bytes.
+// What stands at an offset where a value may, behind space and comments, packed for `Found::of`. The first byte tells
+// most values, without making what they mean. Lengths are stored in four bytes.
 pub fn pack_value(s: &[u8], at: usize) -> usize
     requires { ⌜ length (now s) < 2 ^ 32 ⌝ }
     ensures { λ r. ⌜ r ≡ packedAt (now (s .entry)) at ⌝ }
