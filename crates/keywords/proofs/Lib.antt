@@ -2,5 +2,4 @@ pub mod Keywords
 pub mod Shape
 pub mod Ended
 pub mod Starts
-pub mod Offsets
 pub mod Letters

@@ -12,7 +12,7 @@ use Rattle.gaps.specs.Gaps.{gap, gapEnd}
 use Rattle.gaps.proofs.Gaps.{gap-none}
 use Rattle.words.specs.Words.{word}
 use Rattle.keywords.specs.Keywords.{startsAt, keySave, keyData}
-use Rattle.keywords.proofs.Offsets.{starts-drop}
+use Rattle.keywords.proofs.Starts.{starts-at}
 use Rattle.values.specs.Values.{Class, lexed, block, loop, save, tag, value, overLimit, nothing}
 use Rattle.items.specs.declared.Item.{Item as Answered}
 use Rattle.items.specs.declared.Item.the-variants.{Loop, Single, Ragged, NoValue, NoItem, NoNames, Over}
@@ -111,7 +111,7 @@ block-taken alike-over e = absurd (false≢true e)
 pub block-item-steps : (s : List ℕ) (o : ℕ) → o < length s → gap (drop o s) ≡ 0 → startsAt keySave s o ≡ false → isDone (left none s o []) ≡ true
     → (isTaken (itemOf s o) ≡ true) × Steps s none o none (headAt (itemRest (itemOf s o))) (itemRecs (itemOf s o))
 block-item-steps s o h g e d =
-    let i : left none s o [] ≡ itemRun none [] (itemOf s o) = block-item s o [] g (plain (drop o s) (omega (arith, length-drop o s)) (sym (starts-drop keySave s o) ∙ e)) in
+    let i : left none s o [] ≡ itemRun none [] (itemOf s o) = block-item s o [] g (plain (drop o s) (omega (arith, length-drop o s)) (sym (starts-at keySave s o) ∙ e)) in
     let t : isTaken (itemOf s o) ≡ true = block-taken (item-alike (both s o (omega arith))) (rw i at d) in
     (t, steps s none o none _ _ d (i ∙ item-passes s o (omega arith) t .inBlock []))
 
