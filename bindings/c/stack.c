@@ -138,7 +138,7 @@ static int is_crowded(const char *name)
     size_t length = strlen(name);
     for (size_t i = 0; i < length + 2; i++)
         h = h % 4294967296u * 698769069u + (h / 4294967296u + (i < length ? (uint8_t)name[i] : 0));
-    return h % 12032 < 64;
+    return h % 12272 < 64;
 }
 
 static void tags(buffer *b, size_t count, int crowded)

@@ -138,5 +138,5 @@ fn is_crowded(name: &str) -> bool {
     let mix =
         |hash: u64, byte: u8| hash % (1 << 32) * 698_769_069 + ((hash >> 32) + u64::from(byte));
     let hash = name.bytes().chain([0, 0]).fold(0, mix);
-    hash % 12_032 < 64
+    hash % 12_272 < 64
 }

@@ -1,147 +1,102 @@
--- Laws of the table: what is noted stays known. Assumes nothing.
-use Prim.Native.Nat.{ℕ, zero, suc, _+_, _-_, _*_, _/_, _%_, _≤_, _<_}
-use mathlib.Core.Path.{_≡_, refl, sym, ap, ap₂, _∙_}
-use mathlib.Core.Bool.{Bool, true, false, cond, _&&_, true≢false}
-use mathlib.Core.List.{List, [], _∷_}
+-- Laws of the table: what is known stays known. Assumes nothing.
+use Prim.Native.Nat.{ℕ, zero, suc, _+_, _-_, _≤_, _<_}
+use mathlib.Core.Path.{_≡_, refl, sym, ap, _∙_}
+use mathlib.Core.Bool.{Bool, true, false, cond, _||_, true≢false}
+use mathlib.Core.List.{List}
 use native.Mathlib.Omega.{arith}
-use native.Mathlib.Nat.{mod-lt}
-use borrow.Author.Tests.{eqb-true, eqb-false, eq-eqb, ne-eqb, leb-true, leb-false, le-leb, lt-leb}
+use native.Mathlib.Numerals.{add-one}
+use borrow.Author.Tests.{eqb-true, eqb-false, eq-eqb, ne-eqb, leb-false, le-leb, lt-leb}
 use lib.Dec.{eqb, leb}
 use lib.ListN.{getD, set}
 use lib.Seq.{getD-set-other}
-use Rattle.slots.specs.Slots.{slotOf, markOf, freeIn, freeFor, known, entered}
+use Rattle.slots.specs.Slots.{slotOf, markOf, holdsIn, freeIn, known, entered}
 
--- one slot: empty, the mark, or another mark
-module _ (t : List ℕ) (n slot mark : ℕ) where
-  free-empty : getD t slot 0 ≡ 0 → freeIn t (suc n) slot mark ≡ slot
-  unfolding freeIn
-  free-empty e = rw e
-
-  free-mark : (getD t slot 0 ≡ 0 → ⊥) → getD t slot 0 ≡ mark → freeIn t (suc n) slot mark ≡ 12288
-  unfolding freeIn
-  free-mark d e = rw (ne-eqb (getD t slot 0) 0 d, eq-eqb (getD t slot 0) mark e)
-
-  free-more : (getD t slot 0 ≡ 0 → ⊥) → (getD t slot 0 ≡ mark → ⊥) → freeIn t (suc n) slot mark ≡ freeIn t n (slot + 1) mark
-  unfolding freeIn
-  free-more d e = rw (ne-eqb (getD t slot 0) 0 d, ne-eqb (getD t slot 0) mark e)
-
--- the same where n slots are left, and one is
-module _ (t : List ℕ) (slot mark : ℕ) where
-  pub left-empty : (n : ℕ) → 0 < n → getD t slot 0 ≡ 0 → freeIn t n slot mark ≡ slot
-  left-empty zero h e = absurd (omega arith)
-  left-empty (suc n) h e = free-empty t n slot mark e
-
-  pub left-mark : (n : ℕ) → 0 < n → (getD t slot 0 ≡ 0 → ⊥) → getD t slot 0 ≡ mark → freeIn t n slot mark ≡ 12288
-  left-mark zero h d e = absurd (omega arith)
-  left-mark (suc n) h d e = free-mark t n slot mark d e
-
-  pub left-more : (n : ℕ) → 0 < n → (getD t slot 0 ≡ 0 → ⊥) → (getD t slot 0 ≡ mark → ⊥) → freeIn t n slot mark ≡ freeIn t (n - 1) (slot + 1) mark
-  left-more zero h d e = absurd (omega arith)
-  left-more (suc n) h d e =
-      let m : suc n - 1 ≡ n = omega arith in
-      rw m (free-more t n slot mark d e)
-
-pub free-none : (t : List ℕ) (n slot mark : ℕ) → n ≤ 0 → freeIn t n slot mark ≡ 12288
-unfolding freeIn
-free-none t zero slot mark h = refl
-free-none t (suc n) slot mark h = absurd (omega arith)
-
--- the three cases of a slot
-slot-cases : (x mark : ℕ) {A : Type 0} → (x ≡ 0 → A) → ((x ≡ 0 → ⊥) → x ≡ mark → A) → ((x ≡ 0 → ⊥) → (x ≡ mark → ⊥) → A) → A
-slot-cases x mark {A} f g h = by (eqb x 0) refl (eqb x mark) refl
-  where
-    by : (a : Bool) → eqb x 0 ≡ a → (b : Bool) → eqb x mark ≡ b → A
-    by true p b q = f (eqb-true x 0 p)
-    by false p true q = g (eqb-false x 0 p) (eqb-true x mark q)
-    by false p false q = h (eqb-false x 0 p) (eqb-false x mark q)
-
--- a slot that is found is empty
-pub found-empty : (t : List ℕ) (n slot mark s : ℕ) → freeIn t n slot mark ≡ s → s < 12288 → getD t s 0 ≡ 0
-found-empty t zero slot mark s e h = let z : freeIn t 0 slot mark ≡ 12288 = free-none t 0 slot mark (omega arith) in absurd (omega arith)
-found-empty t (suc n) slot mark s e h =
-    slot-cases (getD t slot 0) mark
-    (λ a. let q : s ≡ slot = sym e ∙ free-empty t n slot mark a in rw q a)
-    (λ d a. let q : s ≡ 12288 = sym e ∙ free-mark t n slot mark d a in absurd (omega arith))
-    (λ d a. found-empty t n (slot + 1) mark s (sym (free-more t n slot mark d a) ∙ e) h)
-
--- no slot is found, or one of the table
-pub found-within : (t : List ℕ) (n slot mark : ℕ) → slot + n ≤ 12288 → freeIn t n slot mark ≤ 12288
-found-within t zero slot mark l = let z : freeIn t 0 slot mark ≡ 12288 = free-none t 0 slot mark (omega arith) in omega arith
-found-within t (suc n) slot mark l =
-    slot-cases (getD t slot 0) mark
-    (λ a. let q : freeIn t (suc n) slot mark ≡ slot = free-empty t n slot mark a in omega arith)
-    (λ d a. let q : freeIn t (suc n) slot mark ≡ 12288 = free-mark t n slot mark d a in omega arith)
-    (λ d a. let q : freeIn t (suc n) slot mark ≡ freeIn t n (slot + 1) mark = free-more t n slot mark d a in omega (arith, found-within t n (slot + 1) mark (omega arith)))
-
--- an empty slot s is filled
-module _ (t : List ℕ) (s v : ℕ) (empty : getD t s 0 ≡ 0) where
-  other : (slot : ℕ) → (getD t slot 0 ≡ 0 → ⊥) → getD (set t s v) slot 0 ≡ getD t slot 0
-  other slot d = getD-set-other t s slot v 0 (λ e. d (rw e empty))
-
-  -- what was not to be found free is not free now
-  pub filled-keeps : (n slot mark : ℕ) → slot + n ≤ 12288 → freeIn t n slot mark ≡ 12288 → freeIn (set t s v) n slot mark ≡ 12288
-  filled-keeps zero slot mark l e = free-none (set t s v) 0 slot mark (omega arith)
-  filled-keeps (suc n) slot mark l e =
-      slot-cases (getD t slot 0) mark
-      (λ a. let q : slot ≡ 12288 = sym (free-empty t n slot mark a) ∙ e in absurd (omega arith))
-      (λ d a. free-mark (set t s v) n slot mark (λ z. d (sym (other slot d) ∙ z)) (other slot d ∙ a))
-      (λ d a.
-      free-more (set t s v) n slot mark (λ z. d (sym (other slot d) ∙ z)) (λ z. a (sym (other slot d) ∙ z))
-      ∙ filled-keeps n (slot + 1) mark (omega arith) (sym (free-more t n slot mark d a) ∙ e))
-
-pub slot-within : (many : Bool) (h : ℕ) → slotOf many h + 256 ≤ 12288
+pub slot-within : (many : Bool) (h : ℕ) → slotOf many h + 16 ≤ 12288
 unfolding slotOf
 slot-within true h = omega arith
 slot-within false h = omega arith
 
-for-is : (t : List ℕ) (many : Bool) (h : ℕ) → freeFor t many h ≡ freeIn t 256 (slotOf many h) (markOf h)
-unfolding freeFor
-for-is t many h = refl
+mark-some : (h : ℕ) → markOf h ≡ 0 → ⊥
+unfolding markOf
+mark-some h e = omega arith
 
--- known is: no slot is found
-pub known-none : (t : List ℕ) (many : Bool) (h : ℕ) → known t many h ≡ true → freeFor t many h ≡ 12288
-unfolding known freeFor
-known-none t many h e =
-    let l : 12288 ≤ freeIn t 256 (slotOf many h) (markOf h) = leb-true 12288 (freeIn t 256 (slotOf many h) (markOf h)) e in
-    omega (arith, found-within t 256 (slotOf many h) (markOf h) (slot-within many h))
+-- one slot more that is looked at
+pub holds-none : (t : List ℕ) (slot mark : ℕ) → holdsIn t 0 slot mark ≡ false
+unfolding holdsIn
+holds-none t slot mark = refl
 
-pub unknown-some : (t : List ℕ) (many : Bool) (h : ℕ) → known t many h ≡ false → freeFor t many h < 12288
-unfolding known
-unknown-some t many h e = leb-false 12288 (freeFor t many h) e
+pub holds-next : (t : List ℕ) (i slot mark : ℕ) → holdsIn t (i + 1) slot mark ≡ (holdsIn t i slot mark || eqb (getD t (slot + i) 0) mark)
+unfolding holdsIn
+holds-next t i slot mark = rw add-one
 
-none-known : (t : List ℕ) (many : Bool) (h : ℕ) → freeFor t many h ≡ 12288 → known t many h ≡ true
-unfolding known
-none-known t many h e = le-leb 12288 (freeFor t many h) (omega arith)
+-- a slot that is empty, one that is not, none left
+pub free-here : (t : List ℕ) (n slot : ℕ) → 0 < n → getD t slot 0 ≡ 0 → freeIn t n slot ≡ slot
+unfolding freeIn
+free-here t zero slot h e = absurd (omega arith)
+free-here t (suc n) slot h e = rw e
 
--- noting a number that may have been met, and one that was not
-module _ (t : List ℕ) (many : Bool) (h m s a : ℕ) (is-mark : m ≡ markOf h) (is-first : a ≡ slotOf many h) (is-slot : s ≡ freeIn t 256 a m) where
-  found : s ≡ freeFor t many h
-  found = is-slot ∙ rw (is-first, is-mark) (sym (for-is t many h))
+pub free-more : (t : List ℕ) (n slot : ℕ) → 0 < n → (getD t slot 0 ≡ 0 → ⊥) → freeIn t n slot ≡ freeIn t (n - 1) (slot + 1)
+unfolding freeIn
+free-more t zero slot h d = absurd (omega arith)
+free-more t (suc n) slot h d =
+    let m : suc n - 1 ≡ n = omega arith in
+    rw (ne-eqb (getD t slot 0) 0 d, m)
 
-  pub known-is : leb 12288 s ≡ known t many h
-  unfolding known
-  known-is = rw found
+pub free-none : (t : List ℕ) (n slot : ℕ) → n ≤ 0 → freeIn t n slot ≡ 12288
+unfolding freeIn
+free-none t zero slot h = refl
+free-none t (suc n) slot h = absurd (omega arith)
 
-  pub note-met : 12288 ≤ s → (true ≡ known t many h) × (t ≡ entered t many h)
+-- a slot that is found is empty
+found-empty : (t : List ℕ) (n slot : ℕ) → freeIn t n slot < 12288 → getD t (freeIn t n slot) 0 ≡ 0
+unfolding freeIn
+found-empty t zero slot h = absurd (omega arith)
+found-empty t (suc n) slot h = by (eqb (getD t slot 0) 0) refl h (found-empty t n (slot + 1))
+  where
+    by : (b : Bool) → eqb (getD t slot 0) 0 ≡ b → cond b slot (freeIn t n (slot + 1)) < 12288 → (freeIn t n (slot + 1) < 12288 → getD t (freeIn t n (slot + 1)) 0 ≡ 0) →
+        getD t (cond b slot (freeIn t n (slot + 1))) 0 ≡ 0
+    by true e l f = eqb-true (getD t slot 0) 0 e
+    by false e l f = f l
+
+-- noting a number: no slot is free, or one is
+module _ (t : List ℕ) (many : Bool) (h s a : ℕ) (is-first : a ≡ slotOf many h) (is-slot : s ≡ freeIn t 16 a) where
+  found : s ≡ freeIn t 16 (slotOf many h)
+  found = is-slot ∙ rw is-first
+
+  pub note-full : 12288 ≤ s → t ≡ entered t many h
   unfolding entered
-  note-met l =
-      let k : known t many h ≡ true = unfold known in le-leb 12288 (freeFor t many h) (rw found at l) in
-      (sym k, rw k)
+  note-full l = rw (← found, le-leb 12288 s l)
 
-  pub note-new : s < 12288 → (false ≡ known t many h) × (set t s m ≡ entered t many h)
+  pub note-free : (m : ℕ) → m ≡ markOf h → s < 12288 → set t s m ≡ entered t many h
   unfolding entered
-  note-new l =
-      let k : known t many h ≡ false = unfold known in lt-leb 12288 (freeFor t many h) (rw found at l) in
-      (sym k, rw (k, found, is-mark))
+  note-free m e l = rw (← found, lt-leb 12288 s l, e)
+
+or-right : (a b : Bool) → b ≡ true → (a || b) ≡ true
+or-right true b e = refl
+or-right false b e = e
+
+-- an empty slot is filled: a mark that is held is held still
+holds-keeps : (t : List ℕ) (s v mark : ℕ) → getD t s 0 ≡ 0 → (mark ≡ 0 → ⊥) → (n slot : ℕ) → holdsIn t n slot mark ≡ true → holdsIn (set t s v) n slot mark ≡ true
+unfolding holdsIn
+holds-keeps t s v mark z d zero slot e = e
+holds-keeps t s v mark z d (suc n) slot e = by (holdsIn t n slot mark) refl (eqb (getD t (slot + n) 0) mark) refl e (holds-keeps t s v mark z d n slot)
+  where
+    by : (a : Bool) → holdsIn t n slot mark ≡ a → (b : Bool) → eqb (getD t (slot + n) 0) mark ≡ b → (a || b) ≡ true → (holdsIn t n slot mark ≡ true → holdsIn (set t s v) n slot mark ≡ true) →
+        (holdsIn (set t s v) n slot mark || eqb (getD (set t s v) (slot + n) 0) mark) ≡ true
+    by true p b q f g = rw (g p)
+    by false p false q f g = absurd (true≢false (sym f))
+    by false p true q f g =
+        let m : getD t (slot + n) 0 ≡ mark = eqb-true (getD t (slot + n) 0) mark q in
+        let o : getD (set t s v) (slot + n) 0 ≡ getD t (slot + n) 0 = getD-set-other t s (slot + n) v 0 (λ k. d (sym m ∙ rw k z)) in
+        or-right (holdsIn (set t s v) n slot mark) (eqb (getD (set t s v) (slot + n) 0) mark) (rw o q)
 
 -- what is known stays known
 pub entered-keeps : (t : List ℕ) (many : Bool) (h g : ℕ) → known t many g ≡ true → known (entered t many h) many g ≡ true
-unfolding entered
-entered-keeps t many h g e = by (known t many h) refl
+unfolding entered known
+entered-keeps t many h g e = by (leb 12288 (freeIn t 16 (slotOf many h))) refl
   where
-    by : (b : Bool) → known t many h ≡ b → known (cond b t (set t (freeFor t many h) (markOf h))) many g ≡ true
+    by : (b : Bool) → leb 12288 (freeIn t 16 (slotOf many h)) ≡ b → holdsIn (cond b t (set t (freeIn t 16 (slotOf many h)) (markOf h))) 16 (slotOf many g) (markOf g) ≡ true
     by true q = e
     by false q =
-        let l : freeFor t many h < 12288 = unknown-some t many h q in
-        let z : getD t (freeFor t many h) 0 ≡ 0 = found-empty t 256 (slotOf many h) (markOf h) (freeFor t many h) (sym (for-is t many h)) l in
-        none-known (set t (freeFor t many h) (markOf h)) many g (for-is _ many g ∙ filled-keeps t (freeFor t many h) (markOf h) z 256 (slotOf many g) (markOf g) (slot-within many g) (sym (for-is t many g) ∙ known-none t many g e))
+        let z : getD t (freeIn t 16 (slotOf many h)) 0 ≡ 0 = found-empty t 16 (slotOf many h) (leb-false 12288 (freeIn t 16 (slotOf many h)) q) in
+        holds-keeps t (freeIn t 16 (slotOf many h)) (markOf h) (markOf g) z (mark-some g) 16 (slotOf many g) e

@@ -20,7 +20,7 @@ use Rattle.names.proofs.Steps.{Meets, reached-next}
 use Rattle.sorted.specs.Found.{findIn}
 use Rattle.sorted.proofs.Found.{find-same}
 use Rattle.windows.specs.declared.Reach.{Reach}
-use Rattle.windows.specs.Windows.{markedBy, foundBy, metBy, enteredBy, lastAfter, Entering, Apart, AllMet, NoneMet, Walked, Owned, Passed, Windowed, Ran}
+use Rattle.windows.specs.Windows.{markedBy, foundBy, metBy, lastAfter, Entering, Apart, AllMet, NoneMet, Walked, Owned, Passed, Windowed, Ran}
 
 -- the heads of the same list are the same
 same-head : (l : List Name) (x y : Name) (r s : List Name) → l ≡ x ∷ r → l ≡ y ∷ s → x ≡ y
@@ -140,36 +140,28 @@ apart-one xs s b n x r here a f i j y z p q l o v w d c g = by (eqb j n) refl
         a i j y z p q l (omega arith) v (omega arith) d c g
 
 -- what is known stays known where a name is entered
-marked-keeps : (t : List ℕ) (many : Bool) (s : ℕ) (x y : Name) → markedBy t many s y ≡ true → markedBy (enteredBy t many s x) many s y ≡ true
-unfolding markedBy enteredBy
-marked-keeps t many s x y e = by (eqb (x .scope) s) (eqb (y .scope) s) e
+marked-keeps : (t : List ℕ) (many : Bool) (s h : ℕ) (y : Name) → markedBy t many s y ≡ true → markedBy (entered t many h) many s y ≡ true
+unfolding markedBy
+marked-keeps t many s h y e = by (eqb (y .scope) s) e
   where
-    by : (a b : Bool) → cond b (known t many (hashOf y)) false ≡ true → cond b (known (cond a (entered t many (hashOf x)) t) many (hashOf y)) false ≡ true
-    by true true h = entered-keeps t many (hashOf x) (hashOf y) h
-    by false true h = h
-    by true false h = h
-    by false false h = h
+    by : (b : Bool) → cond b (known t many (hashOf y)) false ≡ true → cond b (known (entered t many h) many (hashOf y)) false ≡ true
+    by true f = entered-keeps t many h (hashOf y) f
+    by false f = f
 
 -- a name of another scope, one that was met, and one that was not
 module _ (t : List ℕ) (many : Bool) (s : ℕ) (x : Name) where
   pub enter-other : (x .scope ≡ s → ⊥) → Entering t many s x false t
-  unfolding enteredBy markedBy
-  enter-other d = record { table = rw (ne-eqb (x .scope) s d); new = λ e. rw (ne-eqb (x .scope) s d); there = λ e f. absurd (d f) }
+  unfolding markedBy
+  enter-other d = record { keeps = λ y e. e; new = λ e. rw (ne-eqb (x .scope) s d); there = λ e f. absurd (d f) }
 
-  pub enter-met : (h : ℕ) (u : List ℕ) → x .scope ≡ s → h ≡ hashOf x → u ≡ entered t many h → Entering t many s x true u
-  unfolding enteredBy
-  enter-met h u c e v =
-      record {
-        table = v ∙ rw (eq-eqb (x .scope) s c, e);
-        new = λ f. absurd (true≢false f);
-        there = λ f g. absurd (true≢false f);
-      }
+  pub enter-met : Entering t many s x true t
+  enter-met = record { keeps = λ y e. e; new = λ f. absurd (true≢false f); there = λ f g. absurd (true≢false f) }
 
-  pub enter-new : (h : ℕ) (u : List ℕ) (a b r : Bool) → x .scope ≡ s → h ≡ hashOf x → u ≡ entered t many h → a ≡ known t many h → a ≡ false → b ≡ known u many h → (r ≡ false → b ≡ true) → Entering t many s x r u
-  unfolding enteredBy markedBy
-  enter-new h u a b r c e v k f w g =
+  pub enter-new : (h : ℕ) (u : List ℕ) (a b r : Bool) → x .scope ≡ s → h ≡ hashOf x → a ≡ known t many h → a ≡ false → u ≡ entered t many h → b ≡ known u many h → (r ≡ false → b ≡ true) → Entering t many s x r u
+  unfolding markedBy
+  enter-new h u a b r c e k f v w g =
       record {
-        table = v ∙ rw (eq-eqb (x .scope) s c, e);
+        keeps = λ y o. rw v (marked-keeps t many s h y o);
         new = λ o. rw (eq-eqb (x .scope) s c, ← e, ← k, f);
         there = λ o l. rw (eq-eqb (x .scope) s c, ← e, ← w, g o);
       }
@@ -228,7 +220,7 @@ pub owned-enter : (st ar : List ℕ) (many : Bool) (s : ℕ) (t u : List ℕ) (b
     Meets st ar h x after → Entering t many s (nameOf ar x) b u → b ≡ false → Owned st ar s (markedBy u many s) end from after
 owned-enter st ar many s t u b end from h x after o l m e f =
     owned-next st ar s (markedBy t many s) (markedBy u many s) end from h x after (marked-same t many s) o l m
-    (λ y k. rw (e .table) (marked-keeps t many s (nameOf ar x) y k))
+    (e .keeps)
     (e .new f)
     (e .there f)
 
@@ -237,7 +229,7 @@ pub owned-kept : (st ar : List ℕ) (many : Bool) (s : ℕ) (t u : List ℕ) (b 
 owned-kept st ar many s t u b x end from h o e =
     record {
       walked = o .walked;
-      all = all-up (names st ar) s (from .count) (h .count) (markedBy t many s) (markedBy u many s) (λ y k. rw (e .table) (marked-keeps t many s x y k)) (o .all);
+      all = all-up (names st ar) s (from .count) (h .count) (markedBy t many s) (markedBy u many s) (e .keeps) (o .all);
       apart = o .apart;
     }
 

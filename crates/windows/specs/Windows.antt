@@ -6,7 +6,7 @@ use mathlib.Core.Bool.{Bool, true, false, cond}
 use mathlib.Core.List.{List, [], _∷_}
 use lib.Dec.{eqb, leb, ltb}
 use lib.ListN.{drop}
-use Rattle.slots.specs.Slots.{known, entered}
+use Rattle.slots.specs.Slots.{known}
 use Rattle.names.specs.declared.Spot.{Spot}
 use Rattle.names.specs.Names.{Name, names, sameBoth}
 use Rattle.names.specs.Numbers.{hashOf}
@@ -25,13 +25,9 @@ foundBy st ar t n s x = cond (eqb (x .scope) s) (ltb 0 (findIn st ar t n (x .byt
 unfoldable pub metBy : List ℕ → List ℕ → List ℕ → Way → ℕ → Name → Bool
 metBy st ar t way s x = cond (way .sorted) (foundBy st ar t (way .count) s x) (markedBy t (way .many) s x)
 
--- the table of marks with a name of the scope
-unfoldable pub enteredBy : List ℕ → Bool → ℕ → Name → List ℕ
-enteredBy t many s x = cond (eqb (x .scope) s) (entered t many (hashOf x)) t
-
 -- a name is entered: what was known stays known, and where the answer is false, it was not known before, and is known then
 pub record Entering (t : List ℕ) (many : Bool) (s : ℕ) (x : Name) (r : Bool) (u : List ℕ) : Type 0 where
-  pub table : u ≡ enteredBy t many s x
+  pub keeps : (y : Name) → markedBy t many s y ≡ true → markedBy u many s y ≡ true
   pub new : r ≡ false → markedBy t many s x ≡ false
   pub there : r ≡ false → x .scope ≡ s → markedBy u many s x ≡ true
 

@@ -22,8 +22,11 @@ struct Reach {
     end: Spot,
 }
 
-// So many names are entered into a table of marks: two thirds of its slots.
-const ROOM: usize = 8192;
+// At most so many names are entered into a table of marks; where no slot is free for one, fewer.
+const ROOM: usize = 10240;
+
+// So many names are enough for a window by marks.
+const ENOUGH: usize = 4096;
 
 // Up to so many names are a few.
 const FEW: usize = 256;
@@ -90,9 +93,10 @@ fn enter(area: &[u8], table: &mut [u32; SLOTS], many: bool, scope: usize, x: Nam
         return false;
     }
     let h = names::hash_name(area, x);
-    if slots::note(table, many, h) {
+    if slots::is_known(table, many, h) {
         return true;
     }
+    slots::note(table, many, h);
     !slots::is_known(table, many, h)
 }
 
@@ -277,7 +281,21 @@ fn by_order(
     Reach { own, end: last }
 }
 
-// A window: by marks, and where a mark is met again before the end, by order.
+// Whether marks were enough for a window: no name was met again before the end, and not too few names are its own.
+fn is_enough(from: Spot, reach: Reach, end: usize) -> bool {
+    if reach.end.count < end {
+        return false;
+    }
+    if end <= reach.own.count {
+        return true;
+    }
+    if reach.own.count < from.count {
+        return false;
+    }
+    ENOUGH <= reach.own.count - from.count
+}
+
+// A window: by marks, and where they are not enough, by order.
 fn window(
     store: &[u8],
     area: &[u8],
@@ -291,7 +309,7 @@ fn window(
     ensures { λ r. ⌜ Windowed (now (store .entry)) (now (area .entry)) scope end from r ⌝ }
 {
     let reach = by_marks(store, area, table, many, scope, end, from);
-    if end <= reach.end.count {
+    if is_enough(from, reach, end) {
         return reach;
     }
     by_order(store, area, table, scope, end, from)
