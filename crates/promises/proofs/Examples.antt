@@ -1,4 +1,4 @@
--- Worked examples of the definitions that the theorems of this crate add, each proved by computing: a pair that is alike and one that is not. Assumes nothing.
+-- Worked examples of the definitions that the crates of theorems add, each proved by computing: a pair that is alike and one that is not. Assumes nothing.
 use Prim.Native.Nat.{ℕ, zero, suc, _<_}
 use Prim.Native.String.{String}
 use mathlib.Core.Bool.{true≢false, false≢true, Bool, true, false}
@@ -26,7 +26,7 @@ use Rattle.stores.specs.Soundness.{takes, filledFrom, filled, eachReadable, eac
 use Rattle.stores.specs.Soundness.{sound}
 use Rattle.rendering.specs.Rendering.{linesOf, rendering, limit as renderLimit, renderRoom, renderAnswer, renderOut}
 use Rattle.record_lines.specs.Lines.{decimalOf as renderedDecimal, tokenText as renderedText, isEnd, lineOf}
-use Rattle.promises.specs.Differences.{isMark, isQuoted, insideRec, insideRecs, Swap, same, digits, inside, Differ, DigitsDiffer, ContentsDiffer}
+use Rattle.hidden.specs.Differences.{isMark, isQuoted, insideRec, insideRecs, Swap, same, digits, inside, Differ, DigitsDiffer, ContentsDiffer}
 use Rattle.promises.specs.Readings.{bytes}
 use Rattle.promises.specs.Results.{renderedBytes, storeBytes, areaBytes, tokenIn}
 use Rattle.promises.specs.Sayings.{Bytes, Saying, says, nothing, contentIn, saying, sayings, SaySame}

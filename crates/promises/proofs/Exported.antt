@@ -19,11 +19,11 @@ use Rattle.grammar.specs.Machine.{Rec, done}
 use Rattle.grammar.specs.Reading.{outline}
 use Rattle.stores.specs.Soundness.{sound}
 use Rattle.rendering.specs.Rendering.{rendering, renderRoom, renderAnswer}
-use Rattle.promises.specs.Differences.{DigitsDiffer, ContentsDiffer}
+use Rattle.hidden.specs.Differences.{DigitsDiffer, ContentsDiffer}
 use Rattle.promises.specs.Results.{renderedBytes, storeBytes, areaBytes}
 use Rattle.promises.specs.Claims.{IsRead, Renderable}
 use Rattle.promises.specs.Exported.{textGiven, storeGiven, areaGiven, OutlinedAlike, ReadBack}
-use Rattle.promises.proofs.Outlined.{Same, digits-unseen, contents-unseen}
+use Rattle.hidden.proofs.Outlined.{Same, digits-unseen, contents-unseen}
 use Rattle.promises.proofs.ReadIsSound.{read-is-sound}
 use Rattle.promises.proofs.RoundTrip.{round-trip}
 

@@ -1,11 +1,3 @@
-pub mod Places
-pub mod ShapeTokens
-pub mod Veil
-pub mod VeilRead
-pub mod Swaps
-pub mod Kept
-pub mod Demand3
-pub mod Outlined
 pub mod Lines
 pub mod Lexing
 pub mod Taken

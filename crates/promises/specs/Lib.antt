@@ -1,5 +1,4 @@
 pub mod Claims
-pub mod Differences
 pub mod Exported
 pub mod Readings
 pub mod Results

@@ -22,14 +22,14 @@ use Rattle.numbers.specs.Parts.{Parts, parts, isNumber, within}
 use Rattle.numbers.proofs.Made.{all, others, number-made}
 use Rattle.values.specs.Values.{Class, block, loop, save, tag, value, overLimit, nothing, Reason, openQuote, openField, Lexed, lexed, numberOr, wordOr, closed, lexValue}
 use Rattle.grammar.specs.Tokens.{Mode, before, inBlock, inFrame, saveSize, lexIn, lex, after, Tok, emit, step, tokensFrom}
-use Rattle.promises.specs.Differences.{isMark, isQuoted}
-use Rattle.promises.proofs.Places.{take-map}
+use Rattle.hidden.specs.Differences.{isMark, isQuoted}
+use Rattle.hidden.proofs.Places.{take-map}
 use Rattle.text.proofs.Shape.{σ, flat, blind, eol-σ}
 use Rattle.gaps.proofs.Shape.{gap-σ, gapByte-σ}
 use Rattle.words.proofs.Shape.{word-σ, inWord-σ}
 use Rattle.quotes.proofs.Shape.{quoted-σ, field-σ}
 use Rattle.numbers.proofs.Shape.{ap-cond}
-use Rattle.promises.proofs.ShapeTokens.{numberOr-σ}
+use Rattle.hidden.proofs.ShapeTokens.{numberOr-σ}
 
 -- a byte with all but the marks washed out
 unfoldable pub μ : ℕ → ℕ

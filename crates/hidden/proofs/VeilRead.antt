@@ -13,9 +13,9 @@ use Rattle.text.proofs.Ranges.{digit-not}
 use Rattle.text.proofs.Bools.{and-l, and-r}
 use Rattle.values.specs.Values.{Class, Lexed}
 use Rattle.grammar.specs.Tokens.{Mode, lex, after, Tok, tok, emit, step, tokensFrom}
-use Rattle.promises.specs.Differences.{isMark}
+use Rattle.hidden.specs.Differences.{isMark}
 use Rattle.text.proofs.Shape.{σ, blind}
-use Rattle.promises.proofs.Veil.{μ, veiled, Byte, isZero, relEmit, relStep, Rel}
+use Rattle.hidden.proofs.Veil.{μ, veiled, Byte, isZero, relEmit, relStep, Rel}
 
 -- place i is inside the token, if that is a quoted value or a text field
 unfoldable pub insideTok : Tok → ℕ → Bool

@@ -14,7 +14,7 @@ use Rattle.numbers.specs.Parts.{parts}
 use Rattle.values.specs.Values.{Lexed, numberOr, wordOr, lexValue}
 use Rattle.grammar.specs.Tokens.{Mode, before, inBlock, inFrame, saveSize, lexIn, lex, step, tokensFrom, tokens}
 use Rattle.grammar.specs.Reading.{decided, outline}
-use Rattle.promises.proofs.Places.{take-map, placeAt-w}
+use Rattle.hidden.proofs.Places.{take-map, placeAt-w}
 use Rattle.text.proofs.Shape.{σ, blind, is-σ, span-σ}
 use Rattle.gaps.proofs.Shape.{gap-σ}
 use Rattle.words.proofs.Shape.{word-σ, ordinary-σ}

@@ -16,8 +16,8 @@ use Rattle.putting.specs.Written.{tokenOf, shaped, shapeIn, recordBytes}
 use Rattle.walking.specs.Writing.{tagsOf, storeOf}
 use Rattle.refusals.specs.Answers.{refusal}
 use Rattle.outlining.specs.Outlining.{outlineBy, outlineAnswer, outlineStoreBy, outlineStore}
-use Rattle.promises.specs.Differences.{insideRecs, DigitsDiffer, ContentsDiffer}
-use Rattle.promises.proofs.Demand3.{digits-hidden, contents-hidden, places-stay}
+use Rattle.hidden.specs.Differences.{insideRecs, DigitsDiffer, ContentsDiffer}
+use Rattle.hidden.proofs.Demand3.{digits-hidden, contents-hidden, places-stay}
 
 -- what the service gives for s and for t
 pub record Same (s t store : List ℕ) : Type 0 where

@@ -10,9 +10,9 @@ use lib.Dec.{leb, ltb, eqb}
 use Rattle.values.specs.Values.{Class, block, loop, save, tag, value, overLimit, nothing, atEnd, reservedWord, noStart, openQuote, openField}
 use Rattle.grammar.specs.Tokens.{Tok}
 use Rattle.grammar.specs.Machine.{Rec, refused, done, State, start, items, names, values, wants, Config, config, Outcome, go, stop, rec, loopEnd, closes, fails, atItem, loopEnds, atValue, noMoreNames, atName, atWant, atStart, move, follow, run}
-use Rattle.promises.specs.Differences.{isQuoted, insideRec, insideRecs}
-use Rattle.promises.proofs.Veil.{veiled}
-use Rattle.promises.proofs.VeilRead.{insideTok, insideAny, Either, left, right, either, or-split}
+use Rattle.hidden.specs.Differences.{isQuoted, insideRec, insideRecs}
+use Rattle.hidden.proofs.Veil.{veiled}
+use Rattle.hidden.proofs.VeilRead.{insideTok, insideAny, Either, left, right, either, or-split}
 
 module _ (i : ℕ) (t : Tok) where
   -- from `a`, what was there before, or from the token

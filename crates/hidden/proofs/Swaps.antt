@@ -9,10 +9,10 @@ use lib.ListN.{length, getD}
 use Rattle.text.specs.Bytes.{isAscii, isDigit}
 use Rattle.text.specs.Runs.{span}
 use Rattle.text.proofs.Ranges.{digit-is}
-use Rattle.promises.specs.Differences.{isMark, Swap, same, digits, inside, Differ}
+use Rattle.hidden.specs.Differences.{isMark, Swap, same, digits, inside, Differ}
 use Rattle.text.proofs.Shape.{σ}
-use Rattle.promises.proofs.Veil.{μ}
-use Rattle.promises.proofs.VeilRead.{Close, same as alike, washed, Rest}
+use Rattle.hidden.proofs.Veil.{μ}
+use Rattle.hidden.proofs.VeilRead.{Close, same as alike, washed, Rest}
 
 close-of : {I : Type 0} {a b : ℕ} → Swap I a b → Close I a b
 unfolding σ μ

@@ -19,13 +19,13 @@ use Rattle.grammar.specs.Tokens.{before, tokens}
 use Rattle.grammar.specs.Machine.{Rec, refused, done, config, start}
 use Rattle.grammar.specs.Reading.{decided, outline}
 use Rattle.text.specs.Limits.{limit}
-use Rattle.promises.specs.Differences.{insideRecs, Differ, DigitsDiffer, ContentsDiffer}
-use Rattle.promises.proofs.Places.{placeAt-w}
-use Rattle.promises.proofs.ShapeTokens.{outline-σ}
-use Rattle.promises.proofs.Veil.{μ, μ-10, μ-13, tokens-veil}
-use Rattle.promises.proofs.VeilRead.{Close, same, washed, σ-μ, map-close, left, either, Rest, Allowed, rel-of, all-same}
-use Rattle.promises.proofs.Swaps.{rest-of, ascii-stays}
-use Rattle.promises.proofs.Kept.{run-kept}
+use Rattle.hidden.specs.Differences.{insideRecs, Differ, DigitsDiffer, ContentsDiffer}
+use Rattle.hidden.proofs.Places.{placeAt-w}
+use Rattle.hidden.proofs.ShapeTokens.{outline-σ}
+use Rattle.hidden.proofs.Veil.{μ, μ-10, μ-13, tokens-veil}
+use Rattle.hidden.proofs.VeilRead.{Close, same, washed, σ-μ, map-close, left, either, Rest, Allowed, rel-of, all-same}
+use Rattle.hidden.proofs.Swaps.{rest-of, ascii-stays}
+use Rattle.hidden.proofs.Kept.{run-kept}
 
 pub digits-hidden : (s t : List ℕ) → DigitsDiffer s t → outline s ≡ outline t
 unfolding DigitsDiffer
