@@ -17,7 +17,6 @@ pub mod Contents
 pub mod Refusals
 pub mod ReadIsSound
 pub mod NumbersRead
-pub mod Readings
 pub mod Examples
 pub mod OneOutcome
 pub mod Exported

@@ -1,5 +1,4 @@
 pub mod Claims
 pub mod Exported
-pub mod Readings
 pub mod Results
 pub mod Sayings

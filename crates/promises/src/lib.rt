@@ -1,1 +1,1 @@
-// What holds across the crates: demand 3, the round trip and 01's readings. Theorems only.
+// What holds across the crates: that what Read writes is sound, the round trip, and both of the exported functions. Theorems only.

@@ -24,7 +24,7 @@ use Rattle.walking.specs.Writing.{areaOf}
 use Rattle.putting.specs.Written.{contentOf}
 use Rattle.reading.specs.Services.{readRoom, readBy, readAnswer}
 use Rattle.refusals.specs.Answers.{refusal}
-use Rattle.promises.specs.Readings.{bytes, rowOf, seen, asked, reads, means, done-with, decimal, whole, readings, ReadingsHold}
+use Rattle.readings.specs.Readings.{bytes, rowOf, seen, asked, reads, means, done-with, decimal, whole, readings, ReadingsHold}
 
 -- one name for all that a reading computes with: to unfold it is to unfold whatever its line names
 unfoldable pub opened : ℕ
