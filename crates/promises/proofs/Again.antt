@@ -17,7 +17,7 @@ use Rattle.keywords.specs.Keywords.{lower, starts, keyData, keyGlobal, keyLoop,
 use Rattle.quotes.specs.Quotes.{more, quoted, fieldIn, field}
 use Rattle.numbers.specs.Parts.{parts, isNumber, within}
 use Rattle.values.specs.Values.{Class, Reason, value, overLimit, nothing, atEnd, reservedWord, noStart, openQuote, openField, Lexed, lexed, numberOr, wordOr, closed, lexValue, lexAsValue}
-use Rattle.promises.proofs.Lexing.{never}
+use Rattle.written.proofs.Lexing.{never}
 
 -- words
 pub span-again : (p : ℕ → Bool) (s : List ℕ) → span p (take (span p s) s) ≡ span p s

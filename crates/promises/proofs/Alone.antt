@@ -1,7 +1,7 @@
 -- The tokens that a sound store renders to. Proved: the token of each record, by itself, is read whole as its kind (reads-tag, reads-name, reads-loop, reads-open,
 -- reads-shut, reads-value, heads), and is ASCII (token-ascii). Assumes nothing.
 use Prim.Native.Nat.{ℕ, zero, suc, _+_, _-_, _^_, _≤_, _<_}
-use mathlib.Core.Bool.{true≢false, false≢true, Bool, true, false, cond, _&&_, _||_}
+use mathlib.Core.Bool.{true≢false, false≢true, Bool, true, false, cond, _||_}
 use mathlib.Core.Path.{_≡_, refl, sym, ap, _∙_}
 use mathlib.Core.List.{List, [], _∷_, _++_}
 use native.Mathlib.Omega.{arith}
@@ -36,8 +36,8 @@ use Rattle.contents.specs.Contents.{isName, readableBy, readable, exponentKept,
 use Rattle.contents.proofs.Kept.{content-length, content-size, rule-read, own-lies, own-inside, own-parts}
 use Rattle.values.specs.Alone.{isKind, isAlone}
 use Rattle.record_lines.specs.Lines.{decimalOf, tokenText}
-use Rattle.promises.proofs.Lexing.{in-any-mode, key-word, plainKey, keyTag}
-use Rattle.promises.proofs.Lines.{modeOf}
+use Rattle.written.proofs.Runs.{span-all}
+use Rattle.written.proofs.Lexing.{modeOf, in-any-mode, key-word, plainKey, keyTag}
 use Rattle.promises.proofs.NumberLex.{number-whole}
 use Rattle.promises.proofs.Trip.{Reads}
 
@@ -193,20 +193,6 @@ pub all-append : (p : ℕ → Bool) (x y : List ℕ) → all p x ≡ true → al
 unfolding all
 all-append p [] y h g = g
 all-append p (b ∷ x) y h g = rw (and-l (p b) (all p x) h) (all-append p x y (and-r (p b) (all p x) h) g)
-
-pub all-span : (p : ℕ → Bool) (w : List ℕ) → all p w ≡ true → span p w ≡ length w
-unfolding all span
-all-span p [] e = refl
-all-span p (b ∷ w) e = rw (and-l (p b) (all p w) e) (ap suc (all-span p w (and-r (p b) (all p w) e)))
-
-pub span-all : (p : ℕ → Bool) (w : List ℕ) → span p w ≡ length w → all p w ≡ true
-unfolding all span
-span-all p [] e = refl
-span-all p (b ∷ w) e = by (p b) e (span-all p w)
-  where
-    by : (t : Bool) → cond t (suc (span p w)) 0 ≡ suc (length w) → (span p w ≡ length w → all p w ≡ true) → (t && all p w) ≡ true
-    by true q r = r (omega arith)
-    by false q r = absurd (omega arith)
 
 number-ascii : (d : Decimal) → all isAscii (renderNumber d) ≡ true
 unfolding all others isAscii

@@ -35,12 +35,11 @@ use Rattle.grammar.specs.Tokens.{inBlock, inFrame, lex}
 use Rattle.grammar.specs.Machine.{Rec, loopEnd}
 use Rattle.sizes.specs.Sizes.{contentSize}
 use Rattle.putting.specs.Written.{contentOf}
-use Rattle.promises.proofs.Lines.{modeOf}
-use Rattle.promises.proofs.Lexing.{never, Worded, keyTag, heading-word, opening-word, tag-word, plainKey, key-word}
-use Rattle.promises.proofs.Taken.{Took, Outline}
-use Rattle.promises.proofs.Sources.{Source, of-heading, of-opening, of-closing, of-tag, of-loop, of-name, of-end, of-value, value-reads}
-use Rattle.promises.proofs.Written.{kind-back}
-use Rattle.promises.proofs.Alone.{all-span, span-all}
+use Rattle.written.proofs.Runs.{all-span, span-all}
+use Rattle.written.proofs.Lexing.{modeOf, never, Worded, keyTag, heading-word, opening-word, tag-word, plainKey, key-word}
+use Rattle.written.proofs.Taken.{Took, Outline}
+use Rattle.written.proofs.Sources.{Source, of-heading, of-opening, of-closing, of-tag, of-loop, of-name, of-end, of-value, value-reads}
+use Rattle.written.proofs.Written.{kind-back}
 use Rattle.promises.proofs.Again.{word-again, alone-again}
 
 -- The content of a token of kind k that has so many bytes at an offset

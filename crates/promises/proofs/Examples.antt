@@ -28,8 +28,9 @@ use Rattle.rendering.specs.Rendering.{linesOf, rendering, limit as renderLimit,
 use Rattle.record_lines.specs.Lines.{decimalOf as renderedDecimal, tokenText as renderedText, isEnd, lineOf}
 use Rattle.hidden.specs.Differences.{isMark, isQuoted, insideRec, insideRecs, Swap, same, digits, inside, Differ, DigitsDiffer, ContentsDiffer}
 use Rattle.readings.specs.Readings.{bytes}
-use Rattle.promises.specs.Results.{renderedBytes, storeBytes, areaBytes, tokenIn}
-use Rattle.promises.specs.Sayings.{Bytes, Saying, says, nothing, contentIn, saying, sayings, SaySame}
+use Rattle.written.specs.Results.{storeBytes, areaBytes}
+use Rattle.promises.specs.Claims.{renderedBytes, tokenIn}
+use Rattle.written.specs.Sayings.{Bytes, Saying, says, nothing, contentIn, saying, sayings, SaySame}
 use Rattle.readings.proofs.Readings.{opened}
 
 -- What Read writes of a text, into a store of 80 and an area of 4 bytes that held nothing but 7

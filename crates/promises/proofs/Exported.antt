@@ -20,8 +20,8 @@ use Rattle.grammar.specs.Reading.{outline}
 use Rattle.stores.specs.Soundness.{sound}
 use Rattle.rendering.specs.Rendering.{rendering, renderRoom, renderAnswer}
 use Rattle.hidden.specs.Differences.{DigitsDiffer, ContentsDiffer}
-use Rattle.promises.specs.Results.{renderedBytes, storeBytes, areaBytes}
-use Rattle.promises.specs.Claims.{IsRead, Renderable}
+use Rattle.written.specs.Results.{storeBytes, areaBytes}
+use Rattle.promises.specs.Claims.{IsRead, renderedBytes, Renderable}
 use Rattle.promises.specs.Exported.{textGiven, storeGiven, areaGiven, OutlinedAlike, ReadBack}
 use Rattle.hidden.proofs.Outlined.{Same, digits-unseen, contents-unseen}
 use Rattle.promises.proofs.ReadIsSound.{read-is-sound}

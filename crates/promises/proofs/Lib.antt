@@ -1,10 +1,4 @@
 pub mod Lines
-pub mod Lexing
-pub mod Taken
-pub mod Sources
-pub mod Written
-pub mod Told
-pub mod Reading
 pub mod Trip
 pub mod NumberLex
 pub mod Alone
@@ -14,7 +8,6 @@ pub mod RoundTrip
 pub mod Walks
 pub mod Again
 pub mod Contents
-pub mod Refusals
 pub mod ReadIsSound
 pub mod NumbersRead
 pub mod Examples

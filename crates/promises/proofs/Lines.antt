@@ -1,10 +1,9 @@
 -- A store's records as lines: of each its kind and the bytes of its token; a loop's end has no token. What the lines render to, and the records of that rendering, in
 -- the form in which the machine meets them. Assumes nothing.
 use Prim.Native.Nat.{ℕ, suc, _+_}
-use mathlib.Core.Bool.{Bool, true, false}
+use mathlib.Core.Bool.{Bool}
 use mathlib.Core.List.{List, [], _∷_, _++_}
 use lib.ListN.{length}
-use Rattle.grammar.specs.Tokens.{Mode, inBlock, inFrame}
 use Rattle.grammar.specs.Machine.{Rec, loopEnd}
 
 pub data Line : Type 0 where
@@ -22,11 +21,6 @@ unfoldable pub recsAt : ℕ → List Line → List Rec
 recsAt o [] = []
 recsAt o (line k w ∷ es) = record { kind = k; at = o; size = length w } ∷ recsAt (suc (o + length w)) es
 recsAt o (ending ∷ es) = loopEnd ∷ recsAt o es
-
--- in a frame or not
-unfoldable pub modeOf : Bool → Mode
-modeOf true = inFrame
-modeOf false = inBlock
 
 -- where in the nesting: between items (the flag: a loop without rows stands just before); behind n names of a loop; behind n names and k values; behind a tag
 pub data Where : Type 0 where

@@ -45,14 +45,14 @@ use Rattle.entries.specs.Walk.{entries}
 use Rattle.nesting.specs.Nesting.{isValueKind}
 use Rattle.stores.specs.Content.{nth}
 use Rattle.record_lines.specs.Lines.{decimalOf}
-use Rattle.promises.specs.Results.{storeBytes, tokenIn}
-use Rattle.promises.specs.Claims.{IsRead, IsNumber, SaysNumeric}
-use Rattle.promises.proofs.Lexing.{never, NumberWord}
-use Rattle.promises.proofs.Taken.{Read, Outline, outline-taken}
-use Rattle.promises.proofs.Sources.{Each, none, also, sources, Source, of-heading, of-opening, of-closing, of-tag, of-loop, of-name, of-end, of-value, value-reads, Facts, facts}
-use Rattle.promises.proofs.Written.{fieldsIn, entryOf, written, Only, only-kind, bounded, kind-back, written-back}
-use Rattle.promises.proofs.Reading.{Reads, reads}
-use Rattle.promises.proofs.Refusals.{Done, read-done}
+use Rattle.written.specs.Results.{storeBytes}
+use Rattle.promises.specs.Claims.{IsRead, tokenIn, IsNumber, SaysNumeric}
+use Rattle.written.proofs.Lexing.{never, NumberWord}
+use Rattle.written.proofs.Taken.{Read, Outline, outline-taken}
+use Rattle.written.proofs.Sources.{Each, none, also, sources, Source, of-heading, of-opening, of-closing, of-tag, of-loop, of-name, of-end, of-value, value-reads, Facts, facts}
+use Rattle.written.proofs.Written.{fieldsIn, entryOf, written, Only, only-kind, bounded, kind-back, written-back}
+use Rattle.written.proofs.Reading.{Reads, reads}
+use Rattle.written.proofs.Refusals.{Done, read-done}
 
 -- A value that is no number: its token is none
 

@@ -26,14 +26,14 @@ use Rattle.putting.specs.Written.{tokenOf, contentOf, decimalOf}
 use Rattle.contents.specs.Contents.{readable, exponentKept, partsKept, contentLength, ownRule, contentBytes, lies, isInside, isReadable}
 use Rattle.stores.specs.Soundness.{takes, filledFrom, filled, sound, follows, kept}
 use Rattle.stores.proofs.Filling.{filled-record, filled-none}
-use Rattle.promises.specs.Results.{storeBytes, areaBytes}
+use Rattle.written.specs.Results.{storeBytes, areaBytes}
 use Rattle.promises.specs.Claims.{IsRead}
-use Rattle.promises.proofs.Taken.{Read, Outline, outline-taken}
-use Rattle.promises.proofs.Sources.{Each, none, also, sources, Source, Facts, facts}
-use Rattle.promises.proofs.Written.{fieldsIn, entryOf, written, Only, only-kind, bounded, written-back}
-use Rattle.promises.proofs.Told.{content-length}
-use Rattle.promises.proofs.Reading.{Reads, reads}
-use Rattle.promises.proofs.Refusals.{Done, read-done}
+use Rattle.written.proofs.Taken.{Read, Outline, outline-taken}
+use Rattle.written.proofs.Sources.{Each, none, also, sources, Source, Facts, facts}
+use Rattle.written.proofs.Written.{fieldsIn, entryOf, written, Only, only-kind, bounded, written-back}
+use Rattle.written.proofs.Told.{content-length}
+use Rattle.written.proofs.Reading.{Reads, reads}
+use Rattle.written.proofs.Refusals.{Done, read-done}
 use Rattle.promises.proofs.Walks.{nested-written}
 use Rattle.promises.proofs.Contents.{Content, content-read, parts-kept}
 

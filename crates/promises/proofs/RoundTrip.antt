@@ -45,15 +45,17 @@ use Rattle.stores.specs.Soundness.{filled}
 use Rattle.stores.specs.Soundness.{sound}
 use Rattle.rendering.specs.Rendering.{linesOf, rendering, limit as renderLimit, renderRoom, renderAnswer, renderOut}
 use Rattle.record_lines.specs.Lines.{isEnd, tokenText}
-use Rattle.promises.specs.Sayings.{Bytes, saying, sayings, SaySame}
-use Rattle.promises.specs.Results.{renderedBytes, storeBytes, areaBytes}
-use Rattle.promises.specs.Claims.{Renderable, RoundTrip}
-use Rattle.promises.proofs.Reading.{Reads, reads}
-use Rattle.promises.proofs.Lines.{Line, line, ending, render, recsAt, modeOf, at-items}
-use Rattle.promises.proofs.Taken.{outline-taken}
-use Rattle.promises.proofs.Told.{told, sayings-told}
+use Rattle.written.specs.Sayings.{Bytes, saying, sayings, SaySame}
+use Rattle.written.specs.Results.{storeBytes, areaBytes}
+use Rattle.promises.specs.Claims.{renderedBytes, Renderable, RoundTrip}
+use Rattle.written.proofs.Runs.{all-span}
+use Rattle.written.proofs.Lexing.{modeOf}
+use Rattle.written.proofs.Reading.{Reads, reads}
+use Rattle.promises.proofs.Lines.{Line, line, ending, render, recsAt, at-items}
+use Rattle.written.proofs.Taken.{outline-taken}
+use Rattle.written.proofs.Told.{told, sayings-told}
 use Rattle.promises.proofs.Trip.{Nested, trip, stateOf, frameOf, Held}
-use Rattle.promises.proofs.Alone.{Fine, wordFor, by-kind, all-span}
+use Rattle.promises.proofs.Alone.{Fine, wordFor, by-kind}
 use Rattle.promises.proofs.Nests.{standing-all, Filled, full, more, filled-by, lineFor, linesFor, of-number, render-lines, lines-ascii, nested-lines}
 use Rattle.promises.proofs.Same.{all-same, store-same, area-same}
 

@@ -32,9 +32,9 @@ use Rattle.putting.specs.Written.{tokenText as textOf, contentOf, decimalOf as 
 use Rattle.contents.specs.Contents.{partsKept, contentLength, contentBytes}
 use Rattle.stores.specs.Soundness.{takes}
 use Rattle.record_lines.specs.Lines.{decimalOf, tokenText, isEnd}
-use Rattle.promises.specs.Sayings.{Saying, says, contentIn, saying}
+use Rattle.written.specs.Sayings.{Saying, says, contentIn, saying}
 use Rattle.promises.proofs.Lines.{Line, line, ending, render, recsAt}
-use Rattle.promises.proofs.Told.{partsIn, told}
+use Rattle.written.proofs.Told.{partsIn, told}
 use Rattle.promises.proofs.Alone.{hasParts, Stored, Fine, number-kept, wordFor}
 use Rattle.promises.proofs.Nests.{Filled, full, more, lineFor, linesFor, number-kind}
 

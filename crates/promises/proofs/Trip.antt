@@ -12,7 +12,8 @@ use Rattle.values.specs.Values.{Class, loop, save, tag, value, nothing, atEnd, 
 use Rattle.grammar.specs.Tokens.{inBlock, inFrame, lexIn, lex, after, Tok, tok, tokensFrom}
 use Rattle.grammar.specs.Machine.{Rec, done, State, items, names, values, wants, config, rec, loopEnd, atItem, loopEnds, atValue, noMoreNames, atName, atWant, move, follow, run}
 use Rattle.grammar.proofs.Advance.{Whole, advance}
-use Rattle.promises.proofs.Lines.{Line, line, ending, render, recsAt, modeOf, Where, at-items, at-names, at-values, at-value}
+use Rattle.written.proofs.Lexing.{modeOf}
+use Rattle.promises.proofs.Lines.{Line, line, ending, render, recsAt, Where, at-items, at-names, at-values, at-value}
 
 -- w alone is read whole, as a token of this class
 unfoldable pub Reads : Bool → List ℕ → Class → Type 0

@@ -21,10 +21,10 @@ use Rattle.nesting.specs.declared.Stand.the-variants.{Stands, Falls}
 use Rattle.nesting.specs.declared.Where.{Where}
 use Rattle.nesting.specs.declared.Where.the-variants.{Start, Items, Names, Values, Wants}
 use Rattle.nesting.specs.Nesting.{isValueKind, opensLoop, atItems, afterName, atNames, atValues, standing, ended, follow, nestedFrom, nested}
-use Rattle.promises.proofs.Lines.{modeOf}
-use Rattle.promises.proofs.Taken.{Took, Tags, opens, named, Rows, first, next, Taken, heading, single, rows, no-rows, opened, shut, Read, Outline}
-use Rattle.promises.proofs.Sources.{Each, none, also, each-map, sources, value-reads, Facts, facts}
-use Rattle.promises.proofs.Written.{fieldsIn, entryOf, written, kind-back}
+use Rattle.written.proofs.Lexing.{modeOf}
+use Rattle.written.proofs.Taken.{Took, Tags, opens, named, Rows, first, next, Taken, heading, single, rows, no-rows, opened, shut, Read, Outline}
+use Rattle.written.proofs.Sources.{Each, none, also, each-map, sources, value-reads, Facts, facts}
+use Rattle.written.proofs.Written.{fieldsIn, entryOf, written, kind-back}
 
 -- records nested, by their kinds; a loop counts the tags that stand directly behind it
 unfoldable nestRecs : List Rec → Bool → Where → Bool

@@ -4,7 +4,7 @@ use Prim.Native.Nat.{ℕ, _≤_}
 use mathlib.Core.Path.{_≡_}
 use mathlib.Core.Bool.{Bool, true, cond}
 use mathlib.Core.List.{List}
-use lib.ListN.{length}
+use lib.ListN.{length, take, drop}
 use Rattle.places.specs.Reports.{success}
 use Rattle.numbers.specs.Cif.{cifMeaning}
 use Rattle.kinds.specs.declared.Kind.{Kind}
@@ -13,10 +13,10 @@ use Rattle.kinds.specs.Kinds.{numberOf}
 use Rattle.entries.specs.declared.Fields.{Fields}
 use Rattle.reading.specs.Services.{readAnswer}
 use Rattle.stores.specs.Soundness.{sound}
-use Rattle.rendering.specs.Rendering.{rendering, renderAnswer}
+use Rattle.rendering.specs.Rendering.{rendering, renderAnswer, renderOut}
 use Rattle.record_lines.specs.Lines.{decimalOf}
-use Rattle.promises.specs.Results.{renderedBytes, storeBytes, areaBytes}
-use Rattle.promises.specs.Sayings.{Bytes, SaySame}
+use Rattle.written.specs.Results.{storeBytes, areaBytes}
+use Rattle.written.specs.Sayings.{Bytes, SaySame}
 
 -- Read of the text s, to a lent store and a lent area, is done
 unfoldable pub IsRead : (s store area : List ℕ) → Type 0
@@ -32,11 +32,19 @@ pub record Renderable (st ar text store area : List ℕ) : Type 0 where
   pub store-room : length st ≤ length store
   pub area-room : length ar ≤ length area
 
+-- what Render leaves in the lent text, of the store st and the area ar: the bytes that it counts
+unfoldable pub renderedBytes : (st ar text : List ℕ) → List ℕ
+renderedBytes st ar text = take (renderAnswer st ar (length text) .first) (renderOut st ar text)
+
 -- Render to the lent text, then Read of what it wrote, to the lent store and area
 pub record RoundTrip (st ar text store area : List ℕ) : Type 0 where
   pub rendered : renderAnswer st ar (length text) ≡ success (length (rendering st ar)) 0
   pub read : readAnswer (renderedBytes st ar text) (length store) (length area) ≡ success (length st) (length ar)
   pub same : SaySame (storeBytes (renderedBytes st ar text) store area) (areaBytes (renderedBytes st ar text) store area) st ar
+
+-- the bytes of the token that a record of the text s tells of
+unfoldable pub tokenIn : List ℕ → Fields → List ℕ
+tokenIn s f = take (f .token .length) (drop (f .token .offset) s)
 
 -- the kinds of numbers
 unfoldable pub IsNumber : Kind → Type 0

@@ -10,7 +10,7 @@ use Rattle.chuntarek.specs.Answers.{readGives, outlineGives, renderGives}
 use Rattle.reading.specs.Services.{readStore, readArea}
 use Rattle.outlining.specs.Outlining.{outlineStore}
 use Rattle.rendering.specs.Rendering.{rendering, renderOut}
-use Rattle.promises.specs.Sayings.{SaySame}
+use Rattle.written.specs.Sayings.{SaySame}
 
 -- chuntarek_render's text, of the store st and the area ar
 unfoldable pub textGiven : (st ar text : List ℕ) → List ℕ

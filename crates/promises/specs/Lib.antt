@@ -1,4 +1,2 @@
 pub mod Claims
 pub mod Exported
-pub mod Results
-pub mod Sayings

@@ -20,10 +20,10 @@ use Rattle.putting.specs.Written.{tokenOf, contentOf, decimalOf}
 use Rattle.walking.specs.Writing.{storeOf, areaOf, tagsOf}
 use Rattle.entries.specs.Walk.{entries}
 use Rattle.contents.specs.Contents.{contentLength, contentBytes}
-use Rattle.promises.specs.Sayings.{Saying, says, nothing, contentIn, saying, sayings}
-use Rattle.promises.proofs.Taken.{Read, Outline}
-use Rattle.promises.proofs.Sources.{Each, none, also, each-map, sources, Facts, facts}
-use Rattle.promises.proofs.Written.{fieldsIn, entryOf, written, written-back}
+use Rattle.written.specs.Sayings.{Saying, says, nothing, contentIn, saying, sayings}
+use Rattle.written.proofs.Taken.{Read, Outline}
+use Rattle.written.proofs.Sources.{Each, none, also, each-map, sources, Facts, facts}
+use Rattle.written.proofs.Written.{fieldsIn, entryOf, written, written-back}
 
 -- the parts that a record of a shape is stored with
 unfoldable pub partsIn : Shape → Decimal → Parts

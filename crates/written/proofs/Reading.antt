@@ -18,11 +18,11 @@ use Rattle.putting.specs.Written.{contentOf, shapeIn, recordBytes}
 use Rattle.walking.specs.Writing.{tagsOf, storeOf, areaOf}
 use Rattle.reading.specs.Services.{readRoom, readBy, readAnswer, readStoreBy, readStore, readAreaBy, readArea}
 use Rattle.refusals.specs.Answers.{writtenIf}
-use Rattle.promises.specs.Results.{storeBytes, areaBytes}
-use Rattle.promises.proofs.Taken.{Outline, outline-taken}
-use Rattle.promises.proofs.Sources.{Each, none, also, each-map, sources, Facts, facts}
-use Rattle.promises.proofs.Written.{shape-length}
-use Rattle.promises.proofs.Told.{content-length}
+use Rattle.written.specs.Results.{storeBytes, areaBytes}
+use Rattle.written.proofs.Taken.{Outline, outline-taken}
+use Rattle.written.proofs.Sources.{Each, none, also, each-map, sources, Facts, facts}
+use Rattle.written.proofs.Written.{shape-length}
+use Rattle.written.proofs.Told.{content-length}
 
 store-length : (s : List ℕ) (a : ℕ) (rs : List Rec) → length (storeOf true s a rs) ≡ storeSize rs
 unfolding storeOf storeSize recordBytes shapeIn bodyLength

@@ -22,8 +22,7 @@ use Rattle.grammar.specs.Machine.{Rec, Answer, refused, done, State, start, ite
 use Rattle.grammar.specs.Reading.{decided, outline}
 use Rattle.text.specs.Limits.{limit}
 use Rattle.grammar.proofs.Fits.{lex-fits}
-use Rattle.promises.proofs.Lines.{modeOf}
-use Rattle.promises.proofs.Lexing.{never}
+use Rattle.written.proofs.Lexing.{modeOf, never}
 
 -- the bytes of the tokens of records
 unfoldable pub bytesOf : List Rec → ℕ

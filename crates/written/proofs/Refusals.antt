@@ -20,7 +20,7 @@ use Rattle.text.specs.Limits.{limit}
 use Rattle.sizes.specs.Sizes.{storeSize, areaSize}
 use Rattle.reading.specs.Services.{readRoom, readBy, readAnswer}
 use Rattle.refusals.specs.Answers.{refusal}
-use Rattle.promises.proofs.Lexing.{never}
+use Rattle.written.proofs.Lexing.{never}
 
 Numbered : Answer → Type 0
 Numbered (refused n o d) = 1 ≤ n

@@ -23,6 +23,11 @@ use Rattle.grammar.specs.Tokens.{Mode, before, inBlock, inFrame, saveSize, lexI
 use Rattle.grammar.proofs.Lexes.{pick, lex-tag, lex-loop, lex-save, startsItem, lex-other, lex-plain}
 use Rattle.grammar.proofs.Descent.{isPlain}
 
+-- in a frame or not
+unfoldable pub modeOf : Bool → Mode
+modeOf true = inFrame
+modeOf false = inBlock
+
 pub never : {A : Type 0} → _≡_ {A = ℕ} 0 1 → A
 never e = absurd (omega arith)
 

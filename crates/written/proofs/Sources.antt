@@ -13,9 +13,8 @@ use Rattle.values.proofs.Laws.{Lies, value-lies}
 use Rattle.grammar.specs.Tokens.{Mode, before, inBlock, inFrame, lexIn, lex}
 use Rattle.grammar.specs.Machine.{Rec, loopEnd}
 use Rattle.grammar.proofs.Fits.{lex-fits}
-use Rattle.promises.proofs.Lines.{modeOf}
-use Rattle.promises.proofs.Lexing.{as-value, NumberWord, number-word, Worded, keyTag, tag-word, plainKey, key-word}
-use Rattle.promises.proofs.Taken.{Took, Tags, opens, named, Rows, first, next, Taken, heading, single, rows, no-rows, opened, shut}
+use Rattle.written.proofs.Lexing.{modeOf, as-value, NumberWord, number-word, Worded, keyTag, tag-word, plainKey, key-word}
+use Rattle.written.proofs.Taken.{Took, Tags, opens, named, Rows, first, next, Taken, heading, single, rows, no-rows, opened, shut}
 
 -- what holds of each record
 pub data Each (P : Rec → Type 0) : List Rec → Type 0 where

@@ -35,9 +35,9 @@ use Rattle.sizes.proofs.Room.{content-small}
 use Rattle.putting.specs.Written.{tokenOf, decimalOf, tokenText, shaped, shapeIn, recordBytes}
 use Rattle.walking.specs.Writing.{tagsOf, storeOf}
 use Rattle.entries.specs.Walk.{onward, entriesFrom, entries}
-use Rattle.promises.proofs.Lexing.{NumberWord}
-use Rattle.promises.proofs.Taken.{bytesOf, Read, Outline}
-use Rattle.promises.proofs.Sources.{Each, none, also, each-map, sources, Facts, facts}
+use Rattle.written.proofs.Lexing.{NumberWord}
+use Rattle.written.proofs.Taken.{bytesOf, Read, Outline}
+use Rattle.written.proofs.Sources.{Each, none, also, each-map, sources, Facts, facts}
 
 -- the fields that a record is written with: a is the area offset, n the number of tags
 unfoldable pub fieldsIn : Shape → List ℕ → ℕ → ℕ → Rec → Fields

@@ -1,0 +1,1 @@
+// What Read writes, record by record: its answer, the bytes in store and area, and what they say. Theorems only.
