@@ -5,10 +5,6 @@ pub mod Alone
 pub mod Nests
 pub mod Same
 pub mod RoundTrip
-pub mod Walks
-pub mod Again
-pub mod Contents
-pub mod ReadIsSound
 pub mod NumbersRead
 pub mod Examples
 pub mod OneOutcome

@@ -1,5 +1,5 @@
--- What the theorems of this crate claim, where a claim has parts: that a text is read; what the round trip asks for and gives;
--- what a number's record says. Assumes nothing.
+-- What the theorems of this crate claim, where a claim has parts: what the round trip asks for and gives; what a number's
+-- record says. Assumes nothing.
 use Prim.Native.Nat.{ℕ, _≤_}
 use mathlib.Core.Path.{_≡_}
 use mathlib.Core.Bool.{Bool, true, cond}
@@ -17,10 +17,6 @@ use Rattle.rendering.specs.Rendering.{rendering, renderAnswer, renderOut}
 use Rattle.record_lines.specs.Lines.{decimalOf}
 use Rattle.written.specs.Results.{storeBytes, areaBytes}
 use Rattle.written.specs.Sayings.{Bytes, SaySame}
-
--- Read of the text s, to a lent store and a lent area, is done
-unfoldable pub IsRead : (s store area : List ℕ) → Type 0
-IsRead s store area = readAnswer s (length store) (length area) .number ≡ 0
 
 -- the store st, with its area ar, is sound; its rendering keeps limit 1; and there is room for the rendering and for what is
 -- read of it

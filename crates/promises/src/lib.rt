@@ -1,1 +1,1 @@
-// What holds across the crates: that what Read writes is sound, the round trip, and both of the exported functions. Theorems only.
+// What holds across the crates: the round trip, and what the exported functions keep. Theorems only.

@@ -27,15 +27,15 @@ use Rattle.contents.specs.Contents.{readable, exponentKept, partsKept, contentL
 use Rattle.stores.specs.Soundness.{takes, filledFrom, filled, sound, follows, kept}
 use Rattle.stores.proofs.Filling.{filled-record, filled-none}
 use Rattle.written.specs.Results.{storeBytes, areaBytes}
-use Rattle.promises.specs.Claims.{IsRead}
+use Rattle.sound.specs.Claims.{IsRead}
 use Rattle.written.proofs.Taken.{Read, Outline, outline-taken}
 use Rattle.written.proofs.Sources.{Each, none, also, sources, Source, Facts, facts}
 use Rattle.written.proofs.Written.{fieldsIn, entryOf, written, Only, only-kind, bounded, written-back}
 use Rattle.written.proofs.Told.{content-length}
 use Rattle.written.proofs.Reading.{Reads, reads}
 use Rattle.written.proofs.Refusals.{Done, read-done}
-use Rattle.promises.proofs.Walks.{nested-written}
-use Rattle.promises.proofs.Contents.{Content, content-read, parts-kept}
+use Rattle.sound.proofs.Walks.{nested-written}
+use Rattle.sound.proofs.Contents.{Content, content-read, parts-kept}
 
 -- One record is kept: its content starts at area offset a, and it keeps its own rule
 

@@ -40,7 +40,7 @@ use Rattle.written.proofs.Lexing.{modeOf, never, Worded, keyTag, heading-word, 
 use Rattle.written.proofs.Taken.{Took, Outline}
 use Rattle.written.proofs.Sources.{Source, of-heading, of-opening, of-closing, of-tag, of-loop, of-name, of-end, of-value, value-reads}
 use Rattle.written.proofs.Written.{kind-back}
-use Rattle.promises.proofs.Again.{word-again, alone-again}
+use Rattle.sound.proofs.Again.{word-again, alone-again}
 
 -- The content of a token of kind k that has so many bytes at an offset
 

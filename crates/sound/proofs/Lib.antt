@@ -1,0 +1,4 @@
+pub mod Walks
+pub mod Again
+pub mod Contents
+pub mod ReadIsSound

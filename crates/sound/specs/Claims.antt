@@ -1,0 +1,10 @@
+-- Where the theorem of this crate holds: where a text is read. Assumes nothing.
+use Prim.Native.Nat.{ℕ}
+use mathlib.Core.Path.{_≡_}
+use mathlib.Core.List.{List}
+use lib.ListN.{length}
+use Rattle.reading.specs.Services.{readAnswer}
+
+-- Read of the text s, to a lent store and a lent area, is done
+unfoldable pub IsRead : (s store area : List ℕ) → Type 0
+IsRead s store area = readAnswer s (length store) (length area) .number ≡ 0
