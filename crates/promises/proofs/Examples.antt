@@ -29,7 +29,8 @@ use Rattle.record_lines.specs.Lines.{decimalOf as renderedDecimal, tokenText as
 use Rattle.hidden.specs.Differences.{isMark, isQuoted, insideRec, insideRecs, Swap, same, digits, inside, Differ, DigitsDiffer, ContentsDiffer}
 use Rattle.readings.specs.Readings.{bytes}
 use Rattle.written.specs.Results.{storeBytes, areaBytes}
-use Rattle.promises.specs.Claims.{renderedBytes, tokenIn}
+use Rattle.round_trip.specs.Claims.{renderedBytes}
+use Rattle.cif_numbers.specs.Claims.{tokenIn}
 use Rattle.written.specs.Sayings.{Bytes, Saying, says, nothing, contentIn, saying, sayings, SaySame}
 use Rattle.readings.proofs.Readings.{opened}
 

@@ -22,11 +22,11 @@ use Rattle.rendering.specs.Rendering.{rendering, renderRoom, renderAnswer}
 use Rattle.hidden.specs.Differences.{DigitsDiffer, ContentsDiffer}
 use Rattle.written.specs.Results.{storeBytes, areaBytes}
 use Rattle.sound.specs.Claims.{IsRead}
-use Rattle.promises.specs.Claims.{renderedBytes, Renderable}
+use Rattle.round_trip.specs.Claims.{renderedBytes, Renderable}
 use Rattle.promises.specs.Exported.{textGiven, storeGiven, areaGiven, OutlinedAlike, ReadBack}
 use Rattle.hidden.proofs.Outlined.{Same, digits-unseen, contents-unseen}
 use Rattle.sound.proofs.ReadIsSound.{read-is-sound}
-use Rattle.promises.proofs.RoundTrip.{round-trip}
+use Rattle.round_trip.proofs.RoundTrip.{round-trip}
 
 alike : {s t store : List ℕ} → Same s t store → OutlinedAlike s t store
 unfolding outlineGives

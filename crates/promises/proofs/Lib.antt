@@ -1,11 +1,3 @@
-pub mod Lines
-pub mod Trip
-pub mod NumberLex
-pub mod Alone
-pub mod Nests
-pub mod Same
-pub mod RoundTrip
-pub mod NumbersRead
 pub mod Examples
 pub mod OneOutcome
 pub mod Exported

@@ -1,1 +1,1 @@
-// What holds across the crates: the round trip, and what the exported functions keep. Theorems only.
+// What the exported functions keep, that each contract admits one outcome, and worked examples. Theorems only.

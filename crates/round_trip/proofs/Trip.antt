@@ -13,7 +13,7 @@ use Rattle.grammar.specs.Tokens.{inBlock, inFrame, lexIn, lex, after, Tok, tok,
 use Rattle.grammar.specs.Machine.{Rec, done, State, items, names, values, wants, config, rec, loopEnd, atItem, loopEnds, atValue, noMoreNames, atName, atWant, move, follow, run}
 use Rattle.grammar.proofs.Advance.{Whole, advance}
 use Rattle.written.proofs.Lexing.{modeOf}
-use Rattle.promises.proofs.Lines.{Line, line, ending, render, recsAt, Where, at-items, at-names, at-values, at-value}
+use Rattle.round_trip.proofs.Lines.{Line, line, ending, render, recsAt, Where, at-items, at-names, at-values, at-value}
 
 -- w alone is read whole, as a token of this class
 unfoldable pub Reads : Bool → List ℕ → Class → Type 0

@@ -47,17 +47,17 @@ use Rattle.rendering.specs.Rendering.{linesOf, rendering, limit as renderLimit,
 use Rattle.record_lines.specs.Lines.{isEnd, tokenText}
 use Rattle.written.specs.Sayings.{Bytes, saying, sayings, SaySame}
 use Rattle.written.specs.Results.{storeBytes, areaBytes}
-use Rattle.promises.specs.Claims.{renderedBytes, Renderable, RoundTrip}
+use Rattle.round_trip.specs.Claims.{renderedBytes, Renderable, RoundTrip}
 use Rattle.written.proofs.Runs.{all-span}
 use Rattle.written.proofs.Lexing.{modeOf}
 use Rattle.written.proofs.Reading.{Reads, reads}
-use Rattle.promises.proofs.Lines.{Line, line, ending, render, recsAt, at-items}
+use Rattle.round_trip.proofs.Lines.{Line, line, ending, render, recsAt, at-items}
 use Rattle.written.proofs.Taken.{outline-taken}
 use Rattle.written.proofs.Told.{told, sayings-told}
-use Rattle.promises.proofs.Trip.{Nested, trip, stateOf, frameOf, Held}
-use Rattle.promises.proofs.Alone.{Fine, wordFor, by-kind}
-use Rattle.promises.proofs.Nests.{standing-all, Filled, full, more, filled-by, lineFor, linesFor, of-number, render-lines, lines-ascii, nested-lines}
-use Rattle.promises.proofs.Same.{all-same, store-same, area-same}
+use Rattle.round_trip.proofs.Trip.{Nested, trip, stateOf, frameOf, Held}
+use Rattle.round_trip.proofs.Alone.{Fine, wordFor, by-kind}
+use Rattle.round_trip.proofs.Nests.{standing-all, Filled, full, more, filled-by, lineFor, linesFor, of-number, render-lines, lines-ascii, nested-lines}
+use Rattle.round_trip.proofs.Same.{all-same, store-same, area-same}
 
 -- the block's token, alone, is read whole
 record Head (w : List ℕ) : Type 0 where

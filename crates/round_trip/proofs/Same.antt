@@ -33,10 +33,10 @@ use Rattle.contents.specs.Contents.{partsKept, contentLength, contentBytes}
 use Rattle.stores.specs.Soundness.{takes}
 use Rattle.record_lines.specs.Lines.{decimalOf, tokenText, isEnd}
 use Rattle.written.specs.Sayings.{Saying, says, contentIn, saying}
-use Rattle.promises.proofs.Lines.{Line, line, ending, render, recsAt}
+use Rattle.round_trip.proofs.Lines.{Line, line, ending, render, recsAt}
 use Rattle.written.proofs.Told.{partsIn, told}
-use Rattle.promises.proofs.Alone.{hasParts, Stored, Fine, number-kept, wordFor}
-use Rattle.promises.proofs.Nests.{Filled, full, more, lineFor, linesFor, number-kind}
+use Rattle.round_trip.proofs.Alone.{hasParts, Stored, Fine, number-kept, wordFor}
+use Rattle.round_trip.proofs.Nests.{Filled, full, more, lineFor, linesFor, number-kind}
 
 -- Decimal parts
 

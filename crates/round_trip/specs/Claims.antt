@@ -1,20 +1,13 @@
--- What the theorems of this crate claim, where a claim has parts: what the round trip asks for and gives; what a number's
--- record says. Assumes nothing.
+-- What the round trip asks for and gives. Assumes nothing.
 use Prim.Native.Nat.{ℕ, _≤_}
 use mathlib.Core.Path.{_≡_}
-use mathlib.Core.Bool.{Bool, true, cond}
+use mathlib.Core.Bool.{true}
 use mathlib.Core.List.{List}
-use lib.ListN.{length, take, drop}
+use lib.ListN.{length, take}
 use Rattle.places.specs.Reports.{success}
-use Rattle.numbers.specs.Cif.{cifMeaning}
-use Rattle.kinds.specs.declared.Kind.{Kind}
-use Rattle.kinds.specs.declared.Kind.the-variants.{Number, Uncertain}
-use Rattle.kinds.specs.Kinds.{numberOf}
-use Rattle.entries.specs.declared.Fields.{Fields}
 use Rattle.reading.specs.Services.{readAnswer}
 use Rattle.stores.specs.Soundness.{sound}
 use Rattle.rendering.specs.Rendering.{rendering, renderAnswer, renderOut}
-use Rattle.record_lines.specs.Lines.{decimalOf}
 use Rattle.written.specs.Results.{storeBytes, areaBytes}
 use Rattle.written.specs.Sayings.{Bytes, SaySame}
 
@@ -37,16 +30,3 @@ pub record RoundTrip (st ar text store area : List ℕ) : Type 0 where
   pub rendered : renderAnswer st ar (length text) ≡ success (length (rendering st ar)) 0
   pub read : readAnswer (renderedBytes st ar text) (length store) (length area) ≡ success (length st) (length ar)
   pub same : SaySame (storeBytes (renderedBytes st ar text) store area) (areaBytes (renderedBytes st ar text) store area) st ar
-
--- the bytes of the token that a record of the text s tells of
-unfoldable pub tokenIn : List ℕ → Fields → List ℕ
-tokenIn s f = take (f .token .length) (drop (f .token .offset) s)
-
--- the kinds of numbers
-unfoldable pub IsNumber : Kind → Type 0
-IsNumber k = 14 ≤ numberOf k
-
--- a record of kind k says what a numeric of CIF 1.1 with these pieces means
-pub record SaysNumeric (k : Kind) (f : Fields) (sg int frac esg e u : List ℕ) (b : Bool) : Type 0 where
-  pub kind : k ≡ cond b Uncertain Number
-  pub decimal : decimalOf b (f .parts) ≡ cifMeaning sg int frac esg e u b

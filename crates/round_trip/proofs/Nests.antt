@@ -34,9 +34,9 @@ use Rattle.stores.proofs.Filling.{filled-record, filled-nothing, filled-none, k
 use Rattle.rendering.specs.Rendering.{linesOf}
 use Rattle.record_lines.specs.Lines.{tokenText, isEnd, lineOf}
 use Rattle.written.specs.Sayings.{Bytes}
-use Rattle.promises.proofs.Lines.{Line, line, ending, render, Where as Spot, at-items, at-names, at-values, at-value}
-use Rattle.promises.proofs.Trip.{Nested, over, tagged, valued, looped, named, first-value, no-rows, next-value, rows, opened, shut}
-use Rattle.promises.proofs.Alone.{hasParts, Stored, Fine, fine, reads-tag, reads-loop, reads-shut, reads-open, wordFor, by-kind, reads-value, all-append, token-ascii}
+use Rattle.round_trip.proofs.Lines.{Line, line, ending, render, Where as Spot, at-items, at-names, at-values, at-value}
+use Rattle.round_trip.proofs.Trip.{Nested, over, tagged, valued, looped, named, first-value, no-rows, next-value, rows, opened, shut}
+use Rattle.round_trip.proofs.Alone.{hasParts, Stored, Fine, fine, reads-tag, reads-loop, reads-shut, reads-open, wordFor, by-kind, reads-value, all-append, token-ascii}
 
 -- What stands in a store of bytes: whole records, so many bytes in all, or nothing from some place on
 

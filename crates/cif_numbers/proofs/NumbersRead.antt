@@ -47,7 +47,7 @@ use Rattle.stores.specs.Content.{nth}
 use Rattle.record_lines.specs.Lines.{decimalOf}
 use Rattle.written.specs.Results.{storeBytes}
 use Rattle.sound.specs.Claims.{IsRead}
-use Rattle.promises.specs.Claims.{tokenIn, IsNumber, SaysNumeric}
+use Rattle.cif_numbers.specs.Claims.{tokenIn, IsNumber, SaysNumeric}
 use Rattle.written.proofs.Lexing.{never, NumberWord}
 use Rattle.written.proofs.Taken.{Read, Outline, outline-taken}
 use Rattle.written.proofs.Sources.{Each, none, also, sources, Source, of-heading, of-opening, of-closing, of-tag, of-loop, of-name, of-end, of-value, value-reads, Facts, facts}

@@ -38,8 +38,8 @@ use Rattle.values.specs.Alone.{isKind, isAlone}
 use Rattle.record_lines.specs.Lines.{decimalOf, tokenText}
 use Rattle.written.proofs.Runs.{span-all}
 use Rattle.written.proofs.Lexing.{modeOf, in-any-mode, key-word, plainKey, keyTag}
-use Rattle.promises.proofs.NumberLex.{number-whole}
-use Rattle.promises.proofs.Trip.{Reads}
+use Rattle.round_trip.proofs.NumberLex.{number-whole}
+use Rattle.round_trip.proofs.Trip.{Reads}
 
 -- shapes with decimal parts
 unfoldable pub hasParts : Shape → Bool
