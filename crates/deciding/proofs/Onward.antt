@@ -14,8 +14,9 @@ use Rattle.keywords.specs.Keywords.{starts, startsAt, keyData, keySave}
 use Rattle.keywords.proofs.Starts.{starts-at}
 use Rattle.values.specs.Values.{Class, block, loop, save, tag, value, overLimit, nothing, lexed}
 use Rattle.sizes.specs.declared.Sizes.{Sizes}
-use Rattle.deciding.specs.declared.Decision.{Decision}
-use Rattle.deciding.specs.declared.Decision.the-variants.{Fits, NoData, OpenFrame}
+use Rattle.grammar.specs.declared.Cause.{Cause}
+use Rattle.grammar.specs.declared.Cause.the-variants.{NoData}
+use Rattle.deciding.specs.declared.Decision.the-variants.{Fits, Refused as RefusedText}
 use Rattle.deciding.specs.declared.Step.{Step}
 use Rattle.deciding.specs.declared.Step.the-variants.{Read, Refused}
 use Rattle.items.specs.declared.Item.{Item as Answered}
@@ -54,7 +55,7 @@ pub record DroppedAt (s : List ℕ) (a o p : ℕ) : Type 0 where
 unfoldable pub PassedInside : List ℕ → ℕ → ℕ → Inside → Type 0
 PassedInside s a o (ReadInside p z) = Passed s (some a) o (some a) p z
 PassedInside s a o (Dropped p) = DroppedAt s a o p
-PassedInside s a o (RefusedInside d) = (out : List Rec) → told d ≡ tells (left (some a) s o out)
+PassedInside s a o (RefusedInside c e) = (out : List Rec) → told (RefusedText c e) ≡ tells (left (some a) s o out)
 
 -- the machine at an item
 pub frame-item : (s : List ℕ) (a o : ℕ) (out : List Rec) → gap (drop o s) ≡ 0 → left (some a) s o out ≡ itemRun (some a) out (item (tokensAt inFrame s o))
@@ -105,7 +106,7 @@ inside {s = s} {o = o} a (alike-taken {b = false} {rs = rs} to l b h) r =
     taken-passed s (some a) o to rs (both-spot b) l h (λ out. r out ∙ left-from (some a) s _ _ (out ++ rs) (both-spot b .inFrame))
 inside {s = s} {o = o} a (alike-ragged b) r = dropped-at s a o _ (both-spot b) r
 inside {s = s} {o = o} a (alike-alone b) r = dropped-at s a o _ (both-spot b) r
-inside {s = s} {o = o} a (alike-absent e b) r = rw (← e) (dropped-at s a o _ (both-spot b) r)
+inside {s = s} {o = o} a (alike-absent b) r = dropped-at s a o _ (both-spot b) r
 inside a alike-unnamed r = λ out. rw (r out)
 inside a alike-over r = λ out. rw (r out)
 
@@ -129,7 +130,7 @@ stepped {s = s} {o = o} (alike-taken {b = false} {rs = rs} to l b h) r =
     taken-passed s none o to rs (both-spot b) l h (λ out. r out ∙ left-from none s _ _ (out ++ rs) (both-spot b .inBlock))
 stepped (alike-ragged b) r = λ out. rw (r out, failed-stops b)
 stepped (alike-alone b) r = λ out. rw (r out, failed-stops b)
-stepped (alike-absent e b) r = λ out. rw (r out, failed-stops b)
+stepped (alike-absent b) r = λ out. rw (r out, failed-stops b)
 stepped alike-unnamed r = λ out. rw (r out)
 stepped alike-over r = λ out. rw (r out)
 
@@ -271,9 +272,9 @@ frame-ends s a o p z h d =
     (λ e out. rw (h .reads out, d .reads (out ++ h .kept), open-answer s a p (out ++ h .kept) (d .bare) e))
 
 -- a frame's refusal is the text's
-pub frame-refused : (s : List ℕ) (a o : ℕ) (z : Sizes) (d : Decision) → Passed s none a (some a) o z → ((out : List Rec) → told d ≡ tells (left (some a) s o out)) → Stepped s a (Refused d)
+pub frame-refused : (s : List ℕ) (a o : ℕ) (z : Sizes) (c : Cause) (e : ℕ) → Passed s none a (some a) o z → ((out : List Rec) → told (RefusedText c e) ≡ tells (left (some a) s o out)) → Stepped s a (Refused c e)
 unfolding Stepped
-frame-refused s a o z d h r = λ out. rw (h .reads out) (r (out ++ h .kept))
+frame-refused s a o z c e h r = λ out. rw (h .reads out) (r (out ++ h .kept))
 
 -- the block that starts at o has been read up to p
 pub record Begun (s : List ℕ) (o p : ℕ) (z : Sizes) : Type 0 where
@@ -326,11 +327,11 @@ pub block-ends : (s : List ℕ) (o p : ℕ) (z : Sizes) → Begun s o p z → le
 unfolding told tells sizesOf
 block-ends s o p z b h = rw (b .reads, end-answer s p (b .kept) h, b .sizes)
 
-pub block-refused : (s : List ℕ) (o p : ℕ) (z : Sizes) (d : Decision) → Begun s o p z → ((out : List Rec) → told d ≡ tells (left none s p out)) → told d ≡ tells (blockAt s o)
-block-refused s o p z d b r = rw (b .reads) (r (b .kept))
+pub block-refused : (s : List ℕ) (o p : ℕ) (z : Sizes) (c : Cause) (e : ℕ) → Begun s o p z → ((out : List Rec) → told (RefusedText c e) ≡ tells (left none s p out)) → told (RefusedText c e) ≡ tells (blockAt s o)
+block-refused s o p z c e b r = rw (b .reads) (r (b .kept))
 
 -- no `data_`
-pub no-data : (s : List ℕ) (o : ℕ) → gap (drop o s) ≡ 0 → startsAt keyData s o ≡ false → told (NoData o) ≡ tells (blockAt s o)
+pub no-data : (s : List ℕ) (o : ℕ) → gap (drop o s) ≡ 0 → startsAt keyData s o ≡ false → told (RefusedText NoData o) ≡ tells (blockAt s o)
 unfolding blockAt run move config atStart follow told tells lex lexed tok
 no-data s o g e =
     let f = first s o g before in
@@ -369,7 +370,7 @@ pub inside-dropped : {s : List ℕ} {a o p : ℕ} {x : Inside} → PassedInside 
 unfolding PassedInside
 inside-dropped h q = rw q at h
 
-pub inside-refused : (s : List ℕ) (a o : ℕ) {d : Decision} {x : Inside} → PassedInside s a o x → x ≡ RefusedInside d → (out : List Rec) → told d ≡ tells (left (some a) s o out)
+pub inside-refused : (s : List ℕ) (a o : ℕ) {c : Cause} {e : ℕ} {x : Inside} → PassedInside s a o x → x ≡ RefusedInside c e → (out : List Rec) → told (RefusedText c e) ≡ tells (left (some a) s o out)
 unfolding PassedInside
 inside-refused s a o h q = rw q at h
 
@@ -378,9 +379,9 @@ pub stepped-read : (s : List ℕ) (o p : ℕ) (z : Sizes) (x : Step) → Stepped
 unfolding Stepped
 stepped-read s o p z x h q = rw q at h
 
-pub stepped-refused : (s : List ℕ) (o : ℕ) (d : Decision) (x : Step) → Stepped s o x → x ≡ Refused d → (out : List Rec) → told d ≡ tells (left none s o out)
+pub stepped-refused : (s : List ℕ) (o : ℕ) (c : Cause) (e : ℕ) (x : Step) → Stepped s o x → x ≡ Refused c e → (out : List Rec) → told (RefusedText c e) ≡ tells (left none s o out)
 unfolding Stepped
-stepped-refused s o d x h q = rw q at h
+stepped-refused s o c e x h q = rw q at h
 
 -- the text's start as the code finds it
 module _ (s : List ℕ) (o : ℕ) (e : o ≡ gapEnd s 0) where
@@ -390,5 +391,5 @@ module _ (s : List ℕ) (o : ℕ) (e : o ≡ gapEnd s 0) where
   pub decided-at : decided s ≡ blockAt s o
   decided-at = decided-from s ∙ ap (blockAt s) (sym e)
 
-  pub decided-none : startsAt keyData s o ≡ false → told (NoData o) ≡ tells (decided s)
+  pub decided-none : startsAt keyData s o ≡ false → told (RefusedText NoData o) ≡ tells (decided s)
   decided-none f = rw decided-at (no-data s o (start-bare .1) f)

@@ -2,7 +2,8 @@
 use Prim.Native.Nat.{ℕ}
 use mathlib.Core.Bool.{Bool, true, false}
 use Rattle.deciding.specs.declared.Decision.{Decision}
-use Rattle.deciding.specs.declared.Decision.the-variants.{Fits, NoData, OpenFrame, Ragged, NoValue, NoItem, NoNames, Over}
+use Rattle.deciding.specs.declared.Decision.the-variants.{Fits, Refused}
+use Rattle.grammar.specs.Causes.{causeNumber, causeDetail}
 use Rattle.grammar.specs.Machine.{Answer, refused, done}
 use Rattle.sizes.specs.Sizes.{storeSize, outlineSize, areaSize}
 
@@ -24,13 +25,7 @@ room m o a = record { isRead = true; number = 0; offset = 0; detail = 0; store =
 
 unfoldable pub told : Decision → Told
 told (Fits z) = room (z .store) (z .outline) (z .area)
-told (NoData o) = refusal 3 o 0
-told (OpenFrame o) = refusal 4 o 0
-told (Ragged o d) = refusal 5 o d
-told (NoValue o) = refusal 6 o 0
-told (NoItem o) = refusal 7 o 0
-told (NoNames o) = refusal 8 o 0
-told (Over o) = refusal 9 o 0
+told (Refused c o) = refusal (causeNumber c) o (causeDetail c)
 
 unfoldable pub tells : Answer → Told
 tells (refused n o d) = refusal n o d

@@ -9,8 +9,9 @@ use Rattle.gaps.specs.Gaps.{gap, gapEnd}
 use Rattle.keywords.specs.Keywords.{startsAt, keySave}
 use Rattle.sizes.specs.declared.Sizes.{Sizes}
 use Rattle.items.specs.declared.Item.{Item as Answered}
-use Rattle.items.specs.declared.Item.the-variants.{Loop, Single, Ragged, NoValue, NoItem, NoNames, Over}
-use Rattle.deciding.specs.declared.Decision.the-variants.{OpenFrame, Ragged as RaggedLoop, NoValue as TagAlone, NoItem as ItemAbsent, NoNames as NamesAbsent, Over as OverLimit}
+use Rattle.items.specs.declared.Item.the-variants.{Loop, Single, Failed, Broken}
+use Rattle.grammar.specs.declared.Cause.the-variants.{OpenFrame}
+use Rattle.deciding.specs.declared.Decision.the-variants.{Refused as RefusedText}
 use Rattle.deciding.specs.declared.Step.{Step}
 use Rattle.deciding.specs.declared.Step.the-variants.{Read, Refused}
 use Rattle.deciding.specs.declared.Inside.{Inside}
@@ -24,25 +25,19 @@ use Rattle.deciding.specs.Decisions.{told, tells}
 abbrev pub inBlockOf : Answered → Step
 inBlockOf (Loop n z w) = Read n z
 inBlockOf (Single n z) = Read n z
-inBlockOf (Ragged o d p) = Refused (RaggedLoop o d)
-inBlockOf (NoValue o p w) = Refused (TagAlone o)
-inBlockOf (NoItem o) = Refused (ItemAbsent o)
-inBlockOf (NoNames o) = Refused (NamesAbsent o)
-inBlockOf (Over o) = Refused (OverLimit o)
+inBlockOf (Failed c o p) = Refused c o
+inBlockOf (Broken c o) = Refused c o
 
 -- in a frame 5, 6 and 7 drop the item, 8 and 9 end the reading
 abbrev pub inFrameOf : Answered → Inside
 inFrameOf (Loop n z w) = ReadInside n z
 inFrameOf (Single n z) = ReadInside n z
-inFrameOf (Ragged o d p) = Dropped p
-inFrameOf (NoValue o p w) = Dropped p
-inFrameOf (NoItem o) = Dropped o
-inFrameOf (NoNames o) = RefusedInside (NamesAbsent o)
-inFrameOf (Over o) = RefusedInside (OverLimit o)
+inFrameOf (Failed c o p) = Dropped p
+inFrameOf (Broken c o) = RefusedInside c o
 
 -- `save_` must stand where the last item stopped
 unfoldable pub frameEnd : List ℕ → ℕ → Sizes → ℕ → Step
-frameEnd s a z o = cond (startsAt keySave s o) (Read (gapEnd s (o + 5)) (added z 3 5)) (Refused (OpenFrame a))
+frameEnd s a z o = cond (startsAt keySave s o) (Read (gapEnd s (o + 5)) (added z 3 5)) (Refused OpenFrame a)
 
 -- the block, or the frame that opened at an offset
 unfoldable pub modeOf : Option ℕ → Mode
@@ -70,4 +65,4 @@ pub record Passed (s : List ℕ) (f : Option ℕ) (o : ℕ) (g : Option ℕ) (p 
 -- an item or a frame of the block is passed, or its refusal is the whole text's
 unfoldable pub Stepped : List ℕ → ℕ → Step → Type 0
 Stepped s o (Read p z) = Passed s none o none p z
-Stepped s o (Refused d) = (out : List Rec) → told d ≡ tells (left none s o out)
+Stepped s o (Refused c a) = (out : List Rec) → told (RefusedText c a) ≡ tells (left none s o out)

@@ -10,33 +10,28 @@ ghost use Rattle.grammar.specs.Reading.{decided};
 ghost use Rattle.text.specs.Limits.{limit};
 ghost use Rattle.items.specs.Answers.{Ready, Here};
 ghost use Rattle.deciding.specs.Frames.{inBlockOf, inFrameOf, frameEnd, Stepped, blockAt};
+use grammar::Cause;
 use items::Item;
 use kinds::Kind;
 use sizes::Sizes;
 
-// What a text comes to: the room for its records, or a refusal, 3 to 9, with its offset.
+// What a text comes to: the room for its records, or what it is refused for, 3 to 9, and the offset of that.
 pub enum Decision {
     Fits { sizes: Sizes },
-    NoData { at: usize },
-    OpenFrame { at: usize },
-    Ragged { at: usize, remainder: usize },
-    NoValue { at: usize },
-    NoItem { at: usize },
-    NoNames { at: usize },
-    Over { at: usize },
+    Refused { cause: Cause, at: usize },
 }
 
 // What an item, or a frame, is in the block: read, or the reading's end.
 enum Step {
     Read { next: usize, sizes: Sizes },
-    Refused { decision: Decision },
+    Refused { cause: Cause, at: usize },
 }
 
 // What an item is in a frame: read; dropped, with the offset where it stopped; or the reading's end.
 enum Inside {
     Read { next: usize, sizes: Sizes },
     Dropped { stop: usize },
-    Refused { decision: Decision },
+    Refused { cause: Cause, at: usize },
 }
 
 // What an item comes to in the block: 5 to 9 end the reading.
@@ -46,21 +41,8 @@ fn in_block(item: Item) -> Step
     match item {
         Item::Loop { next, sizes, .. } => Step::Read { next, sizes },
         Item::Single { next, sizes } => Step::Read { next, sizes },
-        Item::Ragged { at, remainder, .. } => Step::Refused {
-            decision: Decision::Ragged { at, remainder },
-        },
-        Item::NoValue { at, .. } => Step::Refused {
-            decision: Decision::NoValue { at },
-        },
-        Item::NoItem { at } => Step::Refused {
-            decision: Decision::NoItem { at },
-        },
-        Item::NoNames { at } => Step::Refused {
-            decision: Decision::NoNames { at },
-        },
-        Item::Over { at } => Step::Refused {
-            decision: Decision::Over { at },
-        },
+        Item::Failed { cause, at, .. } => Step::Refused { cause, at },
+        Item::Broken { cause, at } => Step::Refused { cause, at },
     }
 }
 
@@ -71,15 +53,8 @@ fn in_frame(item: Item) -> Inside
     match item {
         Item::Loop { next, sizes, .. } => Inside::Read { next, sizes },
         Item::Single { next, sizes } => Inside::Read { next, sizes },
-        Item::Ragged { stop, .. } => Inside::Dropped { stop },
-        Item::NoValue { stop, .. } => Inside::Dropped { stop },
-        Item::NoItem { at } => Inside::Dropped { stop: at },
-        Item::NoNames { at } => Inside::Refused {
-            decision: Decision::NoNames { at },
-        },
-        Item::Over { at } => Inside::Refused {
-            decision: Decision::Over { at },
-        },
+        Item::Failed { stop, .. } => Inside::Dropped { stop },
+        Item::Broken { cause, at } => Inside::Refused { cause, at },
     }
 }
 
@@ -90,7 +65,8 @@ fn close_frame(s: &[u8], start: usize, sizes: Sizes, stop: usize) -> Step
 {
     if !keywords::at_save(s, stop) {
         return Step::Refused {
-            decision: Decision::OpenFrame { at: start },
+            cause: Cause::OpenFrame,
+            at: start,
         };
     }
     Step::Read {
@@ -115,7 +91,7 @@ fn parse_save_frame(s: &[u8], start: usize) -> Step
                 at = next;
             }
             Inside::Dropped { stop } => return close_frame(s, start, sizes, stop),
-            Inside::Refused { decision } => return Step::Refused { decision },
+            Inside::Refused { cause, at: place } => return Step::Refused { cause, at: place },
         }
     }
 }
@@ -146,7 +122,7 @@ fn parse_data_block(s: &[u8], start: usize) -> Decision
                 sizes = sizes.join(more);
                 at = next;
             }
-            Step::Refused { decision } => return decision,
+            Step::Refused { cause, at: place } => return Decision::Refused { cause, at: place },
         }
     }
     Decision::Fits { sizes }
@@ -159,7 +135,10 @@ pub fn lex_cif(s: &[u8]) -> Decision
 {
     let at = gaps::gap_end(s, 0);
     if !keywords::at_data(s, at) {
-        return Decision::NoData { at };
+        return Decision::Refused {
+            cause: Cause::NoData,
+            at,
+        };
     }
     parse_data_block(s, at)
 }

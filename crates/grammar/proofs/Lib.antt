@@ -1,3 +1,4 @@
+pub mod Causes
 pub mod Steps
 pub mod Fits
 pub mod Ended

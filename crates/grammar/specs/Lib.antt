@@ -1,3 +1,4 @@
+pub mod Causes
 pub mod Tokens
 pub mod Machine
 pub mod Reading

@@ -1,1 +1,49 @@
-// The grammar of a text: its tokens, and the machine that reads them. Definitions and theorems only.
+// The grammar over tokens is a definition alone (specs/); what a text is refused for is said here once, for every reader above.
+ghost use mathlib.Core.Path.{_≡_};
+ghost use Rattle.grammar.specs.Causes.{causeNumber, causeDetail};
+
+// What a text is refused for at a place in it, 2 to 9.
+pub enum Cause {
+    NotAscii,
+    NoData,
+    OpenFrame,
+    Ragged { remainder: usize },
+    NoValue,
+    NoItem,
+    NoNames,
+    OverLimit,
+}
+
+impl Cause {
+    // Document 01's number.
+    pub fn number(self) -> usize
+        ensures { λ r. ⌜ r ≡ causeNumber self ⌝ }
+    {
+        match self {
+            Cause::NotAscii => 2,
+            Cause::NoData => 3,
+            Cause::OpenFrame => 4,
+            Cause::Ragged { .. } => 5,
+            Cause::NoValue => 6,
+            Cause::NoItem => 7,
+            Cause::NoNames => 8,
+            Cause::OverLimit => 9,
+        }
+    }
+
+    // Document 01's detail.
+    pub fn detail(self) -> usize
+        ensures { λ r. ⌜ r ≡ causeDetail self ⌝ }
+    {
+        match self {
+            Cause::NotAscii => 0,
+            Cause::NoData => 0,
+            Cause::OpenFrame => 0,
+            Cause::Ragged { remainder } => remainder,
+            Cause::NoValue => 0,
+            Cause::NoItem => 0,
+            Cause::NoNames => 0,
+            Cause::OverLimit => 0,
+        }
+    }
+}

@@ -20,13 +20,14 @@ use Rattle.items.specs.declared.Values.{Values}
 use Rattle.values.specs.declared.Found.{Found}
 use Rattle.values.specs.declared.Found.the-variants.{Value}
 use Rattle.items.specs.declared.Item.{Item as Answered}
-use Rattle.items.specs.declared.Item.the-variants.{Loop, Single, Ragged, NoValue as TagAlone, NoItem, NoNames, Over}
+use Rattle.items.specs.declared.Item.the-variants.{Loop, Single, Failed, Broken}
+use Rattle.grammar.specs.declared.Cause.the-variants.{Ragged, NoValue, NoItem, NoNames, OverLimit}
 use Rattle.grammar.specs.Tokens.{Mode, inBlock, lexIn, lex, after, Tok, tok, tokensAt, headAt, tagFirst, tagAt}
 use Rattle.grammar.specs.Machine.{Rec, rec, loopEnd}
 use Rattle.sizes.specs.Sizes.{sizesOf, noSizes, added, joined, Upto}
 use Rattle.grammar.specs.Descent.{nameRecs, afterNames, valueRecs, afterValues, taken, failed, broken, isOver, rows, loopBy, loopItem, single, tagItem, itemBy, item}
 use Rattle.items.specs.Answers.{headWhy, whyNot, namesOf, namesAt, headOver, valuesOf, valuesAt, rowsOf, itemAnswer, itemAt}
-use Rattle.values.specs.Finding.{foundAt, isOverFound, whyFound}
+use Rattle.values.specs.Finding.{foundAt, isOverFound}
 use Rattle.grammar.proofs.Descent.{Ends, names-ends, values-ends}
 use Rattle.grammar.proofs.Lexes.{lex-other, startsItem}
 use Rattle.items.proofs.Lists.{met-value, name-step, value-step}
@@ -100,13 +101,13 @@ rows-answer t u us ns vs p c z = by (eqb (length vs % length ns) 0)
     rem : ℕ
     rem = length vs % length ns
 
-    by : (b : Bool) → itemAnswer (cond b (taken true (rec 5 t ∷ (ns ++ (vs ++ (loopEnd ∷ [])))) (u ∷ us)) (failed 5 (t .at) rem (u ∷ us))) ≡ cond b (Loop (u .at) (added (joined (joined (added noSizes 5 5) (sizesOf ns)) (sizesOf vs)) 7 0) (whyNot (u .class))) (Ragged (t .at) rem (u .at))
+    by : (b : Bool) → itemAnswer (cond b (taken true (rec 5 t ∷ (ns ++ (vs ++ (loopEnd ∷ [])))) (u ∷ us)) (failed 5 (t .at) rem (u ∷ us))) ≡ cond b (Loop (u .at) (added (joined (joined (added noSizes 5 5) (sizesOf ns)) (sizesOf vs)) 7 0) (whyNot (u .class))) (Failed (Ragged rem) (t .at) (u .at))
     by true = rw (loop-size t ns vs z)
     by false = refl
 
 -- a loop by its names and values
 unfoldable pub loopAnswer : ℕ → Names → Values → Answered
-loopAnswer o names values = cond (eqb (names .count) 0) (NoNames o) (cond (values .over) (Over (values .next)) (rowsOf o names values))
+loopAnswer o names values = cond (eqb (names .count) 0) (Broken NoNames o) (cond (values .over) (Broken OverLimit (values .next)) (rowsOf o names values))
 
 values-answer : (t : Tok) (ts us : List Tok) (n : Rec) (ns : List Rec) (p : ℕ) → t .size ≡ 5 → afterValues ts ≡ us → Ends us
     → itemAnswer (loopBy t (n ∷ ns) (valueRecs ts) us) ≡ loopAnswer (t .at) (record { count = suc (length ns); next = p; sizes = sizesOf (n ∷ ns) }) (valuesOf ts)
@@ -119,7 +120,7 @@ values-answer t ts (u ∷ us) n ns p z e h = rw (e, eqb·suc-zero (length ns)) (
     named : Names
     named = record { count = suc (length ns); next = p; sizes = sizesOf (n ∷ ns) }
 
-    by : (b : Bool) → isOver (u .class) ≡ b → itemAnswer (cond b (broken 9 (u .at)) (rows t (n ∷ ns) (valueRecs ts) (u ∷ us))) ≡ cond b (Over (u .at)) (rowsOf (t .at) named counted)
+    by : (b : Bool) → isOver (u .class) ≡ b → itemAnswer (cond b (broken 9 (u .at)) (rows t (n ∷ ns) (valueRecs ts) (u ∷ us))) ≡ cond b (Broken OverLimit (u .at)) (rowsOf (t .at) named counted)
     by true q = unfold itemAnswer in refl
     by false q = rows-answer t u us (n ∷ ns) (valueRecs ts) p (isOver (u .class)) z
 
@@ -143,16 +144,16 @@ item-loop s o g e =
     loop-item s o m ∙ ap (λ (ts : List Tok). loopAnswer o (namesAt s (o + 5)) (valuesOf ts)) (names-end s (o + 5) (m .within) .tokens)
 
 -- a tag by what is found behind it
-single-answer : (t u : Tok) (us : List Tok) (c : Class) (n : ℕ) → u .class ≡ c → ((k w : ℕ) → wanted c n ≡ Value k w → ⊥)
-    → itemAnswer (single t c u us) ≡ cond (isOverFound (wanted c n)) (Over (u .at)) (TagAlone (t .at) (u .at) (whyFound (wanted c n)))
-unfolding single wanted itemAnswer headAt headWhy whyNot
-single-answer t u us (value k) n e h = absurd (h k n refl)
-single-answer t u us overLimit n e h = refl
-single-answer t u us tag n e h = rw e
-single-answer t u us block n e h = rw e
-single-answer t u us loop n e h = rw e
-single-answer t u us save n e h = rw e
-single-answer t u us (nothing w) n e h = rw e
+single-answer : (t u : Tok) (us : List Tok) (c : Class) (n : ℕ) → ((k w : ℕ) → wanted c n ≡ Value k w → ⊥)
+    → itemAnswer (single t c u us) ≡ cond (isOverFound (wanted c n)) (Broken OverLimit (u .at)) (Failed NoValue (t .at) (u .at))
+unfolding single wanted itemAnswer headAt
+single-answer t u us (value k) n h = absurd (h k n refl)
+single-answer t u us overLimit n h = refl
+single-answer t u us tag n h = refl
+single-answer t u us block n h = refl
+single-answer t u us loop n h = refl
+single-answer t u us save n h = refl
+single-answer t u us (nothing w) n h = refl
 
 -- THE TAG AT AN OFFSET
 tag-item : (s : List ℕ) (o w : ℕ) → Met inBlock s o (lexed tag w) → itemAt s o ≡ itemAnswer (tagItem (tok (lexed tag w) o) (tokensAt inBlock s (gapEnd s (o + w))))
@@ -179,16 +180,16 @@ item-value s o k w g e f =
     (tag-item s o n (met-tag s o g e) ∙ value-answer (tok (lexed tag n) o) s p k w (met-value s p k w (gap-none s (o + n)) f′) ∙ rw d)
 
 alone-answer : (t : Tok) (s : List ℕ) (p : ℕ) → gap (drop p s) ≡ 0 → ((k w : ℕ) → foundAt s p ≡ Value k w → ⊥)
-    → itemAnswer (tagItem t (tokensAt inBlock s p)) ≡ cond (isOverFound (foundAt s p)) (Over p) (TagAlone (t .at) p (whyFound (foundAt s p)))
+    → itemAnswer (tagItem t (tokensAt inBlock s p)) ≡ cond (isOverFound (foundAt s p)) (Broken OverLimit p) (Failed NoValue (t .at) p)
 unfolding tagItem tok lex
 alone-answer t s p g h =
     let x = lexIn inBlock (drop p s) in
     let q : foundAt s p ≡ wanted (x .class) (x .size) = found-wanted inBlock s p in
     let f = first s p g inBlock in
-    rw (f .1, q) (single-answer t (tok x p) (f .0) (x .class) (x .size) refl (λ k w e. h k w (q ∙ e)))
+    rw (f .1, q) (single-answer t (tok x p) (f .0) (x .class) (x .size) (λ k w e. h k w (q ∙ e)))
 
 pub item-alone : (s : List ℕ) (o : ℕ) → gap (drop o s) ≡ 0 → tagAt s o ≡ true → ((k w : ℕ) → foundAt s (gapEnd s (wordEnd s o)) ≡ Value k w → ⊥)
-    → let p = gapEnd s (wordEnd s o) in itemAt s o ≡ cond (isOverFound (foundAt s p)) (Over p) (TagAlone o p (whyFound (foundAt s p)))
+    → let p = gapEnd s (wordEnd s o) in itemAt s o ≡ cond (isOverFound (foundAt s p)) (Broken OverLimit p) (Failed NoValue o p)
 unfolding lexed tok
 item-alone s o g e h =
     let n = word (drop o s) in
@@ -197,8 +198,8 @@ item-alone s o g e h =
     (tag-item s o n (met-tag s o g e) ∙ alone-answer (tok (lexed tag n) o) s (gapEnd s (o + n)) (gap-none s (o + n)) h′)
 
 -- NO ITEM AT AN OFFSET
-none-answer : (c : Class) (t : Tok) (ts : List Tok) → startsItem c ≡ false → itemAnswer (itemBy c t ts) ≡ NoItem (t .at)
-unfolding startsItem itemBy itemAnswer
+none-answer : (c : Class) (t : Tok) (ts : List Tok) → startsItem c ≡ false → itemAnswer (itemBy c t ts) ≡ Failed NoItem (t .at) (t .at)
+unfolding startsItem itemBy itemAnswer headAt
 none-answer loop t ts e = absurd (true≢false e)
 none-answer tag t ts e = absurd (true≢false e)
 none-answer block t ts e = refl
@@ -212,7 +213,7 @@ unfolding tagFirst
 no-item [] e f = unfold lexIn lexed startsItem in refl
 no-item (b ∷ s) e f = lex-other inBlock b s e f
 
-pub item-none : (s : List ℕ) (o : ℕ) → gap (drop o s) ≡ 0 → startsAt keyLoop s o ≡ false → tagAt s o ≡ false → itemAt s o ≡ NoItem o
+pub item-none : (s : List ℕ) (o : ℕ) → gap (drop o s) ≡ 0 → startsAt keyLoop s o ≡ false → tagAt s o ≡ false → itemAt s o ≡ Failed NoItem o o
 unfolding itemAt item tagAt lex tok
 item-none s o g e f =
     let x = lexIn inBlock (drop o s) in
@@ -220,7 +221,7 @@ item-none s o g e f =
     rw (n .1) (none-answer (x .class) (tok x o) (n .0) (no-item (drop o s) (sym (starts-at keyLoop s o) ∙ e) f))
 
 -- rows as the code counts them
-pub rows-ragged : (o : ℕ) (names : Names) (values : Values) → (values .count % names .count ≡ 0 → ⊥) → Ragged o (values .count % names .count) (values .next) ≡ rowsOf o names values
+pub rows-ragged : (o : ℕ) (names : Names) (values : Values) → (values .count % names .count ≡ 0 → ⊥) → Failed (Ragged (values .count % names .count)) o (values .next) ≡ rowsOf o names values
 unfolding rowsOf
 rows-ragged o names values h = rw (ne-eqb (values .count % names .count) 0 h)
 
@@ -251,7 +252,7 @@ module _ {s : List ℕ} {o end stop : ℕ} {f : Found} (r : TagRead s o end stop
   tag-value k w next z e p q =
       rw (p, q, r .stops, r .ends) (sym (item-value s o k w (r .bare) (r .tagged) (rw (← r .ends, ← r .stops) (sym (r .finds) ∙ e))))
 
-  pub tag-alone : ((k w : ℕ) → f ≡ Value k w → ⊥) → cond (isOverFound f) (Over stop) (TagAlone o stop (whyFound f)) ≡ itemAt s o
+  pub tag-alone : ((k w : ℕ) → f ≡ Value k w → ⊥) → cond (isOverFound f) (Broken OverLimit stop) (Failed NoValue o stop) ≡ itemAt s o
   tag-alone n =
       rw (r .finds, r .stops, r .ends) (sym (item-alone s o (r .bare) (r .tagged) (λ k w e. n k w (rw (r .finds, r .stops, r .ends) e))))
 
@@ -264,11 +265,11 @@ module _ (s : List ℕ) (o : ℕ) (g : gap (drop o s) ≡ 0) (e : startsAt keyLo
   pub loop-named : (o + 5 ≤ names .next) × (names .next ≤ length s) × (gap (drop (names .next) s) ≡ 0) × Upto (names .next - (o + 5)) (names .sizes)
   loop-named = let h = names-end s (o + 5) loop-from in rw n (h .onward, h .within, h .bare, h .fits)
 
-  pub loop-none : names .count ≡ 0 → NoNames o ≡ itemAt s o
+  pub loop-none : names .count ≡ 0 → Broken NoNames o ≡ itemAt s o
   unfolding loopAnswer
   loop-none z = sym (item-loop s o g e ∙ rw (← n, z))
 
-  loop-some : (values : Values) → values ≡ valuesAt s (names .next) → (names .count ≡ 0 → ⊥) → itemAt s o ≡ cond (values .over) (Over (values .next)) (rowsOf o names values)
+  loop-some : (values : Values) → values ≡ valuesAt s (names .next) → (names .count ≡ 0 → ⊥) → itemAt s o ≡ cond (values .over) (Broken OverLimit (values .next)) (rowsOf o names values)
   unfolding loopAnswer
   loop-some values v h = item-loop s o g e ∙ rw (← n, ← v, ne-eqb (names .count) 0 h)
 
@@ -276,7 +277,7 @@ module _ (s : List ℕ) (o : ℕ) (g : gap (drop o s) ≡ 0) (e : startsAt keyLo
     pub loop-valued : Upto (values .next - names .next) (values .sizes) × (values .next ≤ length s)
     loop-valued = let x = values-end s (names .next) (loop-named .1) in rw v (x .fits, x .within)
 
-    pub loop-over : values .over ≡ true → Over (values .next) ≡ itemAt s o
+    pub loop-over : values .over ≡ true → Broken OverLimit (values .next) ≡ itemAt s o
     loop-over c = sym (loop-some values v h ∙ rw c)
 
     pub loop-rows : values .over ≡ false → rowsOf o names values ≡ itemAt s o

@@ -89,7 +89,7 @@ pub data AlikeItem (s : List ℕ) (o : ℕ) : Item → Item → Type 0 where
   alike-taken : {b : Bool} {rs : List Rec} {ts us : List Tok} (to : ℕ) → o < to → Both s to ts us → Upto (to - o) (sizesOf rs) → AlikeItem s o (taken b rs ts) (taken b rs us)
   alike-ragged : {a d : ℕ} {ts us : List Tok} → Both s o ts us → AlikeItem s o (failed 5 a d ts) (failed 5 a d us)
   alike-alone : {a : ℕ} {ts us : List Tok} → Both s o ts us → AlikeItem s o (failed 6 a 0 ts) (failed 6 a 0 us)
-  alike-absent : {a : ℕ} {ts us : List Tok} → headAt ts ≡ a → Both s o ts us → AlikeItem s o (failed 7 a 0 ts) (failed 7 a 0 us)
+  alike-absent : {a : ℕ} {ts us : List Tok} → Both s o ts us → AlikeItem s o (failed 7 a 0 ts) (failed 7 a 0 us)
   alike-unnamed : {a : ℕ} → AlikeItem s o (broken 8 a) (broken 8 a)
   alike-over : {a : ℕ} → AlikeItem s o (broken 9 a) (broken 9 a)
 
@@ -180,15 +180,15 @@ more-alike : {s : List ℕ} {o : ℕ} {t : Tok} {ts us : List Tok} → o ≤ t .
 unfolding itemBy headAt
 more-alike {o = o} {t = t} l z h b loop = loop-alike o t l z b
 more-alike {o = o} {t = t} l z h b tag = tag-alike o t l z b
-more-alike l z h b block = alike-absent refl h
-more-alike l z h b save = alike-absent refl h
-more-alike l z h b (value k) = alike-absent refl h
-more-alike l z h b overLimit = alike-absent refl h
-more-alike l z h b (nothing w) = alike-absent refl h
+more-alike l z h b block = alike-absent h
+more-alike l z h b save = alike-absent h
+more-alike l z h b (value k) = alike-absent h
+more-alike l z h b overLimit = alike-absent h
+more-alike l z h b (nothing w) = alike-absent h
 
 -- THE ITEM OF BOTH LISTS IS THE SAME
 pub item-alike : {s : List ℕ} {o : ℕ} {ts us : List Tok} → Both s o ts us → AlikeItem s o (item ts) (item us)
 unfolding item headAt
-item-alike (both-last {t = t} h w e) = rw (item-nothing t [] (t .class) w e) (alike-absent refl (both-last h w e))
-item-alike (both-save {t = t} {u = u} {ts = ts} {us = us} h a e f) = rw (item-save t ts (t .class) (t .at) e refl, item-save u us (u .class) (t .at) f a) (alike-absent refl (both-save h a e f))
+item-alike (both-last {t = t} h w e) = rw (item-nothing t [] (t .class) w e) (alike-absent (both-last h w e))
+item-alike (both-save {t = t} {u = u} {ts = ts} {us = us} h a e f) = rw (item-save t ts (t .class) (t .at) e refl, item-save u us (u .class) (t .at) f a) (alike-absent (both-save h a e f))
 item-alike (both-more {t = t} h z b) = more-alike (h .onward) z (both-more h z b) b (t .class)

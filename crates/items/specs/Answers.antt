@@ -13,7 +13,9 @@ use Rattle.values.specs.declared.Why.the-variants.{AtEnd, Reserved, NoStart}
 use Rattle.items.specs.declared.Names.{Names}
 use Rattle.items.specs.declared.Values.{Values}
 use Rattle.items.specs.declared.Item.{Item as Answered}
-use Rattle.items.specs.declared.Item.the-variants.{Loop, Single, Ragged, NoValue, NoItem, NoNames, Over}
+use Rattle.items.specs.declared.Item.the-variants.{Loop, Single, Failed, Broken}
+use Rattle.grammar.specs.declared.Cause.the-variants.{Ragged}
+use Rattle.grammar.specs.Causes.{failing, breaking}
 use Rattle.grammar.specs.Tokens.{Tok, inBlock, tokensAt, headAt}
 use Rattle.text.specs.Limits.{limit}
 use Rattle.sizes.specs.Sizes.{sizesOf, noSizes, added, joined}
@@ -74,14 +76,13 @@ unfoldable pub rowsOf : ℕ → Names → Values → Answered
 rowsOf o names values =
     cond (eqb (values .count % names .count) 0)
     (Loop (values .next) (added (joined (joined (added noSizes 5 5) (names .sizes)) (values .sizes)) 7 0) (values .why))
-    (Ragged o (values .count % names .count) (values .next))
+    (Failed (Ragged (values .count % names .count)) o (values .next))
 
 unfoldable pub itemAnswer : Item → Answered
 itemAnswer (taken true rs rest) = Loop (headAt rest) (sizesOf rs) (headWhy rest)
 itemAnswer (taken false rs rest) = Single (headAt rest) (sizesOf rs)
-itemAnswer (failed n o d rest) =
-    cond (eqb n 5) (Ragged o d (headAt rest)) (cond (eqb n 6) (NoValue o (headAt rest) (headWhy rest)) (NoItem o))
-itemAnswer (broken n o) = cond (eqb n 8) (NoNames o) (Over o)
+itemAnswer (failed n o d rest) = Failed (failing n d) o (headAt rest)
+itemAnswer (broken n o) = Broken (breaking n) o
 
 -- the item at offset o, behind space and comments. It is the same in the block and in a frame: no item reaches over a
 -- `save_`

@@ -8,13 +8,14 @@ ghost use Rattle.sizes.specs.Sizes.{Upto};
 ghost use Rattle.text.specs.Limits.{limit};
 ghost use Rattle.items.specs.Answers.{Ready, Here, namesAt, valuesAt, rowsOf, itemAt};
 ghost use Rattle.grammar.specs.Tokens.{tagAt};
+use grammar::Cause;
 use kinds::Kind;
 use sizes::Sizes;
 use values::Found;
 use values::Why;
 
-// What reading an item comes to, one case for each: read, with the offset behind it and the space and comments there;
-// failed by 5, 6 or 7, with the offset where it stopped; or failed by 8 or 9.
+// What reading an item comes to: read, with the offset behind it and the space and comments there; failed by 5, 6 or 7, with the
+// offset where it stopped; or by 8 or 9, which end the whole reading.
 pub enum Item {
     Loop {
         next: usize,
@@ -25,23 +26,13 @@ pub enum Item {
         next: usize,
         sizes: Sizes,
     },
-    Ragged {
-        at: usize,
-        remainder: usize,
-        stop: usize,
-    },
-    NoValue {
+    Failed {
+        cause: Cause,
         at: usize,
         stop: usize,
-        why: Why,
     },
-    NoItem {
-        at: usize,
-    },
-    NoNames {
-        at: usize,
-    },
-    Over {
+    Broken {
+        cause: Cause,
         at: usize,
     },
 }
@@ -136,9 +127,9 @@ fn rows(at: usize, names: Names, values: Values) -> Item
 {
     let remainder = values.count % names.count;
     if remainder != 0 {
-        return Item::Ragged {
+        return Item::Failed {
+            cause: Cause::Ragged { remainder },
             at,
-            remainder,
             stop: values.next,
         };
     }
@@ -164,12 +155,18 @@ fn parse_loop(s: &[u8], at: usize) -> Item
 {
     let names = count_names(s, at + 5);
     if names.count == 0 {
-        return Item::NoNames { at };
+        return Item::Broken {
+            cause: Cause::NoNames,
+            at,
+        };
     }
     let next = names.next;
     let values = count_values(s, next);
     if values.over {
-        return Item::Over { at: values.next };
+        return Item::Broken {
+            cause: Cause::OverLimit,
+            at: values.next,
+        };
     }
     rows(at, names, values)
 }
@@ -189,10 +186,17 @@ fn parse_tag(s: &[u8], at: usize) -> Item
             sizes,
         };
     }
-    let Found::Missing { why } = found else {
-        return Item::Over { at: stop };
+    let Found::Missing { .. } = found else {
+        return Item::Broken {
+            cause: Cause::OverLimit,
+            at: stop,
+        };
     };
-    Item::NoValue { at, stop, why }
+    Item::Failed {
+        cause: Cause::NoValue,
+        at,
+        stop,
+    }
 }
 
 // The item at an offset where no space or comment stands.
@@ -206,5 +210,9 @@ pub fn parse_data_item(s: &[u8], at: usize) -> Item
     if at_tag(s, at) {
         return parse_tag(s, at);
     }
-    Item::NoItem { at }
+    Item::Failed {
+        cause: Cause::NoItem,
+        at,
+        stop: at,
+    }
 }

@@ -4,6 +4,7 @@ ghost use Rattle.grammar.specs.Reading.{outline as outlineOf};
 ghost use Rattle.deciding.specs.Decisions.{told};
 ghost use Rattle.judging.specs.Judging.{judgement, judgedAs, declined};
 use deciding::Decision;
+use grammar::Cause;
 use refusals::Refusal;
 use sizes::Sizes;
 
@@ -22,39 +23,9 @@ fn placed(s: &[u8], decision: Decision) -> Judged
 {
     match decision {
         Decision::Fits { sizes } => Judged::Fits { sizes },
-        Decision::NoData { at } => Judged::Declines {
-            refusal: Refusal::NoData {
-                place: places::place_at(s, at),
-            },
-        },
-        Decision::OpenFrame { at } => Judged::Declines {
-            refusal: Refusal::OpenFrame {
-                place: places::place_at(s, at),
-            },
-        },
-        Decision::Ragged { at, remainder } => Judged::Declines {
-            refusal: Refusal::Ragged {
-                place: places::place_at(s, at),
-                remainder,
-            },
-        },
-        Decision::NoValue { at } => Judged::Declines {
-            refusal: Refusal::NoValue {
-                place: places::place_at(s, at),
-            },
-        },
-        Decision::NoItem { at } => Judged::Declines {
-            refusal: Refusal::NoItem {
-                place: places::place_at(s, at),
-            },
-        },
-        Decision::NoNames { at } => Judged::Declines {
-            refusal: Refusal::NoNames {
-                place: places::place_at(s, at),
-            },
-        },
-        Decision::Over { at } => Judged::Declines {
-            refusal: Refusal::OverLimit {
+        Decision::Refused { cause, at } => Judged::Declines {
+            refusal: Refusal::At {
+                cause,
                 place: places::place_at(s, at),
             },
         },
@@ -73,7 +44,8 @@ pub fn judge(s: &[u8]) -> Judged
     let ascii = text::ascii_end(s);
     if ascii < s.len() {
         return Judged::Declines {
-            refusal: Refusal::NotAscii {
+            refusal: Refusal::At {
+                cause: Cause::NotAscii,
                 place: places::place_at(s, ascii),
             },
         };

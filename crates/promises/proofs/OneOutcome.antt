@@ -1,20 +1,24 @@
 -- ONE OUTCOME ONLY (document 01, 'What each service owes'), where a contract fixes an answer by its report: answers with one report are one answer. Proved by reading each
 -- answer back from its report. All other contracts are equations for the answer itself. Assumes nothing.
 use Prim.Native.Nat.{ℕ}
-use mathlib.Core.Bool.{cond}
+use mathlib.Core.Bool.{cond, false}
 use mathlib.Core.Path.{_≡_, refl, sym, ap, _∙_}
 use lib.Dec.{eqb}
 use Rattle.places.specs.Reports.{success, refusedAt, refusedBare, noRoom}
 use Rattle.places.specs.declared.Place.{Place}
 use Rattle.places.specs.declared.Report.{Report}
 use Rattle.deciding.specs.declared.Decision.{Decision}
-use Rattle.deciding.specs.declared.Decision.the-variants.{Fits, NoData as NoBlock, OpenFrame as FrameOpen, Ragged as RaggedLoop, NoValue as ValueAbsent, NoItem as ItemAbsent, NoNames as NamesAbsent, Over}
+use Rattle.deciding.specs.declared.Decision.the-variants.{Fits, Refused as RefusedText}
+use Rattle.grammar.specs.declared.Cause.{Cause}
+use Rattle.grammar.specs.declared.Cause.the-variants.{NotAscii, NoData, OpenFrame, Ragged, NoValue, NoItem, NoNames, OverLimit}
+use Rattle.grammar.specs.Causes.{causeNumber, causeDetail}
+use Rattle.grammar.proofs.Causes.{cause-has-place}
 use Rattle.deciding.specs.Decisions.{Told, refusal, room, told}
 use Rattle.rendering.specs.declared.Rendered.{Rendered}
 use Rattle.rendering.specs.declared.Rendered.the-variants.{Done as DoneText, NotSound, TooLong as TooLongText, NoRoom as NoRoomText}
 use Rattle.rendering.specs.Rendering.{renderedReport}
 use Rattle.refusals.specs.declared.Refusal.{Refusal}
-use Rattle.refusals.specs.declared.Refusal.the-variants.{TooLong, NotAscii, NoData, OpenFrame, Ragged, NoValue, NoItem, NoNames, OverLimit}
+use Rattle.refusals.specs.declared.Refusal.the-variants.{TooLong, At}
 use Rattle.reading.specs.declared.Reading.{Reading}
 use Rattle.reading.specs.declared.Reading.the-variants.{Done, Refused, StoreFull, AreaFull}
 use Rattle.outlining.specs.declared.Outlined.{Outlined}
@@ -26,16 +30,46 @@ use Rattle.outlining.specs.Outlining.{outlinedReport}
 unfoldable placeIn : Report → Place
 placeIn p = record { offset = p .offset; line = p .line; column = p .column }
 
+-- a cause, by its number and detail
+unfoldable causeIn : ℕ → ℕ → Cause
+causeIn n d =
+    cond (eqb n 2) NotAscii
+    (cond (eqb n 3) NoData
+    (cond (eqb n 4) OpenFrame
+    (cond (eqb n 5) (Ragged d)
+    (cond (eqb n 6) NoValue
+    (cond (eqb n 7) NoItem
+    (cond (eqb n 8) NoNames OverLimit))))))
+
+cause-back : (c : Cause) → causeIn (causeNumber c) (causeDetail c) ≡ c
+unfolding causeIn
+cause-back NotAscii = refl
+cause-back NoData = refl
+cause-back OpenFrame = refl
+cause-back (Ragged d) = refl
+cause-back NoValue = refl
+cause-back NoItem = refl
+cause-back NoNames = refl
+cause-back OverLimit = refl
+
 unfoldable refusalIn : Report → Refusal
-refusalIn p =
-    cond (eqb (p .number) 1) TooLong
-    (cond (eqb (p .number) 2) (NotAscii (placeIn p))
-    (cond (eqb (p .number) 3) (NoData (placeIn p))
-    (cond (eqb (p .number) 4) (OpenFrame (placeIn p))
-    (cond (eqb (p .number) 5) (Ragged (placeIn p) (p .detail))
-    (cond (eqb (p .number) 6) (NoValue (placeIn p))
-    (cond (eqb (p .number) 7) (NoItem (placeIn p))
-    (cond (eqb (p .number) 8) (NoNames (placeIn p)) (OverLimit (placeIn p)))))))))
+refusalIn p = cond (eqb (p .number) 1) TooLong (At (causeIn (p .number) (p .detail)) (placeIn p))
+
+refusal-back : (r : Refusal) → refusalIn (refusalReport r) ≡ r
+unfolding refusalIn placeIn refusalReport refusedAt refusedBare
+refusal-back TooLong = refl
+refusal-back (At c p) = rw (cause-has-place c, cause-back c)
+
+-- no cause is one of an answer without a place
+cause-low : (c : Cause) → (eqb (causeNumber c) 0 ≡ false) × (eqb (causeNumber c) 10 ≡ false) × (eqb (causeNumber c) 11 ≡ false)
+cause-low NotAscii = (refl, refl, refl)
+cause-low NoData = (refl, refl, refl)
+cause-low OpenFrame = (refl, refl, refl)
+cause-low (Ragged d) = (refl, refl, refl)
+cause-low NoValue = (refl, refl, refl)
+cause-low NoItem = (refl, refl, refl)
+cause-low NoNames = (refl, refl, refl)
+cause-low OverLimit = (refl, refl, refl)
 
 unfoldable readingIn : Report → Reading
 readingIn p =
@@ -49,14 +83,7 @@ reading-back (Done m k) = refl
 reading-back (StoreFull m k) = refl
 reading-back (AreaFull m k) = refl
 reading-back (Refused TooLong) = refl
-reading-back (Refused (NotAscii p)) = refl
-reading-back (Refused (NoData p)) = refl
-reading-back (Refused (OpenFrame p)) = refl
-reading-back (Refused (Ragged p d)) = refl
-reading-back (Refused (NoValue p)) = refl
-reading-back (Refused (NoItem p)) = refl
-reading-back (Refused (NoNames p)) = refl
-reading-back (Refused (OverLimit p)) = refl
+reading-back (Refused (At c p)) = rw (cause-low c .0, cause-low c .1, cause-low c .2) (ap Refused (refusal-back (At c p)))
 
 pub one-reading : (a b : Reading) → readingReport a ≡ readingReport b → a ≡ b
 one-reading a b e = sym (reading-back a) ∙ ap readingIn e ∙ reading-back b
@@ -69,14 +96,7 @@ unfolding outlinedIn refusalIn placeIn outlinedReport refusalReport success refu
 outlined-back (Written m) = refl
 outlined-back (NoRoom m) = refl
 outlined-back (Declined TooLong) = refl
-outlined-back (Declined (NotAscii p)) = refl
-outlined-back (Declined (NoData p)) = refl
-outlined-back (Declined (OpenFrame p)) = refl
-outlined-back (Declined (Ragged p d)) = refl
-outlined-back (Declined (NoValue p)) = refl
-outlined-back (Declined (NoItem p)) = refl
-outlined-back (Declined (NoNames p)) = refl
-outlined-back (Declined (OverLimit p)) = refl
+outlined-back (Declined (At c p)) = rw (cause-low c .0, cause-low c .1) (ap Declined (refusal-back (At c p)))
 
 pub one-outlined : (a b : Outlined) → outlinedReport a ≡ outlinedReport b → a ≡ b
 one-outlined a b e = sym (outlined-back a) ∙ ap outlinedIn e ∙ outlined-back b
@@ -97,23 +117,12 @@ one-rendered a b e = sym (rendered-back a) ∙ ap renderedIn e ∙ rendered-back
 unfoldable decisionIn : Told → Decision
 decisionIn d =
     cond (d .isRead) (Fits (record { store = d .store; outline = d .outline; area = d .area }))
-    (cond (eqb (d .number) 3) (NoBlock (d .offset))
-    (cond (eqb (d .number) 4) (FrameOpen (d .offset))
-    (cond (eqb (d .number) 5) (RaggedLoop (d .offset) (d .detail))
-    (cond (eqb (d .number) 6) (ValueAbsent (d .offset))
-    (cond (eqb (d .number) 7) (ItemAbsent (d .offset))
-    (cond (eqb (d .number) 8) (NamesAbsent (d .offset)) (Over (d .offset))))))))
+    (RefusedText (causeIn (d .number) (d .detail)) (d .offset))
 
 decision-back : (d : Decision) → decisionIn (told d) ≡ d
 unfolding decisionIn told refusal room
 decision-back (Fits z) = refl
-decision-back (NoBlock o) = refl
-decision-back (FrameOpen o) = refl
-decision-back (RaggedLoop o d) = refl
-decision-back (ValueAbsent o) = refl
-decision-back (ItemAbsent o) = refl
-decision-back (NamesAbsent o) = refl
-decision-back (Over o) = refl
+decision-back (RefusedText c o) = rw (cause-back c)
 
 pub one-decision : (a b : Decision) → told a ≡ told b → a ≡ b
 one-decision a b e = sym (decision-back a) ∙ ap decisionIn e ∙ decision-back b

@@ -8,7 +8,8 @@ use Rattle.places.specs.Reports.{refusedAt, refusedBare}
 use Rattle.places.specs.declared.Report.{Report}
 use Rattle.records.specs.Put.{front}
 use Rattle.refusals.specs.declared.Refusal.{Refusal}
-use Rattle.refusals.specs.declared.Refusal.the-variants.{TooLong, NotAscii, NoData, OpenFrame, Ragged, NoValue, NoItem, NoNames, OverLimit}
+use Rattle.refusals.specs.declared.Refusal.the-variants.{TooLong, At}
+use Rattle.grammar.specs.Causes.{causeNumber, causeDetail}
 
 -- 1 has no place, every other refusal of a text has one
 unfoldable pub refusal : List ℕ → ℕ → ℕ → ℕ → Report
@@ -17,14 +18,7 @@ refusal s n o d = cond (eqb n 1) (refusedBare 1) (refusedAt n (placeAt s o) d)
 -- document 01's numbers for each case of the code's answers
 unfoldable pub refusalReport : Refusal → Report
 refusalReport TooLong = refusedBare 1
-refusalReport (NotAscii p) = refusedAt 2 p 0
-refusalReport (NoData p) = refusedAt 3 p 0
-refusalReport (OpenFrame p) = refusedAt 4 p 0
-refusalReport (Ragged p d) = refusedAt 5 p d
-refusalReport (NoValue p) = refusedAt 6 p 0
-refusalReport (NoItem p) = refusedAt 7 p 0
-refusalReport (NoNames p) = refusedAt 8 p 0
-refusalReport (OverLimit p) = refusedAt 9 p 0
+refusalReport (At c p) = refusedAt (causeNumber c) p (causeDetail c)
 
 -- what stands in a lent buffer of which `fits` says that all is written
 unfoldable pub writtenIf : Bool → List ℕ → List ℕ → List ℕ

@@ -2,20 +2,14 @@
 ghost use mathlib.Core.Path.{_≡_};
 ghost use Rattle.places.specs.Reports.{refusedAt, noRoom};
 ghost use Rattle.refusals.specs.Answers.{refusalReport};
+use grammar::Cause;
 use places::Place;
 use places::Report;
 
-// What a text is refused for, 1 to 9.
+// What a text is refused for, 1 to 9: only 1 has no place.
 pub enum Refusal {
     TooLong,
-    NotAscii { place: Place },
-    NoData { place: Place },
-    OpenFrame { place: Place },
-    Ragged { place: Place, remainder: usize },
-    NoValue { place: Place },
-    NoItem { place: Place },
-    NoNames { place: Place },
-    OverLimit { place: Place },
+    At { cause: Cause, place: Place },
 }
 
 // A refusal at a place.
@@ -55,14 +49,7 @@ impl Refusal {
     {
         match self {
             Refusal::TooLong => lengths(1, 0, 0),
-            Refusal::NotAscii { place } => refused_at(2, place, 0),
-            Refusal::NoData { place } => refused_at(3, place, 0),
-            Refusal::OpenFrame { place } => refused_at(4, place, 0),
-            Refusal::Ragged { place, remainder } => refused_at(5, place, remainder),
-            Refusal::NoValue { place } => refused_at(6, place, 0),
-            Refusal::NoItem { place } => refused_at(7, place, 0),
-            Refusal::NoNames { place } => refused_at(8, place, 0),
-            Refusal::OverLimit { place } => refused_at(9, place, 0),
+            Refusal::At { cause, place } => refused_at(cause.number(), place, cause.detail()),
         }
     }
 }

@@ -6,13 +6,13 @@ use mathlib.Core.List.{List}
 use lib.ListN.{drop}
 use Rattle.gaps.specs.Gaps.{gap, gapEnd}
 use Rattle.words.specs.Words.{wordEnd}
-use Rattle.values.specs.declared.Why.{Why}
-use Rattle.items.specs.declared.Item.the-variants.{NoValue, Over}
+use Rattle.items.specs.declared.Item.the-variants.{Failed, Broken}
+use Rattle.grammar.specs.declared.Cause.the-variants.{NoValue, OverLimit}
 use Rattle.values.specs.declared.Found.{Found}
 use Rattle.values.specs.declared.Found.the-variants.{Value}
 use Rattle.items.specs.Answers.{itemAt}
 use Rattle.grammar.specs.Tokens.{tagAt}
-use Rattle.values.specs.Finding.{foundAt, isOverFound, whyFound}
+use Rattle.values.specs.Finding.{foundAt, isOverFound}
 use Rattle.items.proofs.Items.{TagRead, tag-value, tag-alone}
 use Rattle.writing.specs.declared.Next.the-variants.{Item, Stop}
 use Rattle.writing.specs.Block.{nextOf}
@@ -26,12 +26,12 @@ module _ (s : List ℕ) (o end stop : ℕ) where
   next-value k n g t e p q = ap nextOf (tag-value (tag-read (Value k n) g t e p q) k n _ _ refl refl refl)
 
   -- an item over a digit limit stops where one without a value does
-  stopped : (b : Bool) (w : Why) → Stop stop ≡ nextOf (cond b (Over stop) (NoValue o stop w))
+  stopped : (b : Bool) → Stop stop ≡ nextOf (cond b (Broken OverLimit stop) (Failed NoValue o stop))
   unfolding nextOf
-  stopped true w = refl
-  stopped false w = refl
+  stopped true = refl
+  stopped false = refl
 
   pub next-alone : gap (drop o s) ≡ 0 → tagAt s o ≡ true → end ≡ wordEnd s o → stop ≡ gapEnd s end → ((k n : ℕ) → foundAt s stop ≡ Value k n → ⊥) → Stop stop ≡ nextOf (itemAt s o)
   next-alone g t e p h =
       let f = foundAt s stop in
-      stopped (isOverFound f) (whyFound f) ∙ ap nextOf (tag-alone (tag-read f g t e p refl) h)
+      stopped (isOverFound f) ∙ ap nextOf (tag-alone (tag-read f g t e p refl) h)

@@ -15,13 +15,13 @@ use Rattle.keywords.specs.Keywords.{startsAt, keySave, keyData}
 use Rattle.keywords.proofs.Starts.{starts-at}
 use Rattle.values.specs.Values.{Class, lexed, block, loop, save, tag, value, overLimit, nothing}
 use Rattle.items.specs.declared.Item.{Item as Answered}
-use Rattle.items.specs.declared.Item.the-variants.{Loop, Single, Ragged, NoValue, NoItem, NoNames, Over}
+use Rattle.items.specs.declared.Item.the-variants.{Loop, Single, Failed, Broken}
+use Rattle.grammar.specs.Causes.{causeNumber, causeDetail}
 use Rattle.grammar.specs.Tokens.{Mode, before, inBlock, inFrame, lexIn, lex, Tok, tok}
 use Rattle.grammar.specs.Machine.{Rec, rec, Answer, refused, done, run, follow, move, atItem, fails, closes, config, items}
 use Rattle.grammar.specs.Descent.{Item, taken, failed, broken, item}
 use Rattle.deciding.specs.Decisions.{Told, told, tells, refusal, room}
 use Rattle.grammar.specs.Tokens.{tokensAt, headAt}
-use Rattle.items.specs.Answers.{headWhy}
 use Rattle.values.specs.declared.Found.the-variants.{Value}
 use Rattle.items.specs.Answers.{itemAnswer, itemAt}
 use Rattle.values.specs.Finding.{foundAt}
@@ -81,7 +81,7 @@ item-passed {s = s} {o = o} (alike-taken {rs = rs} {ts = ts} {us = us} to l b h)
     }
 item-passed (alike-ragged b) e = absurd (false≢true e)
 item-passed (alike-alone b) e = absurd (false≢true e)
-item-passed (alike-absent q b) e = absurd (false≢true e)
+item-passed (alike-absent b) e = absurd (false≢true e)
 item-passed alike-unnamed e = absurd (false≢true e)
 item-passed alike-over e = absurd (false≢true e)
 
@@ -104,7 +104,7 @@ unfolding isTaken itemRun isDone
 block-taken (alike-taken to l b h) e = refl
 block-taken (alike-ragged {a = a} {d = d} b) e = absurd (refused-not _ 5 a d (failed-stops b (refused 5 a d) []) e)
 block-taken (alike-alone {a = a} b) e = absurd (refused-not _ 6 a 0 (failed-stops b (refused 6 a 0) []) e)
-block-taken (alike-absent {a = a} q b) e = absurd (refused-not _ 7 a 0 (failed-stops b (refused 7 a 0) []) e)
+block-taken (alike-absent {a = a} b) e = absurd (refused-not _ 7 a 0 (failed-stops b (refused 7 a 0) []) e)
 block-taken alike-unnamed e = absurd (false≢true e)
 block-taken alike-over e = absurd (false≢true e)
 
@@ -145,22 +145,13 @@ never p e = let z : _≡_ {A = ℕ} 0 1 = cc in omega arith
 pub next-item : (x : Item) → nextOf (itemAnswer x) ≡ Item′ → isTaken x ≡ true
 unfolding itemAnswer nextOf isTaken
 next-item (taken b rs rest) e = refl
-next-item (failed n o d rest) e = by (eqb n 5) (eqb n 6) e
-  where
-    by : (a b : Bool) → nextOf (cond a (Ragged o d (headAt rest)) (cond b (NoValue o (headAt rest) (headWhy rest)) (NoItem o))) ≡ Item′ → false ≡ true
-    by true b e = absurd (never (headAt rest) e)
-    by false true e = absurd (never (headAt rest) e)
-    by false false e = absurd (never o e)
-next-item (broken n o) e = by (eqb n 8) e
-  where
-    by : (a : Bool) → nextOf (cond a (NoNames o) (Over o)) ≡ Item′ → false ≡ true
-    by true e = absurd (never o e)
-    by false e = absurd (never o e)
+next-item (failed n o d rest) e = absurd (never (headAt rest) e)
+next-item (broken n o) e = absurd (never o e)
 
--- an answer that is told with a number is no success
-told-not : (x : Answer) (n o d : ℕ) → refusal (suc n) o d ≡ tells x → isDone x ≡ true → ⊥
+-- an answer that is told as a refusal is no success
+told-not : (x : Answer) (n o d : ℕ) → refusal n o d ≡ tells x → isDone x ≡ true → ⊥
 unfolding refusal tells room isDone
-told-not (done rs) n o d e h = let z : suc n ≡ 0 = ap (λ (y : Told). y .number) e in omega arith
+told-not (done rs) n o d e h = false≢true (ap (λ (y : Told). y .isRead) e)
 told-not (refused m x y) n o d e h = false≢true h
 
 stop-is : (p q : ℕ) → Stop p ≡ Stop q → p ≡ q
@@ -173,11 +164,8 @@ next-stop s a o p h g d e = by (itemAt s o) (item-inside s a o h g) e
     by : (i : Answered) → PassedInside s a o (inFrameOf i) → nextOf i ≡ Stop p → DroppedAt s a o p
     by (Loop n z w) x e = absurd (never p (sym e))
     by (Single n z) x e = absurd (never p (sym e))
-    by (Ragged m k q) x e = rw (stop-is q p e) at x
-    by (NoValue m q w) x e = rw (stop-is q p e) at x
-    by (NoItem q) x e = rw (stop-is q p e) at x
-    by (NoNames q) x e = absurd (told-not (left (some a) s o []) 7 q 0 (x []) d)
-    by (Over q) x e = absurd (told-not (left (some a) s o []) 8 q 0 (x []) d)
+    by (Failed c m q) x e = rw (stop-is q p e) at x
+    by (Broken c q) x e = absurd (told-not (left (some a) s o []) (causeNumber c) q (causeDetail c) (x []) d)
 
 -- Where all is read on and an item is expected, no value stands
 
@@ -247,4 +235,4 @@ heading s o w q z d = by (startsAt keyData s o) refl
 
     by : (t : Bool) → startsAt keyData s o ≡ t → (t ≡ true) × (answerRecs (decided s) ≡ recAt 1 o w ∷ recsLeft none s (gapEnd s (o + w))) × (isDone (left none s (gapEnd s (o + w)) []) ≡ true)
     by true e = let r = rest (left none s (gapEnd s (o + w)) []) refl (read e) in (refl, r .0, r .1)
-    by false e = absurd (told-not (decided s) 2 o 0 (rw from (unfold told in no-data s o g e)) d)
+    by false e = absurd (told-not (decided s) 3 o 0 (rw from (unfold told in no-data s o g e)) d)

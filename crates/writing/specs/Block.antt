@@ -12,7 +12,7 @@ use Rattle.deciding.specs.Frames.{left}
 use Rattle.grammar.specs.Reading.{decided}
 use Rattle.text.specs.Limits.{limit}
 use Rattle.items.specs.declared.Item.{Item as Answered}
-use Rattle.items.specs.declared.Item.the-variants.{Loop, Single, Ragged, NoValue, NoItem, NoNames, Over}
+use Rattle.items.specs.declared.Item.the-variants.{Loop, Single, Failed, Broken}
 use Rattle.sizes.specs.Sizes.{areaSize}
 use Rattle.putting.specs.declared.Cursor.{Cursor}
 use Rattle.writing.specs.declared.Next.{Next}
@@ -80,11 +80,8 @@ WroteClose full s stop c l e m = (a : List ℕ) → Closed full s stop (desk c l
 unfoldable pub nextOf : Answered → Next
 nextOf (Loop n z w) = Item
 nextOf (Single n z) = Item
-nextOf (Ragged o d p) = Stop p
-nextOf (NoValue o p w) = Stop p
-nextOf (NoItem o) = Stop o
-nextOf (NoNames o) = Stop o
-nextOf (Over o) = Stop o
+nextOf (Failed c o p) = Stop p
+nextOf (Broken c o) = Stop o
 
 -- the records of a text that is read, and what is written of them
 abbrev pub recordsOf : List ℕ → List Rec

@@ -31,11 +31,8 @@ fn decide_next(s: &[u8], at: usize) -> Next
     match item {
         Item::Loop { .. } => Next::Item,
         Item::Single { .. } => Next::Item,
-        Item::Ragged { stop, .. } => Next::Stop { at: stop },
-        Item::NoValue { stop, .. } => Next::Stop { at: stop },
-        Item::NoItem { at: here } => Next::Stop { at: here },
-        Item::NoNames { at: here } => Next::Stop { at: here },
-        Item::Over { at: here } => Next::Stop { at: here },
+        Item::Failed { stop, .. } => Next::Stop { at: stop },
+        Item::Broken { at: here, .. } => Next::Stop { at: here },
     }
 }
 

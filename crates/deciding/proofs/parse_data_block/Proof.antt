@@ -80,7 +80,7 @@ returns c =
     let b = c .before .before .before in
     let l = b .before .before .loop in
     let a = b .before .before .before .before .before .before .before .before .args in
-    block-refused (a .s .now) (a .start) (l .at) (l .sizes) _ (l .inv) (stepped-refused (a .s .now) (l .at) _ _ (b .parse-data-item-or-save-frame .ensures) (c .before .step2 .given .1))
+    block-refused (a .s .now) (a .start) (l .at) (l .sizes) _ _ (l .inv) (stepped-refused (a .s .now) (l .at) _ _ _ (b .parse-data-item-or-save-frame .ensures) (c .before .step2 .given .1))
 
 returns-2 : tie.Need-returns-2 Inv-loop μ-loop
 returns-2 c = block-ends _ _ (c .before .loop .at) (c .before .loop .sizes) (c .before .loop .inv) (c .loop-test .left)

@@ -110,7 +110,7 @@ returns-2 : tie.Need-returns-2 Inv-loop μ-loop
 returns-2 c =
     let b = c .before .before .before in
     let l = b .before .before .loop in
-    frame-refused _ _ (l .at) (l .sizes) _ (l .inv) (inside-refused _ _ (l .at) (known b) (c .before .inside3 .given .1))
+    frame-refused _ _ (l .at) (l .sizes) _ _ (l .inv) (inside-refused _ _ (l .at) (known b) (c .before .inside3 .given .1))
 
 pub parse-save-frame-spec : {M : Type 1} → statement M
 parse-save-frame-spec =

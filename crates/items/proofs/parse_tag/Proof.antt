@@ -86,8 +86,8 @@ returns c =
     let b = c .before .before .before .before .before .before .before in
     tag-value (tag-read b) _ _ _ _ (c .before .before .before .before .before .found .given .1) (c .gap-end2 .ensures) (c .before .add-value .ensures ∙ rw (c .before .before .add .ensures, c .before .before .before .none .ensures))
 
-enum-known-found-2 : tie.Need-enum-known-found-2
-enum-known-found-2 c = search needs
+enum-told : tie.Need-enum-told
+enum-told c = search needs
 
 returns-2 : tie.Need-returns-2
 returns-2 c =
@@ -97,8 +97,8 @@ returns-2 c =
 
 returns-3 : tie.Need-returns-3
 returns-3 c =
-    let b = c .before .before .before .before in
-    rw (c .before .found2 .given .1) at (tag-alone (tag-read b) (not-value (b .of .result) (c .before .before .before .match .keys2)))
+    let b = c .before .before .before in
+    rw (c .enum-told .given .1) at (tag-alone (tag-read b) (not-value (b .of .result) (c .before .before .match .keys2)))
 
 pub parse-tag-spec : {M : Type 1} → statement M
 parse-tag-spec =
@@ -116,6 +116,6 @@ parse-tag-spec =
     add-gap-end
     gap-end-requires-2
     returns
-    enum-known-found-2
+    enum-told
     returns-2
     returns-3)
