@@ -45,12 +45,12 @@ ends-short n = ne-eqb 1 (suc (suc n)) (λ e. omega arith)
 pub quoted-plain : (m : ℕ) (c : List ℕ) → endsAt (suc (length c)) (quoted m (c ++ (m ∷ []))) ≡ plain m c
 unfolding quoted plain inQuotes is
 quoted-plain m [] = rw (eq-eqb m m refl)
-quoted-plain m (b ∷ c) = by (is m b) (isEol b) (quoted m (c ++ (m ∷ []))) (quoted-plain m c)
+quoted-plain m (b ∷ c) = by (quoted-plain m c) (eqb b m) refl (isEol b) refl
   where
-    by : (t u : Bool) (r : Option ℕ) → endsAt (suc (length c)) r ≡ plain m c → endsAt (suc (suc (length c))) (cond t (some 1) (cond u none (more r))) ≡ (not (t || u) && plain m c)
-    by true u r h = ends-short (length c)
-    by false true r h = refl
-    by false false r h = ends-more (suc (length c)) r ∙ h
+    by : endsAt (suc (length c)) (quoted m (c ++ (m ∷ []))) ≡ plain m c → (t : Bool) → eqb b m ≡ t → (u : Bool) → isEol b ≡ u → endsAt (suc (length (b ∷ c))) (quoted m (b ∷ (c ++ (m ∷ [])))) ≡ plain m (b ∷ c)
+    by h true e u f = rw e (ends-short (length c))
+    by h false e true f = rw (e, f)
+    by h false e false f = rw (e, f) (ends-more (suc (length c)) (quoted m (c ++ (m ∷ []))) ∙ h)
 
 none-more : (r : Option ℕ) → isNone (more r) ≡ isNone r
 unfolding more
