@@ -35,6 +35,15 @@ pub same-bytes : (x y : Name) → sameBoth x y ≡ true → sameName (x .bytes) 
 unfolding sameBoth
 same-bytes x y e = and-r (eqb (x .scope) (y .scope)) (sameName (x .bytes) (y .bytes)) e
 
+-- names of one scope, and of two
+pub same-within : (x y : Name) → x .scope ≡ y .scope → sameName (x .bytes) (y .bytes) ≡ sameBoth x y
+unfolding sameBoth
+same-within x y e = rw (eq-eqb (x .scope) (y .scope) e)
+
+pub same-other : (x y : Name) → (x .scope ≡ y .scope → ⊥) → false ≡ sameBoth x y
+unfolding sameBoth
+same-other x y d = rw (ne-eqb (x .scope) (y .scope) d)
+
 module _ (ar : List ℕ) where
   pub part-length : (a n : ℕ) → a + n ≤ length ar → length (part ar a n) ≡ n
   unfolding part

@@ -4,6 +4,7 @@ use Rattle.names.specs.Steps.{namesAt}
 use Rattle.naming.specs.Scopes.{Stretch}
 use Rattle.names.proofs.Steps.{met, meets-less}
 use Rattle.naming.proofs.Scopes.{stretch-first, stretch-next}
+use native.Mathlib.Omega.{arith}
 use Rattle.naming.proofs.stretch.Statement.{statement}
 use Rattle.naming.proofs.stretch.Tie as tie
 
@@ -35,7 +36,7 @@ loop-less : tie.Need-loop-less Inv-loop μ-loop
 loop-less c = meets-less _ _ _ _ _ (met _ _ _ _ _ _ (c .before .before .before .before .before .next-name .ensures) (c .before .before .before .name .given .1))
 
 loop-again : tie.Need-loop-again Inv-loop μ-loop
-loop-again c = stretch-next _ _ _ _ _ _ _ (c .before .before .before .before .before .before .loop .inv) (met _ _ _ _ _ _ (c .before .before .before .before .before .next-name .ensures) (c .before .before .before .name .given .1)) (c .if1 .left)
+loop-again c = stretch-next _ _ _ _ _ _ _ (c .before .before .before .before .before .before .loop .inv) (met _ _ _ _ _ _ (c .before .before .before .before .before .next-name .ensures) (c .before .before .before .name .given .1)) (omega arith)
 
 pub stretch-spec : {M : Type 1} → statement M
 stretch-spec =
