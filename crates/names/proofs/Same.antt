@@ -12,7 +12,7 @@ use lib.ListN.{length, take, drop, getD, length-take, length-drop}
 use lib.Seq.{drop-cons}
 use Rattle.text.proofs.Bools.{and-l, and-r}
 use Rattle.names.specs.Names.{Name, sameName, sameBoth}
-use Rattle.names.specs.Steps.{part}
+use Rattle.names.specs.Parts.{part}
 
 pub not-true : (t : Bool) → (t ≡ true → ⊥) → t ≡ false
 not-true true f = absurd (f refl)

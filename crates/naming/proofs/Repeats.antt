@@ -9,9 +9,9 @@ use native.Mathlib.Numerals.{add-one}
 use lib.ListN.{take, drop}
 use lib.Seq.{take-nil}
 use Rattle.stores.specs.Soundness.{sound}
-use Rattle.names.specs.declared.Spot.{Spot}
+use Rattle.steps.specs.declared.Spot.{Spot}
 use Rattle.names.specs.Names.{Name, names, sameBoth}
-use Rattle.names.specs.Steps.{namesAt}
+use Rattle.steps.specs.Steps.{namesAt}
 use Rattle.names.proofs.Lists.{drop-next, take-next}
 use Rattle.naming.specs.declared.Naming.{Naming}
 use Rattle.naming.specs.declared.Naming.the-variants.{Distinct, NotSound, Repeated}

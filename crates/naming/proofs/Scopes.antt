@@ -8,12 +8,13 @@ use native.Mathlib.Omega.{arith}
 use borrow.Author.Tests.{eqb-true, eqb-false, ltb-true, ltb-false}
 use lib.Dec.{eqb, ltb}
 use lib.ListN.{length, take, drop, length-drop}
-use Rattle.names.specs.declared.Spot.{Spot}
+use Rattle.steps.specs.declared.Spot.{Spot}
 use Rattle.names.specs.declared.Named.{Named}
 use Rattle.names.specs.Names.{Name, names, sameBoth}
-use Rattle.names.specs.Steps.{nameOf, namesAt, first, Reached}
+use Rattle.names.specs.Parts.{nameOf}
+use Rattle.steps.specs.Steps.{namesAt, first, Reached}
 use Rattle.names.proofs.Same.{not-true, same-scope}
-use Rattle.names.proofs.Steps.{Meets, reached-first, reached-next}
+use Rattle.steps.proofs.Steps.{Meets, reached-first, reached-next}
 use Rattle.windows.specs.Windows.{Ran}
 use Rattle.windows.proofs.Windows.{apart-at}
 use Rattle.naming.specs.Names.{firstSame, repeatFrom, firstRepeat}

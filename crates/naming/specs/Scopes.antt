@@ -5,9 +5,9 @@ use mathlib.Core.Bool.{false}
 use mathlib.Core.List.{List, [], _∷_}
 use mathlib.Core.Option.{Option, none, some}
 use lib.ListN.{take, drop}
-use Rattle.names.specs.declared.Spot.{Spot}
+use Rattle.steps.specs.declared.Spot.{Spot}
 use Rattle.names.specs.Names.{Name, names, sameBoth}
-use Rattle.names.specs.Steps.{namesAt, Reached}
+use Rattle.steps.specs.Steps.{namesAt, Reached}
 use Rattle.windows.specs.Windows.{Apart}
 use Rattle.naming.specs.declared.Earlier.{Earlier}
 use Rattle.naming.specs.declared.Earlier.the-variants.{At, Missing}

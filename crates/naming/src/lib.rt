@@ -4,14 +4,15 @@ ghost use Prim.Native.Nat.{ℕ, _≤_, _<_};
 ghost use lib.ListN.{take};
 ghost use Rattle.places.specs.Reports.{refusedBare};
 ghost use Rattle.names.specs.Names.{names};
-ghost use Rattle.names.specs.Steps.{nameOf, Inside, namesAt, Reached};
+ghost use Rattle.names.specs.Parts.{nameOf, Inside};
+ghost use Rattle.steps.specs.Steps.{namesAt, Reached};
 ghost use Rattle.naming.specs.Names.{firstSame, repeatFrom, namingOf, nameCheck, namingReport};
 ghost use Rattle.naming.specs.Scopes.{earlierOf, Stretch, Framed, Frames, FreshTo};
 use names::Named;
-use names::Next;
-use names::Spot;
 use places::Report;
 use slots::SLOTS;
+use steps::Next;
+use steps::Spot;
 
 // The name check's answer: no name stands twice; 12; or 13 with two record numbers.
 pub enum Naming {
@@ -52,10 +53,10 @@ fn first_same(store: &[u8], area: &[u8], x: Named, count: usize) -> Earlier
     requires { ⌜ Inside (now area) x ⌝ }
     ensures { λ r. ⌜ r ≡ earlierOf (firstSame (take count (names (now (store .entry)) (now (area .entry)))) (nameOf (now (area .entry)) x)) ⌝ }
 {
-    let mut spot = names::start();
+    let mut spot = steps::start();
     let mut left = count;
     while 0 < left {
-        let Next::Met { name, after } = names::next_name(store, area, spot) else {
+        let Next::Met { name, after } = steps::next_name(store, area, spot) else {
             return Earlier::Missing;
         };
         if names::same_both(area, name, x) {
@@ -74,7 +75,7 @@ fn repeat_from(store: &[u8], area: &[u8], spot: Spot) -> Naming
 {
     let mut here = spot;
     loop {
-        let Next::Met { name, after } = names::next_name(store, area, here) else {
+        let Next::Met { name, after } = steps::next_name(store, area, here) else {
             return Naming::Distinct;
         };
         let earlier = first_same(store, area, name, here.count);
@@ -95,7 +96,7 @@ fn stretch(store: &[u8], area: &[u8], scope: usize, from: Spot) -> Spot
 {
     let mut here = from;
     loop {
-        let Next::Met { name, after } = names::next_name(store, area, here) else {
+        let Next::Met { name, after } = steps::next_name(store, area, here) else {
             return here;
         };
         if name.scope != scope {
@@ -118,11 +119,11 @@ fn frame(store: &[u8], area: &[u8], table: &mut [u32; SLOTS], scope: usize, from
 fn frames(store: &[u8], area: &[u8], table: &mut [u32; SLOTS]) -> Spot
     ensures { λ r. ⌜ Frames (now (store .entry)) (now (area .entry)) r ⌝ }
 {
-    let mut here = names::start();
+    let mut here = steps::start();
     let mut top = 0;
     loop {
         let first = stretch(store, area, 0, here);
-        let Next::Met { name, after: _ } = names::next_name(store, area, first) else {
+        let Next::Met { name, after: _ } = steps::next_name(store, area, first) else {
             return first;
         };
         let scope = name.scope;
@@ -144,7 +145,7 @@ fn fresh_end(store: &[u8], area: &[u8]) -> Spot
 {
     let mut table = [0u32; SLOTS];
     let all = frames(store, area, &mut table);
-    windows::compare(store, area, &mut table, 0, all.count, names::start())
+    windows::compare(store, area, &mut table, 0, all.count, steps::start())
 }
 
 // The service Name check: 12, 13.

@@ -9,14 +9,15 @@ use lib.Dec.{eqb, leb, ltb}
 use lib.ListN.{drop}
 use Rattle.slots.specs.Slots.{known, entered}
 use Rattle.slots.proofs.Slots.{entered-keeps}
-use Rattle.names.specs.declared.Spot.{Spot}
+use Rattle.steps.specs.declared.Spot.{Spot}
 use Rattle.names.specs.declared.Named.{Named}
 use Rattle.names.specs.Names.{Name, names, sameBoth}
 use Rattle.names.specs.Numbers.{hashOf}
-use Rattle.names.specs.Steps.{nameOf, namesAt, Reached}
+use Rattle.names.specs.Parts.{nameOf}
+use Rattle.steps.specs.Steps.{namesAt, Reached}
 use Rattle.names.proofs.Same.{not-true, same-scope, same-bytes}
 use Rattle.names.proofs.Numbers.{same-hash}
-use Rattle.names.proofs.Steps.{Meets, reached-next}
+use Rattle.steps.proofs.Steps.{Meets, reached-next}
 use Rattle.sorted.specs.Found.{findIn}
 use Rattle.sorted.proofs.Found.{find-same}
 use Rattle.windows.specs.declared.Reach.{Reach}

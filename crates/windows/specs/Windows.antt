@@ -7,10 +7,10 @@ use mathlib.Core.List.{List, [], _∷_}
 use lib.Dec.{eqb, leb, ltb}
 use lib.ListN.{drop}
 use Rattle.slots.specs.Slots.{known}
-use Rattle.names.specs.declared.Spot.{Spot}
+use Rattle.steps.specs.declared.Spot.{Spot}
 use Rattle.names.specs.Names.{Name, names, sameBoth}
 use Rattle.names.specs.Numbers.{hashOf}
-use Rattle.names.specs.Steps.{Reached}
+use Rattle.steps.specs.Steps.{Reached}
 use Rattle.sorted.specs.Found.{findIn}
 use Rattle.windows.specs.declared.Way.{Way}
 use Rattle.windows.specs.declared.Reach.{Reach}

@@ -2,12 +2,13 @@
 ghost use mathlib.Core.Path.{_≡_};
 ghost use mathlib.Core.Bool.{false};
 ghost use Prim.Native.Nat.{ℕ, _+_, _≤_, _<_};
-ghost use Rattle.names.specs.Steps.{nameOf, Inside, Reached};
+ghost use Rattle.names.specs.Parts.{nameOf, Inside};
+ghost use Rattle.steps.specs.Steps.{Reached};
 ghost use Rattle.windows.specs.Windows.{markedBy, foundBy, metBy, lastAfter, Entering, Owned, Passed, Windowed, Ran};
 use names::Named;
-use names::Next;
-use names::Spot;
 use slots::SLOTS;
+use steps::Next;
+use steps::Spot;
 
 // How a table is asked for a name: by marks, of many names or a few, or by halving among so many sorted offsets.
 struct Way {
@@ -74,7 +75,7 @@ fn pass_names(
         if end <= count {
             return here;
         }
-        let Next::Met { name, after } = names::next_name(store, area, here) else {
+        let Next::Met { name, after } = steps::next_name(store, area, here) else {
             return here;
         };
         if is_met(store, area, table, way, scope, name) {
@@ -120,7 +121,7 @@ fn enter_names(
         if end <= count {
             return here;
         }
-        let Next::Met { name, after } = names::next_name(store, area, here) else {
+        let Next::Met { name, after } = steps::next_name(store, area, here) else {
             return here;
         };
         if enter(area, table, many, scope, name) {
@@ -190,7 +191,7 @@ fn gather(
         if end <= count {
             return n;
         }
-        let Next::Met { name, after } = names::next_name(store, area, here) else {
+        let Next::Met { name, after } = steps::next_name(store, area, here) else {
             return n;
         };
         n = keep(table, n, scope, name);
@@ -243,7 +244,7 @@ fn find_names(
         if end <= count {
             return here;
         }
-        let Next::Met { name, after } = names::next_name(store, area, here) else {
+        let Next::Met { name, after } = steps::next_name(store, area, here) else {
             return here;
         };
         let found = find_next(store, area, table, n, scope, last, name);

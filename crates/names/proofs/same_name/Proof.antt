@@ -4,7 +4,7 @@ use mathlib.Core.Path.{_≡_, sym, _∙_}
 use native.Mathlib.Omega.{arith}
 use lib.ListN.{length}
 use Rattle.names.specs.Names.{sameName}
-use Rattle.names.specs.Steps.{part}
+use Rattle.names.specs.Parts.{part}
 use Rattle.names.proofs.Same.{sameLeft, same-size, same-all, same-go, same-stop, same-done}
 use Rattle.names.proofs.same_name.Statement.{statement}
 use Rattle.names.proofs.same_name.Tie as tie

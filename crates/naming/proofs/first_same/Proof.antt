@@ -6,10 +6,11 @@ use native.Mathlib.Omega.{arith}
 use lib.ListN.{take}
 use Rattle.names.specs.Names.{names}
 use Rattle.naming.specs.Names.{firstSame}
-use Rattle.names.specs.Steps.{nameOf, namesAt, Counted}
+use Rattle.names.specs.Parts.{nameOf}
+use Rattle.steps.specs.Steps.{namesAt, Counted}
 use Rattle.naming.specs.Scopes.{earlierOf}
 use Rattle.naming.proofs.Repeats.{first-over, first-end, first-hit, first-miss}
-use Rattle.names.proofs.Steps.{met, ended, names-first, counted-first}
+use Rattle.steps.proofs.Steps.{met, ended, names-first, counted-first}
 use Rattle.naming.proofs.first_same.Statement.{statement}
 use Rattle.naming.proofs.first_same.Tie as tie
 

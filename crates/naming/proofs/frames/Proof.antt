@@ -2,7 +2,7 @@
 use Prim.Native.Nat.{_-_}
 use lib.ListN.{length}
 use Rattle.names.specs.Names.{names}
-use Rattle.names.proofs.Steps.{met}
+use Rattle.steps.proofs.Steps.{met}
 use Rattle.naming.proofs.Scopes.{Framing, framing-first, framing-block, framing-frame, framing-end, meets-within}
 use borrow.Author.Needs.{needs}
 use native.Mathlib.Omega.{arith}

@@ -1,6 +1,6 @@
 -- `naming::fresh_end`: the frames' names, then the block's own. Assumes nothing.
 use mathlib.Core.Path.{refl}
-use Rattle.names.proofs.Steps.{reached-first}
+use Rattle.steps.proofs.Steps.{reached-first}
 use Rattle.naming.proofs.Scopes.{fresh-all}
 use borrow.Author.Needs.{needs}
 use native.Mathlib.Omega.{arith}

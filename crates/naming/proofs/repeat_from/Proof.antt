@@ -4,9 +4,10 @@ use mathlib.Core.Path.{_≡_, refl, sym, ap, _∙_}
 use lib.ListN.{length, take}
 use Rattle.names.specs.Names.{names}
 use Rattle.naming.specs.Names.{repeatFrom, namingOf}
-use Rattle.names.specs.Steps.{nameOf, namesAt, Reached}
+use Rattle.names.specs.Parts.{nameOf}
+use Rattle.steps.specs.Steps.{namesAt, Reached}
 use Rattle.naming.proofs.Repeats.{repeat-end, repeat-hit, repeat-miss, earlier-at, earlier-missing}
-use Rattle.names.proofs.Steps.{met, ended, reached-next, meets-less}
+use Rattle.steps.proofs.Steps.{met, ended, reached-next, meets-less}
 use Rattle.naming.proofs.repeat_from.Statement.{statement}
 use Rattle.naming.proofs.repeat_from.Tie as tie
 

@@ -1,8 +1,8 @@
 -- `naming::stretch`: up to here the names are of the scope. Assumes nothing.
 use lib.ListN.{length}
-use Rattle.names.specs.Steps.{namesAt}
+use Rattle.steps.specs.Steps.{namesAt}
 use Rattle.naming.specs.Scopes.{Stretch}
-use Rattle.names.proofs.Steps.{met, meets-less}
+use Rattle.steps.proofs.Steps.{met, meets-less}
 use Rattle.naming.proofs.Scopes.{stretch-first, stretch-next}
 use native.Mathlib.Omega.{arith}
 use Rattle.naming.proofs.stretch.Statement.{statement}

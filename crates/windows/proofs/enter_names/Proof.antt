@@ -1,8 +1,8 @@
 -- `windows::enter_names`: up to here the table knows the names of the scope, and they are other than each other. Assumes nothing.
 use lib.ListN.{length}
-use Rattle.names.specs.Steps.{namesAt}
+use Rattle.steps.specs.Steps.{namesAt}
 use Rattle.windows.specs.Windows.{markedBy, Owned}
-use Rattle.names.proofs.Steps.{met, meets-less}
+use Rattle.steps.proofs.Steps.{met, meets-less}
 use Rattle.windows.proofs.Windows.{owned-first, owned-enter, owned-kept}
 use borrow.Author.Needs.{needs}
 use native.Mathlib.Omega.{arith}

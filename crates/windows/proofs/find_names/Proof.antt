@@ -1,7 +1,7 @@
 -- `windows::find_names`: up to here each name of the scope was found behind the one before. Assumes nothing.
 use lib.ListN.{length}
-use Rattle.names.specs.Steps.{namesAt}
-use Rattle.names.proofs.Steps.{met, meets-less}
+use Rattle.steps.specs.Steps.{namesAt}
+use Rattle.steps.proofs.Steps.{met, meets-less}
 use Rattle.windows.proofs.Windows.{Finding, finding-first, finding-next}
 use borrow.Author.Needs.{needs}
 use native.Mathlib.Omega.{arith}

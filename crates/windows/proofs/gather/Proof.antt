@@ -1,8 +1,8 @@
 -- `windows::gather`: the offsets fit the table. Assumes nothing.
 use Prim.Native.Nat.{_≤_}
 use lib.ListN.{length}
-use Rattle.names.specs.Steps.{namesAt, Reached}
-use Rattle.names.proofs.Steps.{met, meets-less, reached-next}
+use Rattle.steps.specs.Steps.{namesAt, Reached}
+use Rattle.steps.proofs.Steps.{met, meets-less, reached-next}
 use native.Mathlib.Omega.{arith}
 use Rattle.windows.proofs.gather.Statement.{statement}
 use Rattle.windows.proofs.gather.Tie as tie

@@ -1,8 +1,8 @@
 -- `windows::pass_names`: no name up to here was met. Assumes nothing.
 use lib.ListN.{length}
-use Rattle.names.specs.Steps.{namesAt}
+use Rattle.steps.specs.Steps.{namesAt}
 use Rattle.windows.specs.Windows.{metBy, Passed}
-use Rattle.names.proofs.Steps.{met, meets-less}
+use Rattle.steps.proofs.Steps.{met, meets-less}
 use Rattle.windows.proofs.Windows.{passed-first, passed-next}
 use Rattle.windows.proofs.pass_names.Statement.{statement}
 use Rattle.windows.proofs.pass_names.Tie as tie

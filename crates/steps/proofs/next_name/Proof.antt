@@ -1,4 +1,4 @@
--- `names::next_name`: the names from where the walk began are those from here on. Assumes nothing.
+-- `steps::next_name`: the names from where the walk began are those from here on. Assumes nothing.
 use borrow.Author.Needs.{needs}
 use Prim.Native.Nat.{_+_, _-_, _≤_, _<_}
 use mathlib.Core.Path.{_≡_, refl, sym, _∙_}
@@ -8,10 +8,11 @@ use lib.ListN.{length}
 use Rattle.entries.specs.declared.Entry.the-variants.{Record}
 use Rattle.kinds.specs.Kinds.{numberOf}
 use Rattle.entries.specs.Entries.{entryAt}
-use Rattle.names.specs.Steps.{isNameKind, namesAt, Counted}
-use Rattle.names.proofs.Steps.{namesOn, names-spot, names-over, names-none, names-other, names-onwards, ahead-name, ahead-end}
-use Rattle.names.proofs.next_name.Statement.{statement}
-use Rattle.names.proofs.next_name.Tie as tie
+use Rattle.names.specs.Names.{isNameKind}
+use Rattle.steps.specs.Steps.{namesAt, Counted}
+use Rattle.steps.proofs.Steps.{namesOn, names-spot, names-over, names-none, names-other, names-onwards, ahead-name, ahead-end}
+use Rattle.steps.proofs.next_name.Statement.{statement}
+use Rattle.steps.proofs.next_name.Tie as tie
 
 -- and there are no more names than records, and no more records than bytes
 abbrev Inv-loop : tie.InvT-loop

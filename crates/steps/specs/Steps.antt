@@ -1,10 +1,8 @@
 -- How names are found in a store: from name to name, each with its record's number, its scope and the part of the area that holds it. Assumes nothing.
 use Prim.Native.Nat.{ℕ, _+_, _≤_}
 use mathlib.Core.Path.{_≡_}
-use mathlib.Core.Bool.{Bool, cond, _||_}
 use mathlib.Core.List.{List, [], _∷_}
-use lib.Dec.{eqb}
-use lib.ListN.{length, take, drop}
+use lib.ListN.{drop}
 use Rattle.kinds.specs.declared.Kind.{Kind}
 use Rattle.entries.specs.declared.Fields.{Fields}
 use Rattle.entries.specs.declared.Entry.{Entry}
@@ -12,27 +10,12 @@ use Rattle.entries.specs.declared.Entry.the-variants.{Record, Nothing}
 use Rattle.entries.specs.Entries.{entryAt}
 use Rattle.entries.specs.Walk.{entriesFrom}
 use Rattle.contents.specs.Contents.{contentBytes}
 use Rattle.names.specs.declared.Named.{Named}
-use Rattle.names.specs.declared.Spot.{Spot}
-use Rattle.names.specs.declared.Next.{Next}
-use Rattle.names.specs.declared.Next.the-variants.{Met, End}
 use Rattle.names.specs.Names.{Name, names, namesFrom}
-
--- kinds 4 and 6 are names
-unfoldable pub isNameKind : ℕ → Bool
-isNameKind k = eqb k 4 || eqb k 6
-
--- a part of the area
-unfoldable pub part : List ℕ → ℕ → ℕ → List ℕ
-part ar from size = take size (drop from ar)
-
--- the name that stands in a part of the area
-abbrev pub nameOf : List ℕ → Named → Name
-nameOf ar x = record { number = x .number; scope = x .scope; bytes = part ar (x .from) (x .size) }
-
--- that part lies within the area
-abbrev pub Inside : List ℕ → Named → Type 0
-Inside ar x = x .from + x .size ≤ length ar
+use Rattle.names.specs.Parts.{part, nameOf, Inside}
+use Rattle.steps.specs.declared.Spot.{Spot}
+use Rattle.steps.specs.declared.Next.{Next}
+use Rattle.steps.specs.declared.Next.the-variants.{Met, End}
 
 -- the name of a record of kind k with the fields f
 pub record Holds (ar : List ℕ) (k : Kind) (f : Fields) (number scope : ℕ) (r : Named) : Type 0 where

@@ -22,13 +22,14 @@ use Rattle.contents.specs.Contents.{contentBytes}
 use Rattle.entries.proofs.Walking.{rest, rest-over, rest-none, next-at}
 use Rattle.entries.proofs.Walking.{rest-is, entries-first}
 use Rattle.contents.proofs.Kept.{content-bytes}
-use Rattle.names.specs.declared.Spot.{Spot}
 use Rattle.names.specs.declared.Named.{Named}
-use Rattle.names.specs.declared.Next.{Next}
-use Rattle.names.specs.declared.Next.the-variants.{Met, End}
-use Rattle.names.specs.Names.{Name, scopeAfter, namesFrom, names}
-use Rattle.names.specs.Steps.{isNameKind, part, nameOf, Inside, Holds, namesAt, Counted, first, listed, Kept, Ahead, Reached, heldBy, heldAt, HeldAt}
+use Rattle.names.specs.Names.{Name, scopeAfter, isNameKind, namesFrom, names}
+use Rattle.names.specs.Parts.{part, nameOf, Inside}
 use Rattle.names.proofs.Lists.{drop-next}
+use Rattle.steps.specs.declared.Spot.{Spot}
+use Rattle.steps.specs.declared.Next.{Next}
+use Rattle.steps.specs.declared.Next.the-variants.{Met, End}
+use Rattle.steps.specs.Steps.{Holds, namesAt, Counted, first, listed, Kept, Ahead, Reached, heldBy, heldAt, HeldAt}
 
 take-min : (n : ℕ) (l : List ℕ) → take (min n (length l)) l ≡ take n l
 take-min zero l = rw zero-min

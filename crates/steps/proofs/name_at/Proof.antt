@@ -1,9 +1,9 @@
--- `names::name_at`: the name of the record that stands there, if one does. Assumes nothing.
+-- `steps::name_at`: the name of the record that stands there, if one does. Assumes nothing.
 use mathlib.Core.Path.{refl, sym, _∙_}
-use Rattle.names.proofs.Steps.{held-record, held-none}
+use Rattle.steps.proofs.Steps.{held-record, held-none}
 use borrow.Author.Needs.{needs}
-use Rattle.names.proofs.name_at.Statement.{statement}
-use Rattle.names.proofs.name_at.Tie as tie
+use Rattle.steps.proofs.name_at.Statement.{statement}
+use Rattle.steps.proofs.name_at.Tie as tie
 
 read-record-requires : tie.Need-read-record-requires
 read-record-requires c κs = search needs

@@ -1,9 +1,9 @@
--- `names::name_of`: a content past the area is empty, any other is cut off at its end. Assumes nothing.
+-- `steps::name_of`: a content past the area is empty, any other is cut off at its end. Assumes nothing.
 use borrow.Author.Needs.{needs}
 use mathlib.Core.Path.{_∙_}
-use Rattle.names.proofs.Steps.{holds-past, holds-within}
-use Rattle.names.proofs.name_of.Statement.{statement}
-use Rattle.names.proofs.name_of.Tie as tie
+use Rattle.steps.proofs.Steps.{holds-past, holds-within}
+use Rattle.steps.proofs.name_of.Statement.{statement}
+use Rattle.steps.proofs.name_of.Tie as tie
 
 cast-from : tie.Need-cast-from
 cast-from c = search needs
