@@ -16,7 +16,7 @@ use Rattle.steps.specs.Steps.{namesAt, first, Reached}
 use Rattle.names.proofs.Same.{not-true, same-scope}
 use Rattle.steps.proofs.Steps.{Meets, reached-first, reached-next}
 use Rattle.windows.specs.Windows.{Ran}
-use Rattle.windows.proofs.Windows.{apart-at}
+use Rattle.tables.proofs.Tables.{apart-at}
 use Rattle.naming.specs.Names.{firstSame, repeatFrom, firstRepeat}
 use Rattle.naming.specs.Scopes.{OfScope, Stretch, Framed, FramesApart, Frames, FreshTo}
 use Rattle.naming.proofs.Repeats.{first-none, fresh-repeat}

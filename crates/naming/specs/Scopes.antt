@@ -8,7 +8,7 @@ use lib.ListN.{take, drop}
 use Rattle.steps.specs.declared.Spot.{Spot}
 use Rattle.names.specs.Names.{Name, names, sameBoth}
 use Rattle.steps.specs.Steps.{namesAt, Reached}
-use Rattle.windows.specs.Windows.{Apart}
+use Rattle.tables.specs.Tables.{Apart}
 use Rattle.naming.specs.declared.Earlier.{Earlier}
 use Rattle.naming.specs.declared.Earlier.the-variants.{At, Missing}
 use Rattle.naming.specs.Names.{repeatFrom, firstRepeat}

@@ -6,8 +6,8 @@ use mathlib.Core.List.{List, [], _∷_, _++_}
 use native.Mathlib.Omega.{arith}
 use native.Mathlib.Numerals.{add-one}
 use native.Mathlib.Nat.{zero-min, min-zero, suc-min-suc, min-le-right}
-use borrow.Author.Tests.{eqb-true}
-use lib.Dec.{eqb}
+use borrow.Author.Tests.{eqb-true, leb-true, leb-false}
+use lib.Dec.{eqb, leb}
 use lib.ListN.{length, take, drop, getD, length-take, length-drop, drop-of-length-le}
 use lib.Seq.{take-all, take-nil}
 use Rattle.text.proofs.Bools.{or-cases}
@@ -29,7 +29,7 @@ use Rattle.names.proofs.Lists.{drop-next}
 use Rattle.steps.specs.declared.Spot.{Spot}
 use Rattle.steps.specs.declared.Next.{Next}
 use Rattle.steps.specs.declared.Next.the-variants.{Met, End}
-use Rattle.steps.specs.Steps.{Holds, namesAt, Counted, first, listed, Kept, Ahead, Reached, heldBy, heldAt, HeldAt}
+use Rattle.steps.specs.Steps.{Holds, namesAt, Counted, first, listed, Kept, Ahead, Reached, heldBy, heldAt, HeldAt, Before}
 
 take-min : (n : ℕ) (l : List ℕ) → take (min n (length l)) l ≡ take n l
 take-min zero l = rw zero-min
@@ -110,6 +110,28 @@ met st ar s r x after a e =
 pub ended : (st ar : List ℕ) (s : Spot) (r : Next) → Ahead st ar s r → r ≡ End → namesAt st ar s ≡ []
 unfolding listed
 ended st ar s r a e = a .names ∙ rw e
+
+-- a step that so many names bound
+pub before-over : (st ar : List ℕ) (end : ℕ) (s : Spot) → end ≤ s .count → Before st ar end s End
+before-over st ar end s l = record { ahead = λ k. absurd (omega arith); over = λ k. refl }
+
+pub before-step : (st ar : List ℕ) (end : ℕ) (s : Spot) (r : Next) → s .count < end → Ahead st ar s r → Before st ar end s r
+before-step st ar end s r l a = record { ahead = λ k. a; over = λ k. absurd (omega arith) }
+
+pub record MeetsBefore (st ar : List ℕ) (end : ℕ) (s : Spot) (x : Named) (after : Spot) : Type 0 where
+  pub meets : Meets st ar s x after
+  pub within : s .count < end
+
+pub met-before : (st ar : List ℕ) (end : ℕ) (s : Spot) (r : Next) (x : Named) (after : Spot) → Before st ar end s r → r ≡ Met x after → MeetsBefore st ar end s x after
+met-before st ar end s r x after b e = by (leb end (s .count)) refl
+  where
+    by : (t : Bool) → leb end (s .count) ≡ t → MeetsBefore st ar end s x after
+    by true o =
+        let f : r ≡ End = b .over (leb-true end (s .count) o) in
+        absurd (let z : _≡_ {A = ℕ} 0 1 = cc in omega arith)
+    by false o =
+        let l : s .count < end = leb-false end (s .count) o in
+        record { meets = met st ar s r x after (b .ahead l) e; within = l }
 
 -- the walk starts with all names
 pub names-first : (st ar : List ℕ) → names st ar ≡ namesAt st ar first

@@ -1,5 +1,5 @@
 -- How names are found in a store: from name to name, each with its record's number, its scope and the part of the area that holds it. Assumes nothing.
-use Prim.Native.Nat.{ℕ, _+_, _≤_}
+use Prim.Native.Nat.{ℕ, _+_, _≤_, _<_}
 use mathlib.Core.Path.{_≡_}
 use mathlib.Core.List.{List, [], _∷_}
 use lib.ListN.{drop}
@@ -48,6 +48,11 @@ Kept ar n End = Unit
 pub record Ahead (st ar : List ℕ) (s : Spot) (r : Next) : Type 0 where
   pub names : namesAt st ar s ≡ listed st ar r
   pub kept : Kept ar (s .count) r
+
+-- a step from a spot with fewer than so many names before it; from any other there is none
+pub record Before (st ar : List ℕ) (end : ℕ) (s : Spot) (r : Next) : Type 0 where
+  pub ahead : s .count < end → Ahead st ar s r
+  pub over : end ≤ s .count → r ≡ End
 
 -- a spot that the walk from the store's first record reaches
 pub record Reached (st ar : List ℕ) (s : Spot) : Type 0 where

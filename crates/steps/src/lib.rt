@@ -1,7 +1,7 @@
 // The walk from name to name through a store, and the name of the record at an offset.
 ghost use mathlib.Core.Path.{_≡_};
 ghost use Prim.Native.Nat.{ℕ, _-_, min};
-ghost use Rattle.steps.specs.Steps.{Holds, HeldAt, Counted, first, Ahead};
+ghost use Rattle.steps.specs.Steps.{Holds, HeldAt, Counted, first, Ahead, Before};
 use entries::Entry;
 use entries::Fields;
 use kinds::Kind;
@@ -90,6 +90,17 @@ pub fn next_name(store: &[u8], area: &[u8], spot: Spot) -> Next
         at = next;
     }
     Next::End
+}
+
+// The next name at or behind a spot with fewer than so many names before it.
+pub fn next_before(store: &[u8], area: &[u8], end: usize, spot: Spot) -> Next
+    requires { ⌜ Counted spot ⌝ }
+    ensures { λ r. ⌜ Before (now (store .entry)) (now (area .entry)) end spot r ⌝ }
+{
+    if end <= spot.count {
+        return Next::End;
+    }
+    next_name(store, area, spot)
 }
 
 // The spot of the first record.

@@ -1,9 +1,9 @@
--- `windows::enter`: a name of another scope, one that was met, one that was not. Assumes nothing.
+-- `tables::enter`: a name of another scope, one that was met, one that was not. Assumes nothing.
 use borrow.Author.Tests.{not-false}
-use Rattle.windows.proofs.Windows.{enter-other, enter-met, enter-new}
+use Rattle.tables.proofs.Tables.{enter-other, enter-met, enter-new}
 use borrow.Author.Needs.{needs}
-use Rattle.windows.proofs.enter.Statement.{statement}
-use Rattle.windows.proofs.enter.Tie as tie
+use Rattle.tables.proofs.enter.Statement.{statement}
+use Rattle.tables.proofs.enter.Tie as tie
 
 returns : tie.Need-returns
 returns c = enter-other _ _ _ _ (c .if1 .taken)

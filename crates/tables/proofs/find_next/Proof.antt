@@ -1,8 +1,8 @@
--- `windows::find_next`: a name of another scope, one not behind the last, one behind it. Assumes nothing.
-use Rattle.windows.proofs.Windows.{last-other, last-none, last-found}
+-- `tables::find_next`: a name of another scope, one not behind the last, one behind it. Assumes nothing.
+use Rattle.tables.proofs.Tables.{last-other, last-none, last-found}
 use borrow.Author.Needs.{needs}
-use Rattle.windows.proofs.find_next.Statement.{statement}
-use Rattle.windows.proofs.find_next.Tie as tie
+use Rattle.tables.proofs.find_next.Statement.{statement}
+use Rattle.tables.proofs.find_next.Tie as tie
 
 returns : tie.Need-returns
 returns c = last-other _ _ _ _ _ _ _ (c .if1 .taken)

@@ -1,8 +1,8 @@
--- `windows::is_met`: a name of another scope, one asked for among sorted offsets, one by its mark. Assumes nothing.
-use Rattle.windows.proofs.Windows.{ask-other, ask-order, ask-marks}
+-- `tables::is_met`: a name of another scope, one asked for among sorted offsets, one by its mark. Assumes nothing.
+use Rattle.tables.proofs.Tables.{ask-other, ask-order, ask-marks}
 use borrow.Author.Needs.{needs}
-use Rattle.windows.proofs.is_met.Statement.{statement}
-use Rattle.windows.proofs.is_met.Tie as tie
+use Rattle.tables.proofs.is_met.Statement.{statement}
+use Rattle.tables.proofs.is_met.Tie as tie
 
 returns : tie.Need-returns
 returns c = ask-other _ _ _ _ _ _ _ _ (c .if1 .taken)
