@@ -1,16 +1,15 @@
 // The name check: within one scope no name stands twice.
 ghost use mathlib.Core.Path.{_≡_};
-ghost use Prim.Native.Nat.{ℕ, _≤_, _<_};
+ghost use Prim.Native.Nat.{ℕ};
 ghost use lib.ListN.{take};
 ghost use Rattle.places.specs.Reports.{refusedBare};
 ghost use Rattle.names.specs.Names.{names};
 ghost use Rattle.names.specs.Parts.{nameOf, Inside};
 ghost use Rattle.steps.specs.Steps.{namesAt, Reached};
 ghost use Rattle.naming.specs.Names.{firstSame, repeatFrom, namingOf, nameCheck, namingReport};
-ghost use Rattle.naming.specs.Scopes.{earlierOf, Stretch, Framed, Frames, FreshTo};
+ghost use Rattle.naming.specs.Search.{earlierOf};
 use names::Named;
 use places::Report;
-use slots::SLOTS;
 use steps::Next;
 use steps::Spot;
 
@@ -54,18 +53,15 @@ fn first_same(store: &[u8], area: &[u8], x: Named, count: usize) -> Earlier
     ensures { λ r. ⌜ r ≡ earlierOf (firstSame (take count (names (now (store .entry)) (now (area .entry)))) (nameOf (now (area .entry)) x)) ⌝ }
 {
     let mut spot = steps::start();
-    let mut left = count;
-    while 0 < left {
-        let Next::Met { name, after } = steps::next_name(store, area, spot) else {
+    loop {
+        let Next::Met { name, after } = steps::next_before(store, area, count, spot) else {
             return Earlier::Missing;
         };
         if names::same_both(area, name, x) {
             return Earlier::At(name.number);
         }
         spot = after;
-        left -= 1;
     }
-    Earlier::Missing
 }
 
 // The earliest repeat from a spot on, each name looked for among all before it.
@@ -89,65 +85,6 @@ fn repeat_from(store: &[u8], area: &[u8], spot: Spot) -> Naming
     }
 }
 
-// The spot behind the names of a scope that stand together from a spot on.
-fn stretch(store: &[u8], area: &[u8], scope: usize, from: Spot) -> Spot
-    requires { ⌜ Reached (now store) (now area) from ⌝ }
-    ensures { λ r. ⌜ Stretch (now (store .entry)) (now (area .entry)) scope from r ⌝ }
-{
-    let mut here = from;
-    loop {
-        let Next::Met { name, after } = steps::next_name(store, area, here) else {
-            return here;
-        };
-        if name.scope != scope {
-            return here;
-        }
-        here = after;
-    }
-}
-
-// The spot of the first repeat in a frame, or the one behind it.
-fn frame(store: &[u8], area: &[u8], table: &mut [u32; SLOTS], scope: usize, from: Spot) -> Spot
-    requires { ⌜ Reached (now store) (now area) from ⌝ }
-    ensures { λ r. ⌜ Framed (now (store .entry)) (now (area .entry)) scope from r ⌝ }
-{
-    let last = stretch(store, area, scope, from);
-    windows::compare(store, area, table, scope, last.count, from)
-}
-
-// The spot of the first repeat in any frame, or the one behind all names. A frame's scope is above those before it.
-fn frames(store: &[u8], area: &[u8], table: &mut [u32; SLOTS]) -> Spot
-    ensures { λ r. ⌜ Frames (now (store .entry)) (now (area .entry)) r ⌝ }
-{
-    let mut here = steps::start();
-    let mut top = 0;
-    loop {
-        let first = stretch(store, area, 0, here);
-        let Next::Met { name, after: _ } = steps::next_name(store, area, first) else {
-            return first;
-        };
-        let scope = name.scope;
-        if scope <= top {
-            return first;
-        }
-        let last = frame(store, area, table, scope, first);
-        if last.count <= first.count {
-            return first;
-        }
-        top = scope;
-        here = last;
-    }
-}
-
-// A spot up to which no name is a repeat: that of the earliest repeat, or the one behind all names.
-fn fresh_end(store: &[u8], area: &[u8]) -> Spot
-    ensures { λ r. ⌜ FreshTo (now (store .entry)) (now (area .entry)) r ⌝ }
-{
-    let mut table = [0u32; SLOTS];
-    let all = frames(store, area, &mut table);
-    windows::compare(store, area, &mut table, 0, all.count, steps::start())
-}
-
 // The service Name check: 12, 13.
 pub fn check_names(store: &[u8], area: &[u8]) -> Naming
     ensures { λ r. ⌜ r ≡ nameCheck (now (store .entry)) (now (area .entry)) ⌝ }
@@ -155,7 +92,7 @@ pub fn check_names(store: &[u8], area: &[u8]) -> Naming
     if !stores::is_sound(store, area) {
         return Naming::NotSound;
     }
-    repeat_from(store, area, fresh_end(store, area))
+    repeat_from(store, area, scopes::fresh_end(store, area))
 }
 
 // A report of a number alone.

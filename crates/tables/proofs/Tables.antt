@@ -1,10 +1,10 @@
 -- Laws of tables: what a table knows stays other than what it does not. Assumes nothing.
 use Prim.Native.Nat.{ℕ, _+_, _≤_, _<_}
-use mathlib.Core.Path.{_≡_, refl, sym, ap, _∙_}
+use mathlib.Core.Path.{_≡_, refl, sym, _∙_}
 use mathlib.Core.Bool.{Bool, true, false, cond, true≢false}
-use mathlib.Core.List.{List, [], _∷_}
+use mathlib.Core.List.{List, _∷_}
 use native.Mathlib.Omega.{arith}
-use borrow.Author.Tests.{eqb-true, eqb-false, eq-eqb, ne-eqb, leb-true, leb-false, lt-ltb, ltb-true, ltb-false, le-leb, lt-leb}
+use borrow.Author.Tests.{eqb-true, eqb-false, eq-eqb, ne-eqb, leb-false, lt-ltb, ltb-true, ltb-false, le-leb, lt-leb}
 use lib.Dec.{eqb, leb, ltb}
 use lib.ListN.{drop}
 use Rattle.slots.specs.Slots.{known, entered}
@@ -15,16 +15,13 @@ use Rattle.names.specs.Names.{Name, names, sameBoth}
 use Rattle.names.specs.Numbers.{hashOf}
 use Rattle.names.specs.Parts.{nameOf}
 use Rattle.steps.specs.Steps.{namesAt, Reached}
+use Rattle.names.proofs.Lists.{same-head}
 use Rattle.names.proofs.Same.{not-true, same-scope, same-bytes}
 use Rattle.names.proofs.Numbers.{same-hash}
 use Rattle.steps.proofs.Steps.{Meets, MeetsBefore, reached-next}
 use Rattle.sorted.specs.Found.{findIn}
 use Rattle.sorted.proofs.Found.{find-same}
 use Rattle.tables.specs.Tables.{markedBy, foundBy, metBy, lastAfter, Entering, Apart, AllMet, NoneMet, Walked, Owned, Passed}
-
--- the heads of the same list are the same
-same-head : (l : List Name) (x y : Name) (r s : List Name) → l ≡ x ∷ r → l ≡ y ∷ s → x ≡ y
-same-head l x y r s e f = cc
 
 -- a table answers for names that are the same alike
 unfoldable pub Respects : (Name → Bool) → Type 0

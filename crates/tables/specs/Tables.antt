@@ -1,9 +1,9 @@
 -- Tables: names of one scope s from the b-th name on go into a table, and each name behind them is asked for there. A table answers for names that are the same
 -- alike, so a name that it does not know is none of those that it does. Assumes nothing.
-use Prim.Native.Nat.{ℕ, _+_, _≤_, _<_}
+use Prim.Native.Nat.{ℕ, _≤_, _<_}
 use mathlib.Core.Path.{_≡_}
 use mathlib.Core.Bool.{Bool, true, false, cond}
-use mathlib.Core.List.{List, [], _∷_}
+use mathlib.Core.List.{List, _∷_}
 use lib.Dec.{eqb, leb, ltb}
 use lib.ListN.{drop}
 use Rattle.slots.specs.Slots.{known}

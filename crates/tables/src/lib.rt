@@ -71,7 +71,7 @@ fn enter(area: &[u8], table: &mut [u32; SLOTS], many: bool, scope: usize, x: Nam
     !slots::is_known(table, many, h)
 }
 
-// Enters names of the scope until one may be there already, or finds no room, or so many names are passed; the spot that is reached.
+// Enters names of the scope up to one that may be there already or finds no room; its spot, or the one behind so many names.
 pub fn enter_names(
     store: &[u8],
     area: &[u8],
@@ -119,7 +119,8 @@ fn find_next(
     found
 }
 
-// Finds each name of the scope in a table of n, one behind the other, until one is not found so, or so many names are passed; the spot that is reached.
+// Finds names of the scope in a table of n, each behind the one before; the spot of the first that is not, or the one behind
+// so many names.
 pub fn find_names(
     store: &[u8],
     area: &[u8],

@@ -1,6 +1,6 @@
 // Names of one scope, compared with each other a window at a time: the window's own names go into a table, and all behind it are looked for there.
 ghost use mathlib.Core.Path.{_≡_};
-ghost use Prim.Native.Nat.{ℕ, _+_, _≤_, _<_};
+ghost use Prim.Native.Nat.{ℕ, _≤_, _<_};
 ghost use Rattle.steps.specs.Steps.{Reached};
 ghost use Rattle.windows.specs.Windows.{Windowed, Ran};
 use names::Named;

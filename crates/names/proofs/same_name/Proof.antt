@@ -1,8 +1,7 @@
 -- `names::same_name`: byte by byte, what is left to compare decides. Assumes nothing.
-use Prim.Native.Nat.{_+_, _-_, _≤_, _<_}
+use Prim.Native.Nat.{_-_}
 use mathlib.Core.Path.{_≡_, sym, _∙_}
 use native.Mathlib.Omega.{arith}
-use lib.ListN.{length}
 use Rattle.names.specs.Names.{sameName}
 use Rattle.names.specs.Parts.{part}
 use Rattle.names.proofs.Same.{sameLeft, same-size, same-all, same-go, same-stop, same-done}

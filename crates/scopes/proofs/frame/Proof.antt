@@ -1,9 +1,9 @@
--- `naming::frame`: the names of the frame, each other than the rest. Assumes nothing.
+-- `scopes::frame`: the names of the frame, each other than the rest. Assumes nothing.
 use mathlib.Core.Path.{refl}
-use Rattle.naming.proofs.Scopes.{framed}
+use Rattle.scopes.proofs.Scopes.{framed}
 use borrow.Author.Needs.{needs}
-use Rattle.naming.proofs.frame.Statement.{statement}
-use Rattle.naming.proofs.frame.Tie as tie
+use Rattle.scopes.proofs.frame.Statement.{statement}
+use Rattle.scopes.proofs.frame.Tie as tie
 
 stretch-requires : tie.Need-stretch-requires
 stretch-requires c κs = search needs

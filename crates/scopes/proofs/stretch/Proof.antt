@@ -1,12 +1,12 @@
--- `naming::stretch`: up to here the names are of the scope. Assumes nothing.
+-- `scopes::stretch`: up to here the names are of the scope. Assumes nothing.
 use lib.ListN.{length}
 use Rattle.steps.specs.Steps.{namesAt}
-use Rattle.naming.specs.Scopes.{Stretch}
+use Rattle.scopes.specs.Scopes.{Stretch}
 use Rattle.steps.proofs.Steps.{met, meets-less}
-use Rattle.naming.proofs.Scopes.{stretch-first, stretch-next}
+use Rattle.scopes.proofs.Scopes.{stretch-first, stretch-next}
 use native.Mathlib.Omega.{arith}
-use Rattle.naming.proofs.stretch.Statement.{statement}
-use Rattle.naming.proofs.stretch.Tie as tie
+use Rattle.scopes.proofs.stretch.Statement.{statement}
+use Rattle.scopes.proofs.stretch.Tie as tie
 
 abbrev Inv-loop : tie.InvT-loop
 Inv-loop store area scope here₀ here = Stretch store area scope here₀ here

@@ -1,28 +1,23 @@
 -- Laws of scopes: frames one after the other, and with the block's own names all of them. Assumes nothing.
-use Prim.Native.Nat.{ℕ, _+_, _-_, _≤_, _<_}
+use Prim.Native.Nat.{ℕ, _≤_, _<_}
 use mathlib.Core.Path.{_≡_, refl, sym, ap, _∙_}
 use mathlib.Core.Bool.{Bool, true, false}
-use mathlib.Core.List.{List, [], _∷_}
-use mathlib.Core.Option.{Option, none, some}
+use mathlib.Core.List.{List, _∷_}
 use native.Mathlib.Omega.{arith}
 use borrow.Author.Tests.{eqb-true, eqb-false, ltb-true, ltb-false}
 use lib.Dec.{eqb, ltb}
-use lib.ListN.{length, take, drop, length-drop}
+use lib.ListN.{length, drop, length-drop}
 use Rattle.steps.specs.declared.Spot.{Spot}
 use Rattle.names.specs.declared.Named.{Named}
 use Rattle.names.specs.Names.{Name, names, sameBoth}
 use Rattle.names.specs.Parts.{nameOf}
-use Rattle.steps.specs.Steps.{namesAt, first, Reached}
+use Rattle.steps.specs.Steps.{first, Reached}
+use Rattle.names.proofs.Lists.{same-head}
 use Rattle.names.proofs.Same.{not-true, same-scope}
 use Rattle.steps.proofs.Steps.{Meets, reached-first, reached-next}
 use Rattle.windows.specs.Windows.{Ran}
 use Rattle.tables.proofs.Tables.{apart-at}
-use Rattle.naming.specs.Names.{firstSame, repeatFrom, firstRepeat}
-use Rattle.naming.specs.Scopes.{OfScope, Stretch, Framed, FramesApart, Frames, FreshTo}
-use Rattle.naming.proofs.Repeats.{first-none, fresh-repeat}
-
-same-head : (l : List Name) (x y : Name) (r s : List Name) → l ≡ x ∷ r → l ≡ y ∷ s → x ≡ y
-same-head l x y r s e f = cc
+use Rattle.scopes.specs.Scopes.{OfScope, Stretch, Framed, FramesApart, Frames, AllApart, Fresh}
 
 -- a stretch of names
 pub stretch-first : (st ar : List ℕ) (s : ℕ) (from : Spot) → Reached st ar from → Stretch st ar s from from
@@ -116,19 +111,17 @@ module _ (st ar : List ℕ) where
   meets-within h x after r m = omega (arith, length-drop (h .count) (names st ar), ap length (sym (r .names) ∙ m .names))
 
   -- the block's own names and the frames' are all names
-  pub fresh-all : (end : ℕ) (all from r : Spot) → Frames st ar all → end ≡ all .count → from ≡ first → Ran st ar 0 end from r → FreshTo st ar r
-  unfolding FramesApart firstRepeat
-  fresh-all end all from r f e g n =
-      record {
-        reached = n .walked .reached;
-        same =
-            rw (n .walked .reached .names)
-            (fresh-repeat (names st ar) (r .count)
-            (λ j x p l d. first-none (names st ar) j x (λ i y q k o. by i j x y p q l d k o (eqb (y .scope) 0) refl)));
-      }
+  pub fresh-all : (end : ℕ) (all from r : Spot) → Frames st ar all → end ≡ all .count → from ≡ first → Ran st ar 0 end from r → Fresh st ar r
+  unfolding FramesApart AllApart
+  fresh-all end all from r f e g n = record { reached = n .walked .reached; apart = λ i j x y p q k l o d. by i j x y p q k l o d (eqb (x .scope) 0) refl }
     where
-      by : (i j : ℕ) (x y : Name) (p q : List Name) → j < r .count → drop j (names st ar) ≡ x ∷ p → i < j → drop i (names st ar) ≡ y ∷ q → (b : Bool) → eqb (y .scope) 0 ≡ b → sameBoth y x ≡ false
-      by i j x y p q l d k o true c =
+      by : (i j : ℕ) (x y : Name) (p q : List Name) → i < j → j < r .count → drop i (names st ar) ≡ x ∷ p → drop j (names st ar) ≡ y ∷ q → (b : Bool) → eqb (x .scope) 0 ≡ b → sameBoth x y ≡ false
+      by i j x y p q k l o d true c =
           let z : from .count ≡ 0 = ap (λ (s : Spot). s .count) g in
-          apart-at (names st ar) 0 (from .count) (r .count) (r .count) (n .apart) i j y x q p (omega arith) (omega arith) k l o d (eqb-true (y .scope) 0 c)
-      by i j x y p q l d k o false c = f .apart i j y x q p k (omega (arith, n .walked .within)) o d (eqb-false (y .scope) 0 c)
+          apart-at (names st ar) 0 (from .count) (r .count) (r .count) (n .apart) i j x y p q (omega arith) (omega arith) k l o d (eqb-true (x .scope) 0 c)
+      by i j x y p q k l o d false c = f .apart i j x y p q k (omega (arith, n .walked .within)) o d (eqb-false (x .scope) 0 c)
+
+  -- two names before the spot
+  pub fresh-at : (r : Spot) → Fresh st ar r → (i j : ℕ) (x y : Name) (p q : List Name) → i < j → j < r .count → drop i (names st ar) ≡ x ∷ p → drop j (names st ar) ≡ y ∷ q → sameBoth x y ≡ false
+  unfolding AllApart
+  fresh-at r f = f .apart

@@ -1,13 +1,13 @@
--- `naming::frames`: up to here no scope is above the last, and the names of frames are other than each other. Assumes nothing.
+-- `scopes::frames`: up to here no scope is above the last, and the names of frames are other than each other. Assumes nothing.
 use Prim.Native.Nat.{_-_}
 use lib.ListN.{length}
 use Rattle.names.specs.Names.{names}
 use Rattle.steps.proofs.Steps.{met}
-use Rattle.naming.proofs.Scopes.{Framing, framing-first, framing-block, framing-frame, framing-end, meets-within}
+use Rattle.scopes.proofs.Scopes.{Framing, framing-first, framing-block, framing-frame, framing-end, meets-within}
 use borrow.Author.Needs.{needs}
 use native.Mathlib.Omega.{arith}
-use Rattle.naming.proofs.frames.Statement.{statement}
-use Rattle.naming.proofs.frames.Tie as tie
+use Rattle.scopes.proofs.frames.Statement.{statement}
+use Rattle.scopes.proofs.frames.Tie as tie
 
 abbrev Inv-loop : tie.InvT-loop
 Inv-loop store area table₀ here₀ top₀ table here top = Framing store area top here

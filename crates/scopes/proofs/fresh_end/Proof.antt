@@ -1,11 +1,11 @@
--- `naming::fresh_end`: the frames' names, then the block's own. Assumes nothing.
+-- `scopes::fresh_end`: the frames' names, then the block's own. Assumes nothing.
 use mathlib.Core.Path.{refl}
 use Rattle.steps.proofs.Steps.{reached-first}
-use Rattle.naming.proofs.Scopes.{fresh-all}
+use Rattle.scopes.proofs.Scopes.{fresh-all}
 use borrow.Author.Needs.{needs}
 use native.Mathlib.Omega.{arith}
-use Rattle.naming.proofs.fresh_end.Statement.{statement}
-use Rattle.naming.proofs.fresh_end.Tie as tie
+use Rattle.scopes.proofs.fresh_end.Statement.{statement}
+use Rattle.scopes.proofs.fresh_end.Tie as tie
 
 frames-requires : tie.Need-frames-requires
 frames-requires c κs = search needs

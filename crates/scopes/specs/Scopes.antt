@@ -2,21 +2,12 @@
 use Prim.Native.Nat.{ℕ, _≤_, _<_}
 use mathlib.Core.Path.{_≡_}
 use mathlib.Core.Bool.{false}
-use mathlib.Core.List.{List, [], _∷_}
-use mathlib.Core.Option.{Option, none, some}
-use lib.ListN.{take, drop}
+use mathlib.Core.List.{List, _∷_}
+use lib.ListN.{drop}
 use Rattle.steps.specs.declared.Spot.{Spot}
 use Rattle.names.specs.Names.{Name, names, sameBoth}
-use Rattle.steps.specs.Steps.{namesAt, Reached}
+use Rattle.steps.specs.Steps.{Reached}
 use Rattle.tables.specs.Tables.{Apart}
-use Rattle.naming.specs.declared.Earlier.{Earlier}
-use Rattle.naming.specs.declared.Earlier.the-variants.{At, Missing}
-use Rattle.naming.specs.Names.{repeatFrom, firstRepeat}
-
--- a search's answer as an enum
-unfoldable pub earlierOf : Option ℕ → Earlier
-earlierOf (some i) = At i
-earlierOf none = Missing
 
 -- the names from b to e - 1 are of this scope
 unfoldable pub OfScope : List Name → ℕ → ℕ → ℕ → Type 0
@@ -42,7 +33,10 @@ pub record Frames (st ar : List ℕ) (r : Spot) : Type 0 where
   pub reached : Reached st ar r
   pub apart : FramesApart (names st ar) (r .count)
 
--- the earliest repeat of all is that from a spot on
-pub record FreshTo (st ar : List ℕ) (r : Spot) : Type 0 where
+-- no name before a spot is the same as one before it
+unfoldable pub AllApart : List Name → ℕ → Type 0
+AllApart xs e = (i j : ℕ) (x y : Name) (p q : List Name) → i < j → j < e → drop i xs ≡ x ∷ p → drop j xs ≡ y ∷ q → sameBoth x y ≡ false
+
+pub record Fresh (st ar : List ℕ) (r : Spot) : Type 0 where
   pub reached : Reached st ar r
-  pub same : repeatFrom (take (r .count) (names st ar)) (namesAt st ar r) ≡ firstRepeat (names st ar)
+  pub apart : AllApart (names st ar) (r .count)
