@@ -2,4 +2,3 @@ pub mod Lists
 pub mod Same
 pub mod Numbers
 pub mod Order
-pub mod Steps

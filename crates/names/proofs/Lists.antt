@@ -1,11 +1,15 @@
--- Laws of names that stand before others in a list: one name on. Assumes nothing.
+-- Laws of names in a list: the one at its head, and one name on. Assumes nothing.
 use Prim.Native.Nat.{ℕ, zero, suc, _+_}
-use mathlib.Core.Path.{_≡_, refl, ap}
+use mathlib.Core.Path.{_≡_, ap}
 use mathlib.Core.List.{List, [], _∷_, _++_}
 use native.Mathlib.Omega.{arith}
 use native.Mathlib.Numerals.{add-one}
 use lib.ListN.{take, drop}
 use Rattle.names.specs.Names.{Name}
+
+-- the heads of the same list are the same
+pub same-head : (l : List Name) (x y : Name) (r s : List Name) → l ≡ x ∷ r → l ≡ y ∷ s → x ≡ y
+same-head l x y r s e f = cc
 
 -- one name on
 drop-suc : (xs : List Name) (n : ℕ) (y : Name) (ys : List Name) → drop n xs ≡ y ∷ ys → drop (suc n) xs ≡ ys

@@ -6,7 +6,7 @@ use mathlib.Core.List.{List, [], _∷_}
 use native.Mathlib.Omega.{arith}
 use lib.ListN.{length, getD}
 use Rattle.names.specs.Names.{Name, sameBoth}
-use Rattle.names.specs.Steps.{part}
+use Rattle.names.specs.Parts.{part}
 use Rattle.names.specs.Numbers.{mix, mixAll, hashOf}
 use Rattle.names.proofs.Same.{same-equal, same-scope, same-bytes, part-cons}
 

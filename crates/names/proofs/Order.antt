@@ -8,7 +8,7 @@ use borrow.Author.Tests.{eq-eqb, ne-eqb}
 use lib.Dec.{eqb, ltb}
 use lib.ListN.{length, getD}
 use Rattle.names.specs.Order.{lessBytes, lessName}
-use Rattle.names.specs.Steps.{part}
+use Rattle.names.specs.Parts.{part}
 use Rattle.names.proofs.Same.{part-length, part-cons}
 
 module _ (ar : List ℕ) (a b n : ℕ) where

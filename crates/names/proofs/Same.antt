@@ -1,18 +1,16 @@
 -- Laws of names that are the same: byte by byte over two parts of the area. Assumes nothing.
-use Prim.Native.Nat.{ℕ, zero, suc, _+_, _-_, _≤_, _<_, min}
+use Prim.Native.Nat.{ℕ, suc, _+_, _-_, _≤_, _<_}
 use mathlib.Core.Path.{_≡_, refl, sym, ap, ap₂, _∙_}
-use mathlib.Core.Bool.{Bool, true, false, cond, _&&_, true≢false}
+use mathlib.Core.Bool.{Bool, true, false, _&&_, true≢false}
 use mathlib.Core.List.{List, [], _∷_}
 use native.Mathlib.Omega.{arith}
-use native.Mathlib.Numerals.{add-one}
-use native.Mathlib.Nat.{add-suc}
 use borrow.Author.Tests.{eqb-true, eq-eqb, ne-eqb}
 use lib.Dec.{eqb}
-use lib.ListN.{length, take, drop, getD, length-take, length-drop}
+use lib.ListN.{length, getD, length-take, length-drop}
 use lib.Seq.{drop-cons}
 use Rattle.text.proofs.Bools.{and-l, and-r}
 use Rattle.names.specs.Names.{Name, sameName, sameBoth}
-use Rattle.names.specs.Steps.{part}
+use Rattle.names.specs.Parts.{part}
 
 pub not-true : (t : Bool) → (t ≡ true → ⊥) → t ≡ false
 not-true true f = absurd (f refl)
@@ -34,6 +32,15 @@ same-scope x y e = eqb-true (x .scope) (y .scope) (and-l (eqb (x .scope) (y .sco
 pub same-bytes : (x y : Name) → sameBoth x y ≡ true → sameName (x .bytes) (y .bytes) ≡ true
 unfolding sameBoth
 same-bytes x y e = and-r (eqb (x .scope) (y .scope)) (sameName (x .bytes) (y .bytes)) e
+
+-- names of one scope, and of two
+pub same-within : (x y : Name) → x .scope ≡ y .scope → sameName (x .bytes) (y .bytes) ≡ sameBoth x y
+unfolding sameBoth
+same-within x y e = rw (eq-eqb (x .scope) (y .scope) e)
+
+pub same-other : (x y : Name) → (x .scope ≡ y .scope → ⊥) → false ≡ sameBoth x y
+unfolding sameBoth
+same-other x y d = rw (ne-eqb (x .scope) (y .scope) d)
 
 module _ (ar : List ℕ) where
   pub part-length : (a n : ℕ) → a + n ≤ length ar → length (part ar a n) ≡ n

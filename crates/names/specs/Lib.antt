@@ -1,4 +1,4 @@
 pub mod Names
 pub mod Order
 pub mod Numbers
-pub mod Steps
+pub mod Parts

@@ -30,6 +30,10 @@ sameBoth x y = eqb (x .scope) (y .scope) && sameName (x .bytes) (y .bytes)
 unfoldable pub scopeAfter : ℕ → ℕ → ℕ → ℕ
 scopeAfter k i scope = cond (eqb k 2) i (cond (eqb k 3) 0 scope)
 
+-- kinds 4 and 6 are names
+unfoldable pub isNameKind : ℕ → Bool
+isNameKind k = eqb k 4 || eqb k 6
+
 -- the names of entries, the first of which has the number i and stands in this scope
 unfoldable pub namesFrom : List Entry → List ℕ → ℕ → ℕ → List Name
 namesFrom [] ar i scope = []

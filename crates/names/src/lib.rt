@@ -1,14 +1,11 @@
-// Names of a store: the walk from name to name, when two are the same, which comes first, and the number by which they are spread.
+// Names of a store: which records hold one, when two are the same, which comes first, and the number by which they are spread.
 ghost use mathlib.Core.Path.{_≡_};
-ghost use Prim.Native.Nat.{ℕ, _+_, _-_, _≤_, _<_, min};
+ghost use Prim.Native.Nat.{ℕ, _+_, _≤_};
 ghost use lib.ListN.{length};
-ghost use Rattle.names.specs.Names.{sameName, sameBoth, scopeAfter};
+ghost use Rattle.names.specs.Names.{sameName, sameBoth, scopeAfter, isNameKind};
 ghost use Rattle.names.specs.Order.{lessName};
 ghost use Rattle.names.specs.Numbers.{mix as mixOf, hashOf};
-ghost use Rattle.names.specs.Steps.{isNameKind, part, nameOf, Inside, Holds, HeldAt, Counted, first, Ahead};
-use entries::Entry;
-use entries::Fields;
-use kinds::Kind;
+ghost use Rattle.names.specs.Parts.{part, nameOf, Inside};
 
 // A name: its record's offset and number, its scope, and the part of the area that holds it.
 pub struct Named {
@@ -18,23 +15,6 @@ pub struct Named {
     pub from: usize,
     pub size: usize,
 }
-
-// Where a walk stands: the offset, number and scope of a record, and how many names stand before it.
-pub struct Spot {
-    pub at: usize,
-    pub number: usize,
-    pub scope: usize,
-    pub count: usize,
-}
-
-// A step of the walk: the next name, and the spot behind it.
-pub enum Next {
-    Met { name: Named, after: Spot },
-    End,
-}
-
-// The number of the first record.
-const FIRST: usize = 0;
 
 // Whether two parts of the area are the same name: the one place that decides when names are equal.
 pub fn same_name(area: &[u8], a: usize, n: usize, b: usize, m: usize) -> bool
@@ -83,7 +63,8 @@ pub fn is_before(area: &[u8], a: usize, n: usize, b: usize, m: usize) -> bool
     false
 }
 
-fn is_name(kind: u8) -> bool
+// Whether records of a kind hold a name.
+pub fn is_name(kind: u8) -> bool
     ensures { λ r. ⌜ r ≡ isNameKind kind ⌝ }
 {
     if kind == 4 {
@@ -93,7 +74,7 @@ fn is_name(kind: u8) -> bool
 }
 
 // The scope behind a record: a frame's number is that of its opening record, and the block's is 0.
-fn scope_after(kind: u8, number: usize, scope: usize) -> usize
+pub fn scope_after(kind: u8, number: usize, scope: usize) -> usize
     ensures { λ r. ⌜ r ≡ scopeAfter kind number scope ⌝ }
 {
     if kind == 2 {
@@ -103,107 +84,6 @@ fn scope_after(kind: u8, number: usize, scope: usize) -> usize
         return 0;
     }
     scope
-}
-
-// The length of a content, at most what the area has there.
-fn clamped(length: usize, marks: usize, room: usize) -> usize
-    ensures { λ r. ⌜ r ≡ min (length - marks) room ⌝ }
-{
-    if length < marks {
-        return 0;
-    }
-    if room < length - marks {
-        return room;
-    }
-    length - marks
-}
-
-// The name that a record holds; what would reach past the area ends there.
-fn name_of(area: &[u8], kind: Kind, fields: Fields, at: usize, number: usize, scope: usize) -> Named
-    ensures { λ r. ⌜ Holds (now (area .entry)) kind fields number scope r ⌝ }
-{
-    let from = fields.number as usize;
-    if area.len() < from {
-        return Named {
-            at,
-            number,
-            scope,
-            from: 0,
-            size: 0,
-        };
-    }
-    let length = fields.token.length as usize;
-    Named {
-        at,
-        number,
-        scope,
-        from,
-        size: clamped(length, kind.marks(), area.len() - from),
-    }
-}
-
-// The next name at or behind a spot.
-pub fn next_name(store: &[u8], area: &[u8], spot: Spot) -> Next
-    requires { ⌜ Counted spot ⌝ }
-    ensures { λ r. ⌜ Ahead (now (store .entry)) (now (area .entry)) spot r ⌝ }
-{
-    let mut at = spot.at;
-    let mut number = spot.number;
-    let mut scope = spot.scope;
-    while at < store.len() {
-        let Entry::Record { kind, fields, next } = entries::read_record(store, at) else {
-            return Next::End;
-        };
-        let k = kind.number();
-        if is_name(k) {
-            return Next::Met {
-                name: name_of(area, kind, fields, at, number, scope),
-                after: Spot {
-                    at: next,
-                    number: number + 1,
-                    scope,
-                    count: spot.count + 1,
-                },
-            };
-        }
-        scope = scope_after(k, number, scope);
-        number += 1;
-        at = next;
-    }
-    Next::End
-}
-
-// The spot of the first record.
-pub fn start() -> Spot
-    ensures { λ r. ⌜ r ≡ first ⌝ }
-{
-    Spot {
-        at: 0,
-        number: FIRST,
-        scope: 0,
-        count: 0,
-    }
-}
-
-// The name of the record at an offset; an empty one where no record stands.
-pub fn name_at(store: &[u8], area: &[u8], at: usize) -> Named
-    ensures { λ r. ⌜ HeldAt (now (store .entry)) (now (area .entry)) at r ⌝ }
-{
-    let Entry::Record {
-        kind,
-        fields,
-        next: _,
-    } = entries::read_record(store, at)
-    else {
-        return Named {
-            at,
-            number: 0,
-            scope: 0,
-            from: 0,
-            size: 0,
-        };
-    };
-    name_of(area, kind, fields, at, 0, 0)
 }
 
 // One byte more of a name's number.

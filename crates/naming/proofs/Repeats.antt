@@ -1,23 +1,31 @@
 -- Laws of a search among the names before one, and of the earliest repeat. Assumes nothing.
 use Prim.Native.Nat.{ℕ, zero, suc, _+_, _-_, _≤_, _<_}
 use mathlib.Core.Path.{_≡_, refl, sym, ap, _∙_}
-use mathlib.Core.Bool.{Bool, true, false, cond}
-use mathlib.Core.List.{List, [], _∷_, _++_}
+use mathlib.Core.Bool.{Bool, true, false}
+use mathlib.Core.List.{List, [], _∷_}
 use mathlib.Core.Option.{Option, none, some}
 use native.Mathlib.Omega.{arith}
 use native.Mathlib.Numerals.{add-one}
+use borrow.Author.Tests.{leb-true, leb-false}
+use lib.Dec.{leb}
 use lib.ListN.{take, drop}
 use lib.Seq.{take-nil}
 use Rattle.stores.specs.Soundness.{sound}
-use Rattle.names.specs.declared.Spot.{Spot}
+use Rattle.steps.specs.declared.Spot.{Spot}
 use Rattle.names.specs.Names.{Name, names, sameBoth}
-use Rattle.names.specs.Steps.{namesAt}
+use Rattle.names.specs.declared.Named.{Named}
+use Rattle.names.specs.Parts.{nameOf}
+use Rattle.steps.specs.declared.Next.{Next}
+use Rattle.steps.specs.declared.Next.the-variants.{End}
+use Rattle.steps.specs.Steps.{namesAt, first, Before}
+use Rattle.steps.proofs.Steps.{MeetsBefore, ended, names-first}
+use Rattle.scopes.specs.Scopes.{Fresh}
+use Rattle.scopes.proofs.Scopes.{fresh-at}
 use Rattle.names.proofs.Lists.{drop-next, take-next}
-use Rattle.naming.specs.declared.Naming.{Naming}
 use Rattle.naming.specs.declared.Naming.the-variants.{Distinct, NotSound, Repeated}
 use Rattle.naming.specs.declared.Earlier.the-variants.{At, Missing}
 use Rattle.naming.specs.Names.{firstSame, repeatOr, repeatFrom, firstRepeat, namingOf, nameCheck}
-use Rattle.naming.specs.Scopes.{earlierOf, FreshTo}
+use Rattle.naming.specs.Search.{earlierOf}
 
 -- a search among the first n names
 module _ (x : Name) where
@@ -41,6 +49,35 @@ module _ (x : Name) where
   first-miss (suc n) l y ys h e s =
       let m : suc n - 1 ≡ n = omega arith in
       rw (e, s, m)
+
+-- a search among the first n names, from a spot on
+module _ (st ar : List ℕ) (n : ℕ) (x : Name) where
+  unfoldable pub sameFrom : Spot → Option ℕ
+  sameFrom s = firstSame (take (n - s .count) (namesAt st ar s)) x
+
+  pub from-first : (s : Spot) → s ≡ first → firstSame (take n (names st ar)) x ≡ sameFrom s
+  unfolding sameFrom
+  from-first s e =
+      let z : n - 0 ≡ n = omega arith in
+      rw (e, z, names-first)
+
+  pub from-end : (s : Spot) (r : Next) → Before st ar n s r → r ≡ End → sameFrom s ≡ none
+  unfolding sameFrom
+  from-end s r b e = by (leb n (s .count)) refl
+    where
+      by : (t : Bool) → leb n (s .count) ≡ t → firstSame (take (n - s .count) (namesAt st ar s)) x ≡ none
+      by true o = first-over x (namesAt st ar s) (n - s .count) (omega (arith, leb-true n (s .count) o))
+      by false o = first-end x (n - s .count) (namesAt st ar s) (ended st ar s r (b .ahead (leb-false n (s .count) o)) e)
+
+  pub from-hit : (s : Spot) (y : Named) (after : Spot) → MeetsBefore st ar n s y after → sameBoth (nameOf ar y) x ≡ true → sameFrom s ≡ some (y .number)
+  unfolding sameFrom
+  from-hit s y after m h = first-hit x (n - s .count) (namesAt st ar s) (nameOf ar y) (namesAt st ar after) (omega (arith, m .within)) (m .meets .names) h
+
+  pub from-miss : (s : Spot) (y : Named) (after : Spot) → MeetsBefore st ar n s y after → sameBoth (nameOf ar y) x ≡ false → sameFrom s ≡ sameFrom after
+  unfolding sameFrom
+  from-miss s y after m h =
+      let c : n - s .count - 1 ≡ n - after .count = omega (arith, m .meets .count, m .within) in
+      first-miss x (n - s .count) (namesAt st ar s) (nameOf ar y) (namesAt st ar after) (omega (arith, m .within)) (m .meets .names) h ∙ rw c
 
 -- a repeat among the names from the n-th on
 module _ (xs : List Name) (n : ℕ) where
@@ -95,11 +132,18 @@ fresh-repeat xs (suc n) f = by (drop n xs) refl (fresh-repeat xs n (λ j x r l e
         let m : repeatFrom (take n xs) (drop n xs) ≡ repeatFrom (take (suc n) xs) r = rw add-one at (repeat-miss xs n (drop n xs) x r refl e (f n x r (omega arith) e)) in
         rw o (sym m ∙ h)
 
+pub fresh-from : (st ar : List ℕ) (s : Spot) → Fresh st ar s → repeatFrom (take (s .count) (names st ar)) (namesAt st ar s) ≡ firstRepeat (names st ar)
+unfolding firstRepeat
+fresh-from st ar s f =
+    rw (f .reached .names)
+    (fresh-repeat (names st ar) (s .count)
+    (λ j x p l d. first-none (names st ar) j x (λ i y q k o. fresh-at st ar s f i j y x q p k l o d)))
+
 -- the service by its two steps
 pub check-unsound : (st ar : List ℕ) → sound st ar ≡ false → NotSound ≡ nameCheck st ar
 unfolding nameCheck
 check-unsound st ar e = rw e
 
-pub check-sound : (st ar : List ℕ) (s : Spot) → sound st ar ≡ true → FreshTo st ar s → namingOf (repeatFrom (take (s .count) (names st ar)) (namesAt st ar s)) ≡ nameCheck st ar
+pub check-sound : (st ar : List ℕ) (s : Spot) → sound st ar ≡ true → Fresh st ar s → namingOf (repeatFrom (take (s .count) (names st ar)) (namesAt st ar s)) ≡ nameCheck st ar
 unfolding nameCheck
-check-sound st ar s e f = rw e (ap namingOf (f .same))
+check-sound st ar s e f = rw e (ap namingOf (fresh-from st ar s f))

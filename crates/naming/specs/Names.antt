@@ -1,7 +1,7 @@
 -- NAME CHECK (document 01): within one scope (the block's own tags, or one frame's) no two names of kinds 4 and 6 are equal, byte for byte. 13 gives the number of the
 -- first record of that name, then of the earliest record that repeats one. Records count from 0 over the whole store. Assumes nothing.
 use Prim.Native.Nat.{ℕ}
-use mathlib.Core.Bool.{Bool, cond}
+use mathlib.Core.Bool.{cond}
 use mathlib.Core.List.{List, [], _∷_, _++_}
 use mathlib.Core.Option.{Option, none, some}
 use Rattle.places.specs.declared.Report.{Report}

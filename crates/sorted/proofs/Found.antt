@@ -9,7 +9,7 @@ use lib.Dec.{ltb}
 use lib.ListN.{getD}
 use Rattle.names.specs.Names.{sameName}
 use Rattle.names.specs.Order.{lessName}
-use Rattle.names.specs.Steps.{heldAt}
+use Rattle.steps.specs.Steps.{heldAt}
 use Rattle.names.proofs.Same.{same-equal}
 use Rattle.sorted.specs.Found.{passed, placeFrom, placeOf, foundAt, findIn}
 

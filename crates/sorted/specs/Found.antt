@@ -7,7 +7,7 @@ use lib.Dec.{ltb}
 use lib.ListN.{getD}
 use Rattle.names.specs.Names.{sameName}
 use Rattle.names.specs.Order.{lessName}
-use Rattle.names.specs.Steps.{heldAt}
+use Rattle.steps.specs.Steps.{heldAt}
 
 -- past the entry in the middle, where it is one of the n and comes before the name w
 unfoldable pub passed : List ℕ → List ℕ → List ℕ → ℕ → ℕ → ℕ → List ℕ → ℕ

@@ -1,7 +1,7 @@
 // Names in order: a table of record offsets, sorted by the names that the records hold, in which a name is found by halving.
 ghost use mathlib.Core.Path.{_≡_};
 ghost use Prim.Native.Nat.{ℕ, _≤_, _<_};
-ghost use Rattle.names.specs.Steps.{nameOf, Inside};
+ghost use Rattle.names.specs.Parts.{nameOf, Inside};
 ghost use Rattle.sorted.specs.Found.{passed, placeOf, findIn};
 use names::Named;
 use slots::SLOTS;
@@ -15,8 +15,8 @@ fn wide(entry: u32) -> usize
 
 // Whether the record at one offset comes before that at another: by their names, and those of one name by their offsets.
 fn precedes(store: &[u8], area: &[u8], a: u32, b: u32) -> bool {
-    let x = names::name_at(store, area, wide(a));
-    let y = names::name_at(store, area, wide(b));
+    let x = steps::name_at(store, area, wide(a));
+    let y = steps::name_at(store, area, wide(b));
     if names::is_before(area, x.from, x.size, y.from, y.size) {
         return true;
     }
@@ -105,7 +105,7 @@ fn pass(
     if n <= middle {
         return at;
     }
-    let entry = names::name_at(store, area, wide(table[middle]));
+    let entry = steps::name_at(store, area, wide(table[middle]));
     if names::is_before(area, entry.from, entry.size, x.from, x.size) {
         return middle + 1;
     }
@@ -138,7 +138,7 @@ pub fn find(store: &[u8], area: &[u8], table: &[u32; SLOTS], n: usize, x: Named)
         return 0;
     }
     let held = wide(table[at]);
-    let y = names::name_at(store, area, held);
+    let y = steps::name_at(store, area, held);
     if names::same_name(area, y.from, y.size, x.from, x.size) {
         return held + 1;
     }

@@ -4,7 +4,7 @@ use Prim.Native.Nat.{_+_, _-_, _≤_, _<_}
 use mathlib.Core.Path.{_≡_, refl, sym, ap, _∙_}
 use native.Mathlib.Omega.{arith}
 use lib.ListN.{length}
-use Rattle.names.specs.Steps.{part, nameOf, Inside}
+use Rattle.names.specs.Parts.{part, nameOf, Inside}
 use Rattle.names.specs.Numbers.{mixAll, hashOf}
 use Rattle.names.proofs.Numbers.{mixLeft, mix-first, mix-go, mix-done}
 use Rattle.names.proofs.hash_name.Statement.{statement}

@@ -1,9 +1,8 @@
 -- `names::is_before`: the lengths first, then byte by byte, what is left to compare decides. Assumes nothing.
-use Prim.Native.Nat.{_+_, _-_, _≤_, _<_}
+use Prim.Native.Nat.{_-_}
 use mathlib.Core.Path.{_≡_, sym, _∙_}
-use lib.ListN.{length}
 use Rattle.names.specs.Order.{lessName}
-use Rattle.names.specs.Steps.{part}
+use Rattle.names.specs.Parts.{part}
 use Rattle.names.proofs.Order.{lessLeft, less-size, less-all, less-go, less-stop, less-done}
 use native.Mathlib.Omega.{arith}
 use Rattle.names.proofs.is_before.Statement.{statement}

@@ -1,6 +1,6 @@
 -- `names::is_name`: kind 4 or 6. Assumes nothing.
 use borrow.Author.Tests.{ne-eqb}
-use Rattle.names.specs.Steps.{isNameKind}
+use Rattle.names.specs.Names.{isNameKind}
 use Rattle.names.proofs.is_name.Statement.{statement}
 use Rattle.names.proofs.is_name.Tie as tie
 

@@ -1,10 +1,9 @@
 -- `names::same_name`: byte by byte, what is left to compare decides. Assumes nothing.
-use Prim.Native.Nat.{_+_, _-_, _≤_, _<_}
+use Prim.Native.Nat.{_-_}
 use mathlib.Core.Path.{_≡_, sym, _∙_}
 use native.Mathlib.Omega.{arith}
-use lib.ListN.{length}
 use Rattle.names.specs.Names.{sameName}
-use Rattle.names.specs.Steps.{part}
+use Rattle.names.specs.Parts.{part}
 use Rattle.names.proofs.Same.{sameLeft, same-size, same-all, same-go, same-stop, same-done}
 use Rattle.names.proofs.same_name.Statement.{statement}
 use Rattle.names.proofs.same_name.Tie as tie
@@ -38,7 +37,7 @@ returns-2 : tie.Need-returns-2 Inv-loop μ-loop
 returns-2 c =
     let start = c .before .before .before .before .before .before in
     let here = c .before .before .before .before .loop in
-    sym (here .inv .1 ∙ same-stop _ _ _ _ _ (start .pre .0) (omega arith) (c .before .before .before .loop-test .taken) (c .if2 .taken))
+    sym (here .inv .1 ∙ same-stop _ _ _ _ _ (start .pre .0) (omega arith) (omega arith) (c .if2 .taken))
 
 add-i : tie.Need-add-i Inv-loop μ-loop
 add-i c = omega arith
@@ -50,10 +49,10 @@ loop-again : tie.Need-loop-again Inv-loop μ-loop
 loop-again c =
     let start = c .before .before .before .before .before .before in
     let here = c .before .before .before .before .loop in
-    (here .inv .0, here .inv .1 ∙ same-go _ _ _ _ _ (start .pre .0) (omega arith) (c .before .before .before .loop-test .taken) (c .if2 .left))
+    (here .inv .0, here .inv .1 ∙ same-go _ _ _ _ _ (start .pre .0) (omega arith) (omega arith) (c .if2 .left))
 
 returns-3 : tie.Need-returns-3 Inv-loop μ-loop
-returns-3 c = sym (c .before .loop .inv .1 ∙ same-done _ _ _ _ _ (c .loop-test .left))
+returns-3 c = sym (c .before .loop .inv .1 ∙ same-done _ _ _ _ _ (omega arith))
 
 pub same-name-spec : {M : Type 1} → statement M
 same-name-spec =

@@ -1,12 +1,12 @@
 -- `naming::repeat_from`: the earliest repeat from where the walk began is that from here on. Assumes nothing.
-use Prim.Native.Nat.{ℕ, _+_, _-_, _≤_, _<_}
+use Prim.Native.Nat.{ℕ}
 use mathlib.Core.Path.{_≡_, refl, sym, ap, _∙_}
 use lib.ListN.{length, take}
 use Rattle.names.specs.Names.{names}
 use Rattle.naming.specs.Names.{repeatFrom, namingOf}
-use Rattle.names.specs.Steps.{nameOf, namesAt, Reached}
+use Rattle.steps.specs.Steps.{namesAt, Reached}
 use Rattle.naming.proofs.Repeats.{repeat-end, repeat-hit, repeat-miss, earlier-at, earlier-missing}
-use Rattle.names.proofs.Steps.{met, ended, reached-next, meets-less}
+use Rattle.steps.proofs.Steps.{met, ended, reached-next, meets-less}
 use Rattle.naming.proofs.repeat_from.Statement.{statement}
 use Rattle.naming.proofs.repeat_from.Tie as tie
 

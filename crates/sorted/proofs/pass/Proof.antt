@@ -23,7 +23,7 @@ name-at-requires : tie.Need-name-at-requires
 name-at-requires c κs = search needs
 
 is-before-requires : tie.Need-is-before-requires
-is-before-requires c κs = (c .name-at .ensures .inside, c .before .before .before .before .before .before .pre .0)
+is-before-requires c κs = search needs
 
 add-result : tie.Need-add-result
 add-result c = search needs

@@ -1,7 +1,7 @@
 -- `sorted::place_of`: the steps that are left lead to the same place. Assumes nothing.
 use Prim.Native.Nat.{_≤_}
 use mathlib.Core.Path.{_≡_, refl, sym, _∙_}
-use Rattle.names.specs.Steps.{nameOf}
+use Rattle.names.specs.Parts.{nameOf}
 use Rattle.sorted.specs.Found.{placeFrom, placeOf}
 use Rattle.sorted.proofs.Found.{pass-within, place-go, place-done}
 use native.Mathlib.Omega.{arith}

@@ -1,5 +1,6 @@
 -- `windows::by_marks`: the names that are entered, then those that are passed. Assumes nothing.
-use Rattle.windows.proofs.Windows.{windowed, passed-marks, marked-same}
+use Rattle.tables.proofs.Tables.{passed-marks, marked-same}
+use Rattle.windows.proofs.Windows.{windowed}
 use borrow.Author.Needs.{needs}
 use native.Mathlib.Omega.{arith}
 use Rattle.windows.proofs.by_marks.Statement.{statement}

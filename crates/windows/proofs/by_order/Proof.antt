@@ -1,5 +1,6 @@
 -- `windows::by_order`: the names that are found, then those that are passed. Assumes nothing.
-use Rattle.windows.proofs.Windows.{windowed, passed-order, found-same}
+use Rattle.tables.proofs.Tables.{passed-order, found-same}
+use Rattle.windows.proofs.Windows.{windowed}
 use borrow.Author.Needs.{needs}
 use Rattle.windows.proofs.by_order.Statement.{statement}
 use Rattle.windows.proofs.by_order.Tie as tie

@@ -9,7 +9,7 @@ abbrev Inv-loop : tie.InvT-loop
 Inv-loop store area table₀ scope end many here₀ stop₀ table here stop = Comparing store area scope end here₀ stop here
 
 abbrev μ-loop : tie.MeasureT-loop
-μ-loop store area table₀ scope end many here₀ stop₀ table here stop = stop - here .count
+μ-loop store area table₀ scope end many here₀ stop₀ table here stop = end - here .count
 
 sub-many : tie.Need-sub-many Inv-loop μ-loop
 sub-many c = c .before .before .before .pre .1
@@ -27,7 +27,9 @@ returns-2 : tie.Need-returns-2 Inv-loop μ-loop
 returns-2 c = compared-here _ _ _ _ _ _ _ (c .before .before .before .before .before .before .before .before .before .before .loop .inv)
 
 loop-less : tie.Need-loop-less Inv-loop μ-loop
-loop-less c = omega (arith, c .before .before .before .before .before .before .before .before .window .ensures .walked .within, c .before .before .before .if1 .left, c .if2 .left)
+loop-less c =
+    let reached = c .before .before .before .before .before .before .before .before .window .ensures in
+    omega (arith, reached .own .within, reached .walked .within, c .before .before .before .before .before .before .before .before .before .before .loop .inv .within, c .if2 .left)
 
 loop-again : tie.Need-loop-again Inv-loop μ-loop
 loop-again c = comparing-next _ _ _ _ _ _ _ _ (c .before .before .before .before .before .before .before .before .before .before .loop .inv) (c .before .before .before .before .before .before .before .before .window .ensures)

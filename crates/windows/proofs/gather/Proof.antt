@@ -1,8 +1,8 @@
 -- `windows::gather`: the offsets fit the table. Assumes nothing.
 use Prim.Native.Nat.{_≤_}
 use lib.ListN.{length}
-use Rattle.names.specs.Steps.{namesAt, Reached}
-use Rattle.names.proofs.Steps.{met, meets-less, reached-next}
+use Rattle.steps.specs.Steps.{namesAt, Reached}
+use Rattle.steps.proofs.Steps.{met-before, meets-less, reached-next}
 use native.Mathlib.Omega.{arith}
 use Rattle.windows.proofs.gather.Statement.{statement}
 use Rattle.windows.proofs.gather.Tie as tie
@@ -16,11 +16,8 @@ abbrev μ-loop : tie.MeasureT-loop
 loop-holds : tie.Need-loop-holds Inv-loop μ-loop
 loop-holds c = (omega arith, c .before .before .pre)
 
-returns : tie.Need-returns Inv-loop μ-loop
-returns c = omega arith
-
-next-name-requires : tie.Need-next-name-requires Inv-loop μ-loop
-next-name-requires c κs = c .before .before .loop .inv .1 .counted
+next-before-requires : tie.Need-next-before-requires Inv-loop μ-loop
+next-before-requires c κs = c .before .loop .inv .1 .counted
 
 enum-known-name : tie.Need-enum-known-name Inv-loop μ-loop
 enum-known-name c = c .match .keys1
@@ -28,20 +25,20 @@ enum-known-name c = c .match .keys1
 enum-told : tie.Need-enum-told Inv-loop μ-loop
 enum-told c = c .match .keys2
 
-returns-2 : tie.Need-returns-2 Inv-loop μ-loop
-returns-2 c = omega arith
+returns : tie.Need-returns Inv-loop μ-loop
+returns c = omega arith
 
 keep-requires : tie.Need-keep-requires Inv-loop μ-loop
 keep-requires c κs = omega arith
 
 loop-less : tie.Need-loop-less Inv-loop μ-loop
-loop-less c = meets-less _ _ _ _ _ (met _ _ _ _ _ _ (c .before .before .before .before .before .next-name .ensures) (c .before .before .before .name .given .1))
+loop-less c = meets-less _ _ _ _ _ (met-before _ _ _ _ _ _ _ (c .before .before .before .before .before .next-before .ensures) (c .before .before .before .name .given .1) .meets)
 
 loop-again : tie.Need-loop-again Inv-loop μ-loop
-loop-again c = (c .keep .ensures, reached-next _ _ _ _ _ (c .before .before .before .before .before .before .before .before .loop .inv .1) (met _ _ _ _ _ _ (c .before .before .before .before .before .next-name .ensures) (c .before .before .before .name .given .1)))
+loop-again c = (c .keep .ensures, reached-next _ _ _ _ _ (c .before .before .before .before .before .before .before .loop .inv .1) (met-before _ _ _ _ _ _ _ (c .before .before .before .before .before .next-before .ensures) (c .before .before .before .name .given .1) .meets))
 
-returns-3 : tie.Need-returns-3 Inv-loop μ-loop
-returns-3 c = omega arith
+returns-2 : tie.Need-returns-2 Inv-loop μ-loop
+returns-2 c = omega arith
 
 pub gather-spec : {M : Type 1} → statement M
 gather-spec =
@@ -50,12 +47,11 @@ gather-spec =
     Inv-loop
     μ-loop
     loop-holds
-    returns
-    next-name-requires
+    next-before-requires
     enum-known-name
     enum-told
-    returns-2
+    returns
     keep-requires
     loop-less
     loop-again
-    returns-3)
+    returns-2)
