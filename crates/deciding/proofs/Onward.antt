@@ -23,14 +23,14 @@ use Rattle.items.specs.declared.Item.{Item as Answered}
 use Rattle.deciding.specs.declared.Inside.{Inside}
 use Rattle.deciding.specs.declared.Inside.the-variants.{Read as ReadInside, Dropped, Refused as RefusedInside}
 use Rattle.grammar.specs.Tokens.{before, inBlock, inFrame, lexIn, lex, after, Tok, tok, tokens, tokensFrom, tokensAt, headAt}
-use Rattle.grammar.specs.Machine.{Rec, Answer, refused, done, run, config, items, rec, follow, move, atStart, atItem, fails, closes, stop}
+use Rattle.grammar.specs.Machine.{Rec, Answer, refused, done, run, config, items, rec, follow, move, atStart, atItem, fails, closes, stop, inBlockOnly}
 use Rattle.sizes.specs.Sizes.{sizesOf, noSizes, added, joined, Upto}
 use Rattle.grammar.specs.Reading.{decided}
 use Rattle.grammar.specs.Descent.{Item, item}
 use Rattle.deciding.specs.Decisions.{told, tells}
 use Rattle.items.specs.Answers.{itemAnswer, itemAt}
-use Rattle.deciding.specs.Frames.{inBlockOf, inFrameOf, frameEnd, modeOf, left, blockAt, Passed, Stepped}
-use Rattle.grammar.proofs.Descent.{isPlain, failedRun, itemRun, item-in-frame, item-in-block}
+use Rattle.deciding.specs.Frames.{inBlockOf, inFrameOf, frameEnd, modeOf, left, blockAt, Passed, Stepped, Framed}
+use Rattle.grammar.proofs.Descent.{isPlain, failedRun, behindItem, itemRun, item-in-frame, item-in-block, any-detail}
 use Rattle.grammar.proofs.Lexes.{lex-plain}
 use Rattle.grammar.proofs.Offsets.{tokens-gap, tokens-ends, Met, met-open, met-close, met-data, first, Spot, Both, both-last, both-save, both-more, both, both-spot}
 use Rattle.items.proofs.Passes.{AlikeItem, alike-taken, alike-ragged, alike-alone, alike-absent, alike-unnamed, alike-over, item-alike}
@@ -47,33 +47,33 @@ failed-closing x a out (t ∷ ts) = refl
 
 -- an item in the frame that opened at a
 pub record DroppedAt (s : List ℕ) (a o p : ℕ) : Type 0 where
-  pub reads : (out : List Rec) → left (some a) s o out ≡ closing a out (tokensAt inFrame s p)
+  pub reads : (c : ℕ) (out : List Rec) → left c (some a) s o out ≡ closing a out (tokensAt inFrame s p)
   pub onward : o ≤ p
   pub within : p ≤ length s
   pub bare : gap (drop p s) ≡ 0
 
 unfoldable pub PassedInside : List ℕ → ℕ → ℕ → Inside → Type 0
-PassedInside s a o (ReadInside p z) = Passed s (some a) o (some a) p z
+PassedInside s a o (ReadInside p z) = Passed s (some a) o (some a) p z 0
 PassedInside s a o (Dropped p) = DroppedAt s a o p
-PassedInside s a o (RefusedInside c e) = (out : List Rec) → told (RefusedText c e) ≡ tells (left (some a) s o out)
+PassedInside s a o (RefusedInside c e) = (out : List Rec) → told (RefusedText c e) ≡ tells (left 0 (some a) s o out)
 
 -- the machine at an item
-pub frame-item : (s : List ℕ) (a o : ℕ) (out : List Rec) → gap (drop o s) ≡ 0 → left (some a) s o out ≡ itemRun (some a) out (item (tokensAt inFrame s o))
+pub frame-item : (c : ℕ) (s : List ℕ) (a o : ℕ) (out : List Rec) → gap (drop o s) ≡ 0 → left c (some a) s o out ≡ itemRun c (some a) out (item (tokensAt inFrame s o))
 unfolding left modeOf
-frame-item s a o out g =
+frame-item c s a o out g =
     let f = first s o g inFrame in
-    rw (f .1) (item-in-frame (tok (lex inFrame (drop o s)) o) (f .0) a out (rw (f .1) at (tokens-ends inFrame s o)))
+    rw (f .1) (item-in-frame c (tok (lex inFrame (drop o s)) o) (f .0) a out (rw (f .1) at (tokens-ends inFrame s o)))
 
-pub block-item : (s : List ℕ) (o : ℕ) (out : List Rec) → gap (drop o s) ≡ 0 → isPlain (lexIn inBlock (drop o s) .class) ≡ true → left none s o out ≡ itemRun none out (item (tokensAt inBlock s o))
+pub block-item : (c : ℕ) (s : List ℕ) (o : ℕ) (out : List Rec) → gap (drop o s) ≡ 0 → isPlain (lexIn inBlock (drop o s) .class) ≡ true → left c none s o out ≡ itemRun c none out (item (tokensAt inBlock s o))
 unfolding left modeOf lex tok
-block-item s o out g e =
+block-item c s o out g e =
     let f = first s o g inBlock in
-    rw (f .1) (item-in-block (tok (lexIn inBlock (drop o s)) o) (f .0) out (rw (f .1) at (tokens-ends inBlock s o)) e)
+    rw (f .1) (item-in-block c (tok (lexIn inBlock (drop o s)) o) (f .0) out (rw (f .1) at (tokens-ends inBlock s o)) e)
 
 -- an item that is read
-taken-passed : {ts us : List Tok} (s : List ℕ) (f : Option ℕ) (o to : ℕ) (rs : List Rec) → Spot s to ts us → o < to → Upto (to - o) (sizesOf rs)
-    → ((out : List Rec) → left f s o out ≡ left f s (headAt ts) (out ++ rs)) → Passed s f o f (headAt ts) (sizesOf rs)
-taken-passed s f o to rs p l h r =
+taken-passed : {ts us : List Tok} (s : List ℕ) (f : Option ℕ) (o to d : ℕ) (rs : List Rec) → Spot s to ts us → o < to → Upto (to - o) (sizesOf rs)
+    → ((c : ℕ) (out : List Rec) → left c f s o out ≡ left d f s (headAt ts) (out ++ rs)) → Passed s f o f (headAt ts) (sizesOf rs) d
+taken-passed s f o to d rs p l h r =
     record {
       kept = rs;
       sizes = refl;
@@ -84,35 +84,35 @@ taken-passed s f o to rs p l h r =
       fits = upto-more (to - o) _ _ h (omega (arith, p .onward));
     }
 
-dropped-at : {ts us : List Tok} (s : List ℕ) (a o : ℕ) (x : Answer) → Spot s o ts us → ((out : List Rec) → left (some a) s o out ≡ failedRun x (some a) out us) → DroppedAt s a o (headAt ts)
+dropped-at : {ts us : List Tok} (s : List ℕ) (a o : ℕ) (x : ℕ → Answer) → Spot s o ts us → ((c : ℕ) (out : List Rec) → left c (some a) s o out ≡ failedRun (x c) (some a) out us) → DroppedAt s a o (headAt ts)
 dropped-at s a o x p r =
     record {
-      reads = λ out. r out ∙ failed-closing x a out _ ∙ rw (p .inFrame);
+      reads = λ c out. r c out ∙ failed-closing (x c) a out _ ∙ rw (p .inFrame);
       onward = p .onward;
       within = p .within;
       bare = p .bare;
     }
 
-pub left-from : (f : Option ℕ) (s : List ℕ) (p : ℕ) (us : List Tok) (out : List Rec) → us ≡ tokensAt (modeOf f) s p → run us (config items f out []) ≡ left f s p out
+pub left-from : (d : ℕ) (f : Option ℕ) (s : List ℕ) (p : ℕ) (us : List Tok) (out : List Rec) → us ≡ tokensAt (modeOf f) s p → run us (config (items d) f out []) ≡ left d f s p out
 unfolding left
-left-from f s p us out e = ap (λ (x : List Tok). run x (config items f out [])) e
+left-from d f s p us out e = ap (λ (x : List Tok). run x (config (items d) f out [])) e
 
 -- an item in a frame
-inside : {s : List ℕ} {o : ℕ} {x y : Item} (a : ℕ) → AlikeItem s o x y → ((out : List Rec) → left (some a) s o out ≡ itemRun (some a) out y) → PassedInside s a o (inFrameOf (itemAnswer x))
-unfolding PassedInside itemAnswer itemRun modeOf told tells
+inside : {s : List ℕ} {o : ℕ} {x y : Item} (a : ℕ) → AlikeItem s o x y → ((c : ℕ) (out : List Rec) → left c (some a) s o out ≡ itemRun c (some a) out y) → PassedInside s a o (inFrameOf (itemAnswer x))
+unfolding PassedInside itemAnswer itemRun behindItem inBlockOnly modeOf told tells
 inside {s = s} {o = o} a (alike-taken {b = true} {rs = rs} to l b h) r =
-    taken-passed s (some a) o to rs (both-spot b) l h (λ out. r out ∙ left-from (some a) s _ _ (out ++ rs) (both-spot b .inFrame))
+    taken-passed s (some a) o to 0 rs (both-spot b) l h (λ c out. r c out ∙ left-from 0 (some a) s _ _ (out ++ rs) (both-spot b .inFrame))
 inside {s = s} {o = o} a (alike-taken {b = false} {rs = rs} to l b h) r =
-    taken-passed s (some a) o to rs (both-spot b) l h (λ out. r out ∙ left-from (some a) s _ _ (out ++ rs) (both-spot b .inFrame))
-inside {s = s} {o = o} a (alike-ragged b) r = dropped-at s a o _ (both-spot b) r
-inside {s = s} {o = o} a (alike-alone b) r = dropped-at s a o _ (both-spot b) r
-inside {s = s} {o = o} a (alike-absent b) r = dropped-at s a o _ (both-spot b) r
-inside a alike-unnamed r = λ out. rw (r out)
-inside a alike-over r = λ out. rw (r out)
+    taken-passed s (some a) o to 0 rs (both-spot b) l h (λ c out. r c out ∙ left-from 0 (some a) s _ _ (out ++ rs) (both-spot b .inFrame))
+inside {s = s} {o = o} a (alike-ragged b) r = dropped-at s a o (λ c. _) (both-spot b) r
+inside {s = s} {o = o} a (alike-alone b) r = dropped-at s a o (λ c. _) (both-spot b) r
+inside {s = s} {o = o} a (alike-absent b) r = dropped-at s a o (λ c. refused 7 _ c) (both-spot b) r
+inside a alike-unnamed r = λ out. rw (r 0 out)
+inside a alike-over r = λ out. rw (r 0 out)
 
 pub item-inside : (s : List ℕ) (a o : ℕ) → o ≤ length s → gap (drop o s) ≡ 0 → PassedInside s a o (inFrameOf (itemAt s o))
 unfolding itemAt
-item-inside s a o h g = inside a (item-alike (both s o h)) (λ out. frame-item s a o out g)
+item-inside s a o h g = inside a (item-alike (both s o h)) (λ c out. frame-item c s a o out g)
 
 -- in the block a failed item is the answer
 pub failed-stops : {s : List ℕ} {o : ℕ} {ts us : List Tok} → Both s o ts us → (x : Answer) (out : List Rec) → failedRun x none out ts ≡ x
@@ -122,35 +122,35 @@ failed-stops (both-save h a e f) x out = refl
 failed-stops (both-more h z b) x out = refl
 
 -- an item in the block
-stepped : {s : List ℕ} {o : ℕ} {x y : Item} → AlikeItem s o x y → ((out : List Rec) → left none s o out ≡ itemRun none out x) → Stepped s o (inBlockOf (itemAnswer x))
-unfolding Stepped itemAnswer itemRun modeOf told tells
-stepped {s = s} {o = o} (alike-taken {b = true} {rs = rs} to l b h) r =
-    taken-passed s none o to rs (both-spot b) l h (λ out. r out ∙ left-from none s _ _ (out ++ rs) (both-spot b .inBlock))
-stepped {s = s} {o = o} (alike-taken {b = false} {rs = rs} to l b h) r =
-    taken-passed s none o to rs (both-spot b) l h (λ out. r out ∙ left-from none s _ _ (out ++ rs) (both-spot b .inBlock))
-stepped (alike-ragged b) r = λ out. rw (r out, failed-stops b)
-stepped (alike-alone b) r = λ out. rw (r out, failed-stops b)
-stepped (alike-absent b) r = λ out. rw (r out, failed-stops b)
-stepped alike-unnamed r = λ out. rw (r out)
-stepped alike-over r = λ out. rw (r out)
+stepped : {s : List ℕ} {o : ℕ} {x y : Item} (d : ℕ) → AlikeItem s o x y → ((c : ℕ) (out : List Rec) → left c none s o out ≡ itemRun c none out x) → Stepped d s o (inBlockOf d (itemAnswer x))
+unfolding Stepped itemAnswer itemRun behindItem inBlockOnly modeOf told tells
+stepped {s = s} {o = o} d (alike-taken {b = true} {rs = rs} to l b h) r =
+    taken-passed s none o to _ rs (both-spot b) l h (λ c out. r c out ∙ left-from _ none s _ _ (out ++ rs) (both-spot b .inBlock))
+stepped {s = s} {o = o} d (alike-taken {b = false} {rs = rs} to l b h) r =
+    taken-passed s none o to 0 rs (both-spot b) l h (λ c out. r c out ∙ left-from 0 none s _ _ (out ++ rs) (both-spot b .inBlock))
+stepped d (alike-ragged b) r = λ out. rw (r d out, failed-stops b)
+stepped d (alike-alone b) r = λ out. rw (r d out, failed-stops b)
+stepped d (alike-absent b) r = λ out. rw (r d out, failed-stops b)
+stepped d alike-unnamed r = λ out. rw (r d out)
+stepped d alike-over r = λ out. rw (r d out)
 
 pub plain : (u : List ℕ) → 0 < length u → starts keySave u ≡ false → isPlain (lexIn inBlock u .class) ≡ true
 plain [] h e = absurd (omega arith)
 plain (b ∷ s) h e = lex-plain inBlock b s e
 
-pub item-stepped : (s : List ℕ) (o : ℕ) → o < length s → gap (drop o s) ≡ 0 → startsAt keySave s o ≡ false → Stepped s o (inBlockOf (itemAt s o))
+pub item-stepped : (d : ℕ) (s : List ℕ) (o : ℕ) → o < length s → gap (drop o s) ≡ 0 → startsAt keySave s o ≡ false → Stepped d s o (inBlockOf d (itemAt s o))
 unfolding itemAt
-item-stepped s o h g e =
+item-stepped d s o h g e =
     let p = plain (drop o s) (omega (arith, length-drop o s)) (sym (starts-at keySave s o) ∙ e) in
-    stepped (item-alike (both s o (omega arith))) (λ out. block-item s o out g p)
+    stepped d (item-alike (both s o (omega arith))) (λ c out. block-item c s o out g p)
 
 -- one part after another
-pub passed-then : (s : List ℕ) (f g h : Option ℕ) (o p q : ℕ) (z y : Sizes) → Passed s f o g p z → Passed s g p h q y → Passed s f o h q (joined z y)
-passed-then s f g h o p q z y a b =
+pub passed-then : (s : List ℕ) (f g h : Option ℕ) (o p q : ℕ) (z y : Sizes) (d e : ℕ) → Passed s f o g p z d → Passed s g p h q y e → Passed s f o h q (joined z y) e
+passed-then s f g h o p q z y d e a b =
     record {
       kept = a .kept ++ b .kept;
       sizes = rw (a .sizes, b .sizes) (sym (sizes-append (a .kept) (b .kept)));
-      reads = λ out. a .reads out ∙ b .reads (out ++ a .kept) ∙ rw append-assoc;
+      reads = λ c out. a .reads c out ∙ b .reads d (out ++ a .kept) ∙ rw append-assoc;
       onward = omega (arith, a .onward, b .onward);
       within = b .within;
       bare = b .bare;
@@ -158,18 +158,23 @@ passed-then s f g h o p q z y a b =
     }
 
 -- a frame opens
-pub open-reads : (s : List ℕ) (o w : ℕ) (out : List Rec) → Met inBlock s o (lexed save w) → left none s o out ≡ left (some o) s (o + w) (out ++ (rec 2 (tok (lexed save w) o) ∷ []))
+pub open-reads : (c : ℕ) (s : List ℕ) (o w : ℕ) (out : List Rec) → Met inBlock s o (lexed save w) → left c none s o out ≡ left 0 (some o) s (o + w) (out ++ (rec 2 (tok (lexed save w) o) ∷ []))
 unfolding left modeOf run move config atItem follow lexed tok after
-open-reads s o w out m = rw (m .next)
+open-reads c s o w out m = rw (m .next)
 
-pub left-gap : (f : Option ℕ) (s : List ℕ) (o : ℕ) (out : List Rec) → left f s (gapEnd s o) out ≡ left f s o out
+pub left-gap : (d : ℕ) (f : Option ℕ) (s : List ℕ) (o : ℕ) (out : List Rec) → left d f s (gapEnd s o) out ≡ left d f s o out
 unfolding left
-left-gap f s o out = rw (tokens-gap (modeOf f) s o)
+left-gap d f s o out = rw (tokens-gap (modeOf f) s o)
+
+-- what is read does not depend on the detail
+pub left-read : (c d : ℕ) (f : Option ℕ) (s : List ℕ) (o : ℕ) (out rs : List Rec) → left c f s o out ≡ done rs → left d f s o out ≡ done rs
+unfolding left
+left-read c d f s o out rs e = any-detail c d f (tokensAt (modeOf f) s o) out rs e
 
 one-fits : (k w n : ℕ) → 0 < w → w ≤ n → Upto n (added noSizes k w)
 one-fits k w n z h = upto-added 0 k w n noSizes (upto-none 0) (omega arith) (omega arith)
 
-pub frame-opens : (s : List ℕ) (o : ℕ) → gap (drop o s) ≡ 0 → startsAt keySave s o ≡ true → Passed s none o (some o) (gapEnd s (wordEnd s o)) (added noSizes 2 (wordEnd s o - o))
+pub frame-opens : (s : List ℕ) (o : ℕ) → gap (drop o s) ≡ 0 → startsAt keySave s o ≡ true → Passed s none o (some o) (gapEnd s (wordEnd s o)) (added noSizes 2 (wordEnd s o - o)) 0
 unfolding lexed tok rec
 frame-opens s o g e =
     let w = word (drop o s) in
@@ -181,7 +186,7 @@ frame-opens s o g e =
     (record {
       kept = rec 2 t ∷ [];
       sizes = sym (sizes-one (rec 2 t));
-      reads = λ out. open-reads s o w out m ∙ sym (left-gap (some o) s (o + w) (out ++ (rec 2 t ∷ [])));
+      reads = λ c out. open-reads c s o w out m ∙ sym (left-gap 0 (some o) s (o + w) (out ++ (rec 2 t ∷ [])));
       onward = omega (arith, m .some-bytes);
       within = gap-within s (o + w) (m .within);
       bare = gap-none s (o + w);
@@ -229,11 +234,11 @@ open-answer s a p out g e =
     let f = first s p g inFrame in
     rw (f .1, no-close (x .class) a out (tok x p) (no-save (drop p s) (sym (starts-at keySave s p) ∙ e)))
 
-pub close-answer : (s : List ℕ) (a p : ℕ) (out : List Rec) → Met inFrame s p (lexed save 5) → closing a out (tokensAt inFrame s p) ≡ left none s (p + 5) (out ++ (rec 3 (tok (lexed save 5) p) ∷ []))
+pub close-answer : (s : List ℕ) (a p : ℕ) (out : List Rec) → Met inFrame s p (lexed save 5) → closing a out (tokensAt inFrame s p) ≡ left 0 none s (p + 5) (out ++ (rec 3 (tok (lexed save 5) p) ∷ []))
 unfolding closing failedRun fails closes follow left modeOf lexed tok after
 close-answer s a p out m = rw (m .next)
 
-frame-closes : (s : List ℕ) (a o p : ℕ) → DroppedAt s a o p → startsAt keySave s p ≡ true → Passed s (some a) o none (gapEnd s (p + 5)) (added noSizes 3 5)
+frame-closes : (s : List ℕ) (a o p : ℕ) → DroppedAt s a o p → startsAt keySave s p ≡ true → Passed s (some a) o none (gapEnd s (p + 5)) (added noSizes 3 5) 0
 unfolding lexed tok rec
 frame-closes s a o p d e =
     let m = met-close s p (d .bare) e in
@@ -242,7 +247,7 @@ frame-closes s a o p d e =
     record {
       kept = rec 3 t ∷ [];
       sizes = sym (sizes-one (rec 3 t));
-      reads = λ out. d .reads out ∙ close-answer s a p out m ∙ sym (left-gap none s (p + 5) (out ++ (rec 3 t ∷ [])));
+      reads = λ c out. d .reads c out ∙ close-answer s a p out m ∙ sym (left-gap 0 none s (p + 5) (out ++ (rec 3 t ∷ [])));
       onward = omega (arith, d .onward);
       within = gap-within s (p + 5) (m .within);
       bare = gap-none s (p + 5);
@@ -252,44 +257,44 @@ frame-closes s a o p d e =
 -- what holds of both branches holds of the one taken
 either :
     (s : List ℕ) (o : ℕ) (t : Bool) (x y : Step)
-    → (t ≡ true → Stepped s o x)
-    → (t ≡ false → Stepped s o y)
-    → Stepped s o (cond t x y)
+    → (t ≡ true → Framed s o x)
+    → (t ≡ false → Framed s o y)
+    → Framed s o (cond t x y)
 either s o true x y p q = p refl
 either s o false x y p q = q refl
 
 -- a frame that has been read up to o ends with the item that was dropped there
 pub frame-ends :
     (s : List ℕ) (a o p : ℕ) (z : Sizes)
-    → Passed s none a (some a) o z
+    → Passed s none a (some a) o z 0
     → DroppedAt s a o p
-    → Stepped s a (frameEnd s a z p)
-unfolding frameEnd Stepped told tells
+    → Framed s a (frameEnd s a z p)
+unfolding frameEnd Framed Stepped told tells
 frame-ends s a o p z h d =
     either s a (startsAt keySave s p) _ _
-    (λ e. rw (← added-none z 3 5)
-    (passed-then s none (some a) none a o (gapEnd s (p + 5)) z (added noSizes 3 5) h (frame-closes s a o p d e)))
-    (λ e out. rw (h .reads out, d .reads (out ++ h .kept), open-answer s a p (out ++ h .kept) (d .bare) e))
+    (λ e c. rw (← added-none z 3 5)
+    (passed-then s none (some a) none a o (gapEnd s (p + 5)) z (added noSizes 3 5) 0 0 h (frame-closes s a o p d e)))
+    (λ e c out. rw (h .reads c out, d .reads 0 (out ++ h .kept), open-answer s a p (out ++ h .kept) (d .bare) e))
 
 -- a frame's refusal is the text's
-pub frame-refused : (s : List ℕ) (a o : ℕ) (z : Sizes) (c : Cause) (e : ℕ) → Passed s none a (some a) o z → ((out : List Rec) → told (RefusedText c e) ≡ tells (left (some a) s o out)) → Stepped s a (Refused c e)
-unfolding Stepped
-frame-refused s a o z c e h r = λ out. rw (h .reads out) (r (out ++ h .kept))
+pub frame-refused : (s : List ℕ) (a o : ℕ) (z : Sizes) (c : Cause) (e : ℕ) → Passed s none a (some a) o z 0 → ((out : List Rec) → told (RefusedText c e) ≡ tells (left 0 (some a) s o out)) → Framed s a (Refused c e)
+unfolding Framed Stepped
+frame-refused s a o z c e h r = λ d out. rw (h .reads d out) (r (out ++ h .kept))
 
--- the block that starts at o has been read up to p
-pub record Begun (s : List ℕ) (o p : ℕ) (z : Sizes) : Type 0 where
+-- the block that starts at o has been read up to p, where a 7 has the detail d
+pub record Begun (s : List ℕ) (o p : ℕ) (z : Sizes) (d : ℕ) : Type 0 where
   pub kept : List Rec
   pub sizes : z ≡ sizesOf kept
-  pub reads : blockAt s o ≡ left none s p kept
+  pub reads : blockAt s o ≡ left d none s p kept
   pub within : p ≤ length s
   pub bare : gap (drop p s) ≡ 0
   pub fits : Upto p z
 
-pub begin-reads : (s : List ℕ) (o w : ℕ) → Met before s o (lexed block w) → blockAt s o ≡ left none s (o + w) (rec 1 (tok (lexed block w) o) ∷ [])
+pub begin-reads : (s : List ℕ) (o w : ℕ) → Met before s o (lexed block w) → blockAt s o ≡ left 0 none s (o + w) (rec 1 (tok (lexed block w) o) ∷ [])
 unfolding blockAt left modeOf run move config atStart follow lexed tok after
 begin-reads s o w m = rw (m .next)
 
-pub block-begins : (s : List ℕ) (o : ℕ) → gap (drop o s) ≡ 0 → startsAt keyData s o ≡ true → Begun s o (gapEnd s (wordEnd s o)) (added noSizes 1 (wordEnd s o - o))
+pub block-begins : (s : List ℕ) (o : ℕ) → gap (drop o s) ≡ 0 → startsAt keyData s o ≡ true → Begun s o (gapEnd s (wordEnd s o)) (added noSizes 1 (wordEnd s o - o)) 0
 unfolding lexed tok rec
 block-begins s o g e =
     let w = word (drop o s) in
@@ -301,34 +306,34 @@ block-begins s o g e =
     (record {
       kept = rec 1 t ∷ [];
       sizes = sym (sizes-one (rec 1 t));
-      reads = begin-reads s o w m ∙ sym (left-gap none s (o + w) (rec 1 t ∷ []));
+      reads = begin-reads s o w m ∙ sym (left-gap 0 none s (o + w) (rec 1 t ∷ []));
       within = gap-within s (o + w) (m .within);
       bare = gap-none s (o + w);
       fits = one-fits 1 w (gapEnd s (o + w)) (m .some-bytes) (omega arith);
     })
 
-pub block-goes-on : (s : List ℕ) (o p q : ℕ) (z y : Sizes) → Begun s o p z → Passed s none p none q y → Begun s o q (joined z y)
-block-goes-on s o p q z y a b =
+pub block-goes-on : (s : List ℕ) (o p q : ℕ) (z y : Sizes) (d e : ℕ) → Begun s o p z d → Passed s none p none q y e → Begun s o q (joined z y) e
+block-goes-on s o p q z y d e a b =
     record {
       kept = a .kept ++ b .kept;
       sizes = rw (a .sizes, b .sizes) (sym (sizes-append (a .kept) (b .kept)));
-      reads = a .reads ∙ b .reads (a .kept);
+      reads = a .reads ∙ b .reads d (a .kept);
       within = b .within;
       bare = b .bare;
       fits = upto-joined p (q - p) q z y (a .fits) (b .fits) (omega (arith, b .onward));
     }
 
 -- at the text's end all records are kept
-pub end-answer : (s : List ℕ) (p : ℕ) (out : List Rec) → length s ≤ p → left none s p out ≡ done out
+pub end-answer : (d : ℕ) (s : List ℕ) (p : ℕ) (out : List Rec) → length s ≤ p → left d none s p out ≡ done out
 unfolding left modeOf tokensAt tokensFrom run move config lex lexIn lexed tok atItem follow
-end-answer s p out h = rw (drop-of-length-le s h)
+end-answer d s p out h = rw (drop-of-length-le s h)
 
-pub block-ends : (s : List ℕ) (o p : ℕ) (z : Sizes) → Begun s o p z → length s ≤ p → told (Fits z) ≡ tells (blockAt s o)
+pub block-ends : (s : List ℕ) (o p : ℕ) (z : Sizes) (d : ℕ) → Begun s o p z d → length s ≤ p → told (Fits z) ≡ tells (blockAt s o)
 unfolding told tells sizesOf
-block-ends s o p z b h = rw (b .reads, end-answer s p (b .kept) h, b .sizes)
+block-ends s o p z d b h = rw (b .reads, end-answer d s p (b .kept) h, b .sizes)
 
-pub block-refused : (s : List ℕ) (o p : ℕ) (z : Sizes) (c : Cause) (e : ℕ) → Begun s o p z → ((out : List Rec) → told (RefusedText c e) ≡ tells (left none s p out)) → told (RefusedText c e) ≡ tells (blockAt s o)
-block-refused s o p z c e b r = rw (b .reads) (r (b .kept))
+pub block-refused : (s : List ℕ) (o p : ℕ) (z : Sizes) (d : ℕ) (c : Cause) (e : ℕ) → Begun s o p z d → ((out : List Rec) → told (RefusedText c e) ≡ tells (left d none s p out)) → told (RefusedText c e) ≡ tells (blockAt s o)
+block-refused s o p z d c e b r = rw (b .reads) (r (b .kept))
 
 -- no `data_`
 pub no-data : (s : List ℕ) (o : ℕ) → gap (drop o s) ≡ 0 → startsAt keyData s o ≡ false → told (RefusedText NoData o) ≡ tells (blockAt s o)
@@ -362,7 +367,7 @@ pub inside-known :
     → PassedInside s a o x
 inside-known s a o i x h g e f = rw (f, e) (item-inside s a o h g)
 
-pub inside-read : {s : List ℕ} {a o p : ℕ} {z : Sizes} {x : Inside} → PassedInside s a o x → x ≡ ReadInside p z → Passed s (some a) o (some a) p z
+pub inside-read : {s : List ℕ} {a o p : ℕ} {z : Sizes} {x : Inside} → PassedInside s a o x → x ≡ ReadInside p z → Passed s (some a) o (some a) p z 0
 unfolding PassedInside
 inside-read h q = rw q at h
 
@@ -370,18 +375,18 @@ pub inside-dropped : {s : List ℕ} {a o p : ℕ} {x : Inside} → PassedInside 
 unfolding PassedInside
 inside-dropped h q = rw q at h
 
-pub inside-refused : (s : List ℕ) (a o : ℕ) {c : Cause} {e : ℕ} {x : Inside} → PassedInside s a o x → x ≡ RefusedInside c e → (out : List Rec) → told (RefusedText c e) ≡ tells (left (some a) s o out)
+pub inside-refused : (s : List ℕ) (a o : ℕ) {c : Cause} {e : ℕ} {x : Inside} → PassedInside s a o x → x ≡ RefusedInside c e → (out : List Rec) → told (RefusedText c e) ≡ tells (left 0 (some a) s o out)
 unfolding PassedInside
 inside-refused s a o h q = rw q at h
 
 -- what a part of the block is, once it is known
-pub stepped-read : (s : List ℕ) (o p : ℕ) (z : Sizes) (x : Step) → Stepped s o x → x ≡ Read p z → Passed s none o none p z
+pub stepped-read : (d : ℕ) (s : List ℕ) (o p : ℕ) (z : Sizes) (e : ℕ) (x : Step) → Stepped d s o x → x ≡ Read p z e → Passed s none o none p z e
 unfolding Stepped
-stepped-read s o p z x h q = rw q at h
+stepped-read d s o p z e x h q = rw q at h
 
-pub stepped-refused : (s : List ℕ) (o : ℕ) (c : Cause) (e : ℕ) (x : Step) → Stepped s o x → x ≡ Refused c e → (out : List Rec) → told (RefusedText c e) ≡ tells (left none s o out)
+pub stepped-refused : (d : ℕ) (s : List ℕ) (o : ℕ) (c : Cause) (e : ℕ) (x : Step) → Stepped d s o x → x ≡ Refused c e → (out : List Rec) → told (RefusedText c e) ≡ tells (left d none s o out)
 unfolding Stepped
-stepped-refused s o c e x h q = rw q at h
+stepped-refused d s o c e x h q = rw q at h
 
 -- the text's start as the code finds it
 module _ (s : List ℕ) (o : ℕ) (e : o ≡ gapEnd s 0) where

@@ -9,7 +9,7 @@ ghost use Rattle.deciding.specs.Decisions.{told, tells};
 ghost use Rattle.grammar.specs.Reading.{decided};
 ghost use Rattle.text.specs.Limits.{limit};
 ghost use Rattle.items.specs.Answers.{Ready, Here};
-ghost use Rattle.deciding.specs.Frames.{inBlockOf, inFrameOf, frameEnd, Stepped, blockAt};
+ghost use Rattle.deciding.specs.Frames.{inBlockOf, inFrameOf, frameEnd, Stepped, Framed, blockAt};
 use grammar::Cause;
 use items::Item;
 use kinds::Kind;
@@ -21,10 +21,24 @@ pub enum Decision {
     Refused { cause: Cause, at: usize },
 }
 
-// What an item, or a frame, is in the block: read, or the reading's end.
+// What a 7 says where no loop of the block stands directly before: nothing.
+const BEHIND_HEADING: usize = 0;
+
+const BEHIND_VALUE: usize = 0;
+
+const BEHIND_FRAME: usize = 0;
+
+// What an item, or a frame, is in the block: read, with why the list of values ended if it is a loop, else 0; or the reading's end.
 enum Step {
-    Read { next: usize, sizes: Sizes },
-    Refused { cause: Cause, at: usize },
+    Read {
+        next: usize,
+        sizes: Sizes,
+        reason: usize,
+    },
+    Refused {
+        cause: Cause,
+        at: usize,
+    },
 }
 
 // What an item is in a frame: read; dropped, with the offset where it stopped; or the reading's end.
@@ -34,14 +48,26 @@ enum Inside {
     Refused { cause: Cause, at: usize },
 }
 
-// What an item comes to in the block: 5 to 9 end the reading.
-fn in_block(item: Item) -> Step
-    ensures { λ r. ⌜ r ≡ inBlockOf item ⌝ }
+// What an item comes to in the block: 5 to 9 end the reading, and a 7 says why the loop directly before it ended.
+fn in_block(item: Item, reason: usize) -> Step
+    ensures { λ r. ⌜ r ≡ inBlockOf reason item ⌝ }
 {
     match item {
-        Item::Loop { next, sizes, .. } => Step::Read { next, sizes },
-        Item::Single { next, sizes } => Step::Read { next, sizes },
+        Item::Loop { next, sizes, why } => Step::Read {
+            next,
+            sizes,
+            reason: why.number(),
+        },
+        Item::Single { next, sizes } => Step::Read {
+            next,
+            sizes,
+            reason: BEHIND_VALUE,
+        },
         Item::Failed { cause, at, .. } => Step::Refused { cause, at },
+        Item::Absent { at } => Step::Refused {
+            cause: Cause::NoItem { reason },
+            at,
+        },
         Item::Broken { cause, at } => Step::Refused { cause, at },
     }
 }
@@ -54,6 +80,7 @@ fn in_frame(item: Item) -> Inside
         Item::Loop { next, sizes, .. } => Inside::Read { next, sizes },
         Item::Single { next, sizes } => Inside::Read { next, sizes },
         Item::Failed { stop, .. } => Inside::Dropped { stop },
+        Item::Absent { at } => Inside::Dropped { stop: at },
         Item::Broken { cause, at } => Inside::Refused { cause, at },
     }
 }
@@ -72,13 +99,14 @@ fn close_frame(s: &[u8], start: usize, sizes: Sizes, stop: usize) -> Step
     Step::Read {
         next: gaps::gap_end(s, stop + 5),
         sizes: sizes.add(Kind::FRAME_CLOSE, 5),
+        reason: BEHIND_FRAME,
     }
 }
 
 // The frame whose `save_` stands at an offset.
 fn parse_save_frame(s: &[u8], start: usize) -> Step
     requires { ⌜ Here (now s) start × (startsAt keySave (now s) start ≡ true) ⌝ }
-    ensures { λ r. ⌜ Stepped (now (s .entry)) start r ⌝ }
+    ensures { λ r. ⌜ Framed (now (s .entry)) start r ⌝ }
 {
     let end = words::parse_identifier(s, start);
     let mut sizes = Sizes::none().add(Kind::FRAME_OPEN, end - start);
@@ -96,15 +124,15 @@ fn parse_save_frame(s: &[u8], start: usize) -> Step
     }
 }
 
-// The item or the frame at an offset of the block.
-fn parse_data_item_or_save_frame(s: &[u8], at: usize) -> Step
+// The item or the frame at an offset of the block, where the loop directly before ended for a reason.
+fn parse_data_item_or_save_frame(s: &[u8], at: usize, reason: usize) -> Step
     requires { ⌜ Here (now s) at × (at < length (now s)) ⌝ }
-    ensures { λ r. ⌜ Stepped (now (s .entry)) at r ⌝ }
+    ensures { λ r. ⌜ Stepped reason (now (s .entry)) at r ⌝ }
 {
     if keywords::at_save(s, at) {
         return parse_save_frame(s, at);
     }
-    in_block(items::parse_data_item(s, at))
+    in_block(items::parse_data_item(s, at), reason)
 }
 
 // The block whose `data_` stands at an offset.
@@ -115,12 +143,18 @@ fn parse_data_block(s: &[u8], start: usize) -> Decision
     let end = words::parse_identifier(s, start);
     let mut sizes = Sizes::none().add(Kind::BLOCK, end - start);
     let mut at = gaps::gap_end(s, end);
+    let mut reason = BEHIND_HEADING;
     while at < s.len() {
-        let step = parse_data_item_or_save_frame(s, at);
+        let step = parse_data_item_or_save_frame(s, at, reason);
         match step {
-            Step::Read { next, sizes: more } => {
+            Step::Read {
+                next,
+                sizes: more,
+                reason: ended,
+            } => {
                 sizes = sizes.join(more);
                 at = next;
+                reason = ended;
             }
             Step::Refused { cause, at: place } => return Decision::Refused { cause, at: place },
         }

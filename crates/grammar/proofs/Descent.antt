@@ -11,9 +11,10 @@ use native.Mathlib.Omega.{arith}
 use lib.Dec.{eqb}
 use lib.ListN.{length}
 use Rattle.values.specs.Values.{Class, Reason, block, loop, save, tag, value, overLimit, nothing, atEnd, reservedWord, noStart, openQuote, openField}
-use Rattle.grammar.specs.Tokens.{Tok}
-use Rattle.grammar.specs.Machine.{Rec, Answer, refused, items, names, values, wants, config, rec, loopEnd, follow, run, move, atItem, atName, atValue, atWant, noMoreNames, loopEnds, fails, closes, stop}
-use Rattle.grammar.specs.Descent.{nameThen, nameRest, nameRecs, afterNames, valueThen, valueRest, valueRecs, afterValues, Item, taken, failed, broken, isOver, rows, loopBy, loopItem, single, tagItem, itemBy, item}
+use Rattle.values.specs.Answers.{numberOfWhy}
+use Rattle.grammar.specs.Tokens.{Tok, headAt, headWhy}
+use Rattle.grammar.specs.Machine.{Rec, Answer, refused, done, items, names, values, wants, config, rec, loopEnd, follow, run, move, atItem, atName, atValue, atWant, noMoreNames, loopEnds, fails, closes, stop, reason, inBlockOnly}
+use Rattle.grammar.specs.Descent.{nameThen, nameRest, nameRecs, afterNames, valueThen, valueRest, valueRecs, afterValues, Item, taken, failed, absent, broken, isOver, rows, loopBy, loopItem, single, tagItem, itemBy, item}
 
 -- a class is a tag, or it ends a loop's names
 pub record NoName (c : Class) : Type 0 where
@@ -183,58 +184,69 @@ unfoldable pub failedRun : Answer → Option ℕ → List Rec → List Tok → A
 failedRun a f out [] = refused 7 0 0
 failedRun a f out (u ∷ us) = follow (fails a f out u) (λ c. run us c)
 
-unfoldable pub itemRun : Option ℕ → List Rec → Item → Answer
-itemRun f out (taken b rs rest) = run rest (config items f (out ++ rs) [])
-itemRun f out (failed n o d rest) = failedRun (refused n o d) f out rest
-itemRun f out (broken n o) = refused n o 0
+-- what a 7 directly behind an item says: behind a loop of the block why its list ended
+unfoldable pub behindItem : Option ℕ → Bool → List Tok → ℕ
+behindItem f true rest = inBlockOnly f (numberOfWhy (headWhy rest))
+behindItem f false rest = 0
+
+pub behind-frame : (a : ℕ) (b : Bool) (rest : List Tok) → behindItem (some a) b rest ≡ 0
+unfolding behindItem inBlockOnly
+behind-frame a true rest = refl
+behind-frame a false rest = refl
+
+unfoldable pub itemRun : ℕ → Option ℕ → List Rec → Item → Answer
+itemRun d f out (taken b rs rest) = run rest (config (items (behindItem f b rest)) f (out ++ rs) [])
+itemRun d f out (failed n o e rest) = failedRun (refused n o e) f out rest
+itemRun d f out (absent rest) = failedRun (refused 7 (headAt rest) d) f out rest
+itemRun d f out (broken n o) = refused n o 0
 
 -- a loop from its rows on
-rows-run : (t u : Tok) (us : List Tok) (f : Option ℕ) (out ns vs : List Rec) → follow (loopEnds (t .at) (length ns) (length vs) f out ((rec 5 t ∷ ns) ++ vs) u) (λ c. run us c) ≡ itemRun f out (rows t ns vs (u ∷ us))
-unfolding loopEnds rows itemRun failedRun run move config
-rows-run t u us f out ns vs = by (eqb (length vs % length ns) 0)
+rows-run : (d : ℕ) (t u : Tok) (us : List Tok) (f : Option ℕ) (out ns vs : List Rec) → follow (loopEnds (t .at) (length ns) (length vs) f out ((rec 5 t ∷ ns) ++ vs) u) (λ c. run us c) ≡ itemRun d f out (rows t ns vs (u ∷ us))
+unfolding loopEnds rows itemRun failedRun run move config behindItem headWhy reason
+rows-run d t u us f out ns vs = by (eqb (length vs % length ns) 0)
   where
-    by : (b : Bool) → follow (cond b (atItem f (out ++ ((rec 5 t ∷ ns) ++ vs) ++ (loopEnd ∷ [])) (u .class) u) (fails (refused 5 (t .at) (length vs % length ns)) f out u)) (λ c. run us c) ≡ itemRun f out (cond b (taken true (rec 5 t ∷ (ns ++ (vs ++ (loopEnd ∷ [])))) (u ∷ us)) (failed 5 (t .at) (length vs % length ns) (u ∷ us)))
+    by : (b : Bool) → follow (cond b (atItem (inBlockOnly f (reason (u .class))) f (out ++ ((rec 5 t ∷ ns) ++ vs) ++ (loopEnd ∷ [])) (u .class) u) (fails (refused 5 (t .at) (length vs % length ns)) f out u)) (λ c. run us c) ≡ itemRun d f out (cond b (taken true (rec 5 t ∷ (ns ++ (vs ++ (loopEnd ∷ [])))) (u ∷ us)) (failed 5 (t .at) (length vs % length ns) (u ∷ us)))
     by true =
         let e : out ++ ((rec 5 t ∷ ns) ++ vs) ++ (loopEnd ∷ []) ≡ out ++ (rec 5 t ∷ (ns ++ (vs ++ (loopEnd ∷ [])))) = simp append-assoc in
         rw e
     by false = refl
 
 -- from its values on
-values-after : (t : Tok) (us : List Tok) (f : Option ℕ) (out ns vs : List Rec) → Ends us → NotValue us → run us (config (values (t .at) (length ns) (length vs + 0)) f out ((rec 5 t ∷ ns) ++ vs)) ≡ itemRun f out (loopBy t ns vs us)
+values-after : (d : ℕ) (t : Tok) (us : List Tok) (f : Option ℕ) (out ns vs : List Rec) → Ends us → NotValue us → run us (config (values (t .at) (length ns) (length vs + 0)) f out ((rec 5 t ∷ ns) ++ vs)) ≡ itemRun d f out (loopBy t ns vs us)
 unfolding run move config NotValue loopBy
-values-after t (u ∷ us) f out ns vs h e = rw (add-zero, e .moves) (by (isOver (u .class)))
+values-after d t (u ∷ us) f out ns vs h e = rw (add-zero, e .moves) (by (isOver (u .class)))
   where
-    by : (b : Bool) → follow (cond b (stop (refused 9 (u .at) 0)) (loopEnds (t .at) (length ns) (length vs) f out ((rec 5 t ∷ ns) ++ vs) u)) (λ c. run us c) ≡ itemRun f out (cond b (broken 9 (u .at)) (rows t ns vs (u ∷ us)))
+    by : (b : Bool) → follow (cond b (stop (refused 9 (u .at) 0)) (loopEnds (t .at) (length ns) (length vs) f out ((rec 5 t ∷ ns) ++ vs) u)) (λ c. run us c) ≡ itemRun d f out (cond b (broken 9 (u .at)) (rows t ns vs (u ∷ us)))
     by true = unfold itemRun follow in refl
-    by false = rows-run t u us f out ns vs
+    by false = rows-run d t u us f out ns vs
 
 -- from its names on
-names-after : (t : Tok) (us : List Tok) (f : Option ℕ) (out ns : List Rec) → Ends us → NotName us → run us (config (names (t .at) (length ns + 0)) f out (rec 5 t ∷ ns)) ≡ itemRun f out (loopItem t ns us)
+names-after : (d : ℕ) (t : Tok) (us : List Tok) (f : Option ℕ) (out ns : List Rec) → Ends us → NotName us → run us (config (names (t .at) (length ns + 0)) f out (rec 5 t ∷ ns)) ≡ itemRun d f out (loopItem t ns us)
 unfolding run move config NotName loopItem noMoreNames follow itemRun
-names-after t (u ∷ us) f out [] h e = rw (e .moves)
-names-after t (u ∷ us) f out (n ∷ ns) h e =
+names-after d t (u ∷ us) f out [] h e = rw (e .moves)
+names-after d t (u ∷ us) f out (n ∷ ns) h e =
     let z : suc (length ns) + 0 ≡ suc (length ns) = omega arith in
     rw (z, e .moves)
     (values-run (u ∷ us) (t .at) (suc (length ns)) 0 f out (rec 5 t ∷ (n ∷ ns))
-    ∙ values-after t (afterValues (u ∷ us)) f out (n ∷ ns) (valueRecs (u ∷ us)) (values-ends h) (not-value (u ∷ us)))
+    ∙ values-after d t (afterValues (u ∷ us)) f out (n ∷ ns) (valueRecs (u ∷ us)) (values-ends h) (not-value (u ∷ us)))
 
-loop-run : (t : Tok) (ts : List Tok) (f : Option ℕ) (out : List Rec) → Ends ts → run ts (config (names (t .at) 0) f out (rec 5 t ∷ [])) ≡ itemRun f out (loopItem t (nameRecs ts) (afterNames ts))
-loop-run t ts f out h = names-run ts (t .at) 0 f out (rec 5 t ∷ []) ∙ names-after t (afterNames ts) f out (nameRecs ts) (names-ends h) (not-name ts)
+loop-run : (d : ℕ) (t : Tok) (ts : List Tok) (f : Option ℕ) (out : List Rec) → Ends ts → run ts (config (names (t .at) 0) f out (rec 5 t ∷ [])) ≡ itemRun d f out (loopItem t (nameRecs ts) (afterNames ts))
+loop-run d t ts f out h = names-run ts (t .at) 0 f out (rec 5 t ∷ []) ∙ names-after d t (afterNames ts) f out (nameRecs ts) (names-ends h) (not-name ts)
 
 -- a tag and its value
-single-run : (t u : Tok) (us : List Tok) (f : Option ℕ) (out : List Rec) (c : Class) → follow (atWant (t .at) f out (rec 4 t ∷ []) c u) (λ c. run us c) ≡ itemRun f out (single t c u us)
-unfolding atWant single itemRun failedRun follow
-single-run t u us f out (value k) = rw append-assoc
-single-run t u us f out overLimit = refl
-single-run t u us f out tag = refl
-single-run t u us f out block = refl
-single-run t u us f out loop = refl
-single-run t u us f out save = refl
-single-run t u us f out (nothing w) = refl
+single-run : (d : ℕ) (t u : Tok) (us : List Tok) (f : Option ℕ) (out : List Rec) (c : Class) → follow (atWant (t .at) f out (rec 4 t ∷ []) c u) (λ c. run us c) ≡ itemRun d f out (single t c u us)
+unfolding atWant single itemRun failedRun follow behindItem
+single-run d t u us f out (value k) = rw append-assoc
+single-run d t u us f out overLimit = refl
+single-run d t u us f out tag = refl
+single-run d t u us f out block = refl
+single-run d t u us f out loop = refl
+single-run d t u us f out save = refl
+single-run d t u us f out (nothing w) = refl
 
-tag-run : (t : Tok) (ts : List Tok) (f : Option ℕ) (out : List Rec) → Ends ts → run ts (config (wants (t .at)) f out (rec 4 t ∷ [])) ≡ itemRun f out (tagItem t ts)
+tag-run : (d : ℕ) (t : Tok) (ts : List Tok) (f : Option ℕ) (out : List Rec) → Ends ts → run ts (config (wants (t .at)) f out (rec 4 t ∷ [])) ≡ itemRun d f out (tagItem t ts)
 unfolding run move config tagItem
-tag-run t (u ∷ us) f out h = single-run t u us f out (u .class)
+tag-run d t (u ∷ us) f out h = single-run d t u us f out (u .class)
 
 tail-ends : {t : Tok} {ts : List Tok} → Ends (t ∷ ts) → ((w : Reason) → t .class ≡ nothing w → ⊥) → Ends ts
 tail-ends (last w e) n = absurd (n w e)
@@ -247,13 +259,13 @@ tag-ends : {t : Tok} {ts : List Tok} → Ends (t ∷ ts) → t .class ≡ tag �
 tag-ends h e = tail-ends h (λ w q. let z : _≡_ {A = ℕ} 0 1 = cc in omega arith)
 
 -- THE MACHINE READS AN ITEM AS THE DESCENT DOES, in a frame
-pub item-in-frame : (t : Tok) (ts : List Tok) (a : ℕ) (out : List Rec) → Ends (t ∷ ts) → run (t ∷ ts) (config items (some a) out []) ≡ itemRun (some a) out (item (t ∷ ts))
-unfolding run move config item atItem itemBy itemRun failedRun fails closes follow
-item-in-frame t ts a out h = by (t .class) refl
+pub item-in-frame : (d : ℕ) (t : Tok) (ts : List Tok) (a : ℕ) (out : List Rec) → Ends (t ∷ ts) → run (t ∷ ts) (config (items d) (some a) out []) ≡ itemRun d (some a) out (item (t ∷ ts))
+unfolding run move config item atItem itemBy itemRun failedRun headAt fails closes follow
+item-in-frame d t ts a out h = by (t .class) refl
   where
-    by : (c : Class) → t .class ≡ c → follow (atItem (some a) out c t) (λ c. run ts c) ≡ itemRun (some a) out (itemBy c t ts)
-    by loop e = loop-run t ts (some a) out (loop-ends h e)
-    by tag e = tag-run t ts (some a) out (tag-ends h e)
+    by : (c : Class) → t .class ≡ c → follow (atItem d (some a) out c t) (λ c. run ts c) ≡ itemRun d (some a) out (itemBy c t ts)
+    by loop e = loop-run d t ts (some a) out (loop-ends h e)
+    by tag e = tag-run d t ts (some a) out (tag-ends h e)
     by block e = rw e
     by save e = rw e
     by (value k) e = rw e
@@ -279,13 +291,13 @@ isPlain (value k) = true
 isPlain overLimit = true
 
 -- and in the block
-pub item-in-block : (t : Tok) (ts : List Tok) (out : List Rec) → Ends (t ∷ ts) → isPlain (t .class) ≡ true → run (t ∷ ts) (config items none out []) ≡ itemRun none out (item (t ∷ ts))
-unfolding run move config item atItem itemBy itemRun failedRun fails follow isPlain
-item-in-block t ts out h = by (t .class) refl
+pub item-in-block : (d : ℕ) (t : Tok) (ts : List Tok) (out : List Rec) → Ends (t ∷ ts) → isPlain (t .class) ≡ true → run (t ∷ ts) (config (items d) none out []) ≡ itemRun d none out (item (t ∷ ts))
+unfolding run move config item atItem itemBy itemRun failedRun headAt fails follow isPlain
+item-in-block d t ts out h = by (t .class) refl
   where
-    by : (c : Class) → t .class ≡ c → isPlain c ≡ true → follow (atItem none out c t) (λ c. run ts c) ≡ itemRun none out (itemBy c t ts)
-    by loop q e = loop-run t ts none out (loop-ends h q)
-    by tag q e = tag-run t ts none out (tag-ends h q)
+    by : (c : Class) → t .class ≡ c → isPlain c ≡ true → follow (atItem d none out c t) (λ c. run ts c) ≡ itemRun d none out (itemBy c t ts)
+    by loop q e = loop-run d t ts none out (loop-ends h q)
+    by tag q e = tag-run d t ts none out (tag-ends h q)
     by block q e = refl
     by save q e = absurd (true≢false (sym e))
     by (value k) q e = refl
@@ -295,3 +307,28 @@ item-in-block t ts out h = by (t .class) refl
     by (nothing noStart) q e = refl
     by (nothing openQuote) q e = refl
     by (nothing openField) q e = refl
+
+-- WHAT IS READ DOES NOT DEPEND ON THE DETAIL that a 7 would have
+pub any-detail : (c d : ℕ) (f : Option ℕ) (ts : List Tok) (out rs : List Rec) → run ts (config (items c) f out []) ≡ done rs → run ts (config (items d) f out []) ≡ done rs
+unfolding run move config atItem fails follow
+any-detail c d f [] out rs e = e
+any-detail c d f (t ∷ ts) out rs e = by f (t .class) e
+  where
+    other : (f : Option ℕ) → follow (fails (refused 7 (t .at) c) f out t) (λ x. run ts x) ≡ done rs → follow (fails (refused 7 (t .at) d) f out t) (λ x. run ts x) ≡ done rs
+    other none e = let z : _≡_ {A = ℕ} 0 1 = cc in absurd (omega arith)
+    other (some a) e = e
+
+    by : (f : Option ℕ) (k : Class) → follow (atItem c f out k t) (λ x. run ts x) ≡ done rs → follow (atItem d f out k t) (λ x. run ts x) ≡ done rs
+    by f loop e = e
+    by f tag e = e
+    by none save e = e
+    by (some a) save e = e
+    by none (nothing atEnd) e = e
+    by (some a) (nothing atEnd) e = e
+    by f (nothing reservedWord) e = other f e
+    by f (nothing noStart) e = other f e
+    by f (nothing openQuote) e = other f e
+    by f (nothing openField) e = other f e
+    by f block e = other f e
+    by f (value k) e = other f e
+    by f overLimit e = other f e

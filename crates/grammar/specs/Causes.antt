@@ -11,25 +11,25 @@ causeNumber NotAscii = 2
 causeNumber NoData = 3
 causeNumber OpenFrame = 4
 causeNumber (Ragged d) = 5
-causeNumber NoValue = 6
-causeNumber NoItem = 7
+causeNumber (NoValue d) = 6
+causeNumber (NoItem d) = 7
 causeNumber NoNames = 8
 causeNumber OverLimit = 9
 
--- a loop's remainder; every other detail is 0
+-- a loop's remainder, and why no value stands (document 02, One); every other detail is 0
 abbrev pub causeDetail : Cause → ℕ
 causeDetail NotAscii = 0
 causeDetail NoData = 0
 causeDetail OpenFrame = 0
 causeDetail (Ragged d) = d
-causeDetail NoValue = 0
-causeDetail NoItem = 0
+causeDetail (NoValue d) = d
+causeDetail (NoItem d) = d
 causeDetail NoNames = 0
 causeDetail OverLimit = 0
 
--- an item fails by 5, 6 or 7
+-- an item fails by 5 or 6
 abbrev pub failing : ℕ → ℕ → Cause
-failing n d = cond (eqb n 5) (Ragged d) (cond (eqb n 6) NoValue NoItem)
+failing n d = cond (eqb n 5) (Ragged d) (NoValue d)
 
 -- or by 8 or 9, which end the whole reading
 abbrev pub breaking : ℕ → Cause

@@ -7,7 +7,7 @@ use lib.Dec.{eqb}
 use lib.ListN.{length}
 use Rattle.values.specs.Values.{Class, Reason, block, loop, save, tag, value, overLimit, nothing}
 use Rattle.grammar.specs.Tokens.{Tok}
-use Rattle.grammar.specs.Machine.{Rec, rec, loopEnd}
+use Rattle.grammar.specs.Machine.{Rec, rec, loopEnd, reason}
 
 -- a tag's record goes before those of the tags behind it; anything else ends the names
 unfoldable pub nameThen : Class → Tok → List Rec → List Rec
@@ -67,7 +67,8 @@ afterValues (t ∷ ts) = valueRest (t .class) (afterValues ts) (t ∷ ts)
 -- what reading an item comes to
 pub data Item : Type 0 where
   taken : (isLoop : Bool) → List Rec → List Tok → Item  -- its records, and the tokens behind it
-  failed : (number offset detail : ℕ) → List Tok → Item  -- by 5, 6 or 7, and the tokens from where it stopped on
+  failed : (number offset detail : ℕ) → List Tok → Item  -- by 5 or 6, and the tokens from where it stopped on
+  absent : List Tok → Item  -- none starts where these tokens do: 7
   broken : (number offset : ℕ) → Item  -- by 8 or 9, which end the whole reading
 
 unfoldable pub isOver : Class → Bool
@@ -88,7 +89,7 @@ rows t names vals rest =
 
 -- the loop at t, once its names and values are known: a number over a limit is met before the rows are counted
 unfoldable pub loopBy : Tok → List Rec → List Rec → List Tok → Item
-loopBy t names vals [] = failed 7 0 0 []
+loopBy t names vals [] = absent []
 loopBy t names vals (u ∷ us) = cond (isOver (u .class)) (broken 9 (u .at)) (rows t names vals (u ∷ us))
 
 -- a loop without names is met before any value
@@ -100,11 +101,11 @@ loopItem t (n ∷ names) ts = loopBy t (n ∷ names) (valueRecs ts) (afterValues
 unfoldable pub single : Tok → Class → Tok → List Tok → Item
 single t (value k) u us = taken false (rec 4 t ∷ (rec k u ∷ [])) us
 single t overLimit u us = broken 9 (u .at)
-single t tag u us = failed 6 (t .at) 0 (u ∷ us)
-single t block u us = failed 6 (t .at) 0 (u ∷ us)
-single t loop u us = failed 6 (t .at) 0 (u ∷ us)
-single t save u us = failed 6 (t .at) 0 (u ∷ us)
-single t (nothing w) u us = failed 6 (t .at) 0 (u ∷ us)
+single t tag u us = failed 6 (t .at) (reason tag) (u ∷ us)
+single t block u us = failed 6 (t .at) (reason block) (u ∷ us)
+single t loop u us = failed 6 (t .at) (reason loop) (u ∷ us)
+single t save u us = failed 6 (t .at) (reason save) (u ∷ us)
+single t (nothing w) u us = failed 6 (t .at) (reason (nothing w)) (u ∷ us)
 
 unfoldable pub tagItem : Tok → List Tok → Item
 tagItem t [] = failed 6 (t .at) 0 []
@@ -113,12 +114,12 @@ tagItem t (u ∷ us) = single t (u .class) u us
 unfoldable pub itemBy : Class → Tok → List Tok → Item
 itemBy loop t ts = loopItem t (nameRecs ts) (afterNames ts)
 itemBy tag t ts = tagItem t ts
-itemBy block t ts = failed 7 (t .at) 0 (t ∷ ts)
-itemBy save t ts = failed 7 (t .at) 0 (t ∷ ts)
-itemBy (value k) t ts = failed 7 (t .at) 0 (t ∷ ts)
-itemBy overLimit t ts = failed 7 (t .at) 0 (t ∷ ts)
-itemBy (nothing w) t ts = failed 7 (t .at) 0 (t ∷ ts)
+itemBy block t ts = absent (t ∷ ts)
+itemBy save t ts = absent (t ∷ ts)
+itemBy (value k) t ts = absent (t ∷ ts)
+itemBy overLimit t ts = absent (t ∷ ts)
+itemBy (nothing w) t ts = absent (t ∷ ts)
 
 unfoldable pub item : List Tok → Item
-item [] = failed 7 0 0 []
+item [] = absent []
 item (t ∷ ts) = itemBy (t .class) t ts

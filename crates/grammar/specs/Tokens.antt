@@ -7,6 +7,9 @@ use Rattle.text.specs.Bytes.{is, underscore}
 use Rattle.gaps.specs.Gaps.{gap}
 use Rattle.words.specs.Words.{word}
 use Rattle.keywords.specs.Keywords.{starts, keyData, keyGlobal, keyLoop, keySave, keyStop}
+use Rattle.values.specs.declared.Why.{Why}
+use Rattle.values.specs.declared.Why.the-variants.{AtEnd}
+use Rattle.values.specs.Answers.{whyNot}
 use Rattle.values.specs.Values.{Reason, atEnd, reservedWord, noStart, Class, block, loop, save, tag, value, overLimit, nothing, Lexed, lexed, lexValue}
 
 -- before `data_`; in the block; in a frame
@@ -81,6 +84,11 @@ tokensAt m s o = tokensFrom (drop o s) 0 m o
 unfoldable pub headAt : List Tok → ℕ
 headAt [] = 0
 headAt (t ∷ ts) = t .at
+
+-- and why that is no value
+unfoldable pub headWhy : List Tok → Why
+headWhy [] = AtEnd
+headWhy (t ∷ ts) = whyNot (t .class)
 
 -- a tag starts with `_`
 unfoldable pub tagFirst : List ℕ → Bool

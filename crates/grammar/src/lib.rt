@@ -2,14 +2,14 @@
 ghost use mathlib.Core.Path.{_≡_};
 ghost use Rattle.grammar.specs.Causes.{causeNumber, causeDetail};
 
-// What a text is refused for at a place in it, 2 to 9.
+// What a text is refused for at a place in it, 2 to 9. The reason says why no value stands: behind a tag, or where the loop before ended; 0 where no loop did.
 pub enum Cause {
     NotAscii,
     NoData,
     OpenFrame,
     Ragged { remainder: usize },
-    NoValue,
-    NoItem,
+    NoValue { reason: usize },
+    NoItem { reason: usize },
     NoNames,
     OverLimit,
 }
@@ -24,14 +24,14 @@ impl Cause {
             Cause::NoData => 3,
             Cause::OpenFrame => 4,
             Cause::Ragged { .. } => 5,
-            Cause::NoValue => 6,
-            Cause::NoItem => 7,
+            Cause::NoValue { .. } => 6,
+            Cause::NoItem { .. } => 7,
             Cause::NoNames => 8,
             Cause::OverLimit => 9,
         }
     }
 
-    // Document 01's detail.
+    // Document 01's detail, and 02's.
     pub fn detail(self) -> usize
         ensures { λ r. ⌜ r ≡ causeDetail self ⌝ }
     {
@@ -40,8 +40,8 @@ impl Cause {
             Cause::NoData => 0,
             Cause::OpenFrame => 0,
             Cause::Ragged { remainder } => remainder,
-            Cause::NoValue => 0,
-            Cause::NoItem => 0,
+            Cause::NoValue { reason } => reason,
+            Cause::NoItem { reason } => reason,
             Cause::NoNames => 0,
             Cause::OverLimit => 0,
         }

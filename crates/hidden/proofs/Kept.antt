@@ -9,7 +9,7 @@ use native.Mathlib.Omega.{arith}
 use lib.Dec.{leb, ltb, eqb}
 use Rattle.values.specs.Values.{Class, block, loop, save, tag, value, overLimit, nothing, atEnd, reservedWord, noStart, openQuote, openField}
 use Rattle.grammar.specs.Tokens.{Tok}
-use Rattle.grammar.specs.Machine.{Rec, refused, done, State, start, items, names, values, wants, Config, config, Outcome, go, stop, rec, loopEnd, closes, fails, atItem, loopEnds, atValue, noMoreNames, atName, atWant, atStart, move, follow, run}
+use Rattle.grammar.specs.Machine.{Rec, refused, done, State, start, items, names, values, wants, Config, config, Outcome, go, stop, rec, loopEnd, closes, fails, atItem, loopEnds, atValue, noMoreNames, atName, atWant, atStart, move, follow, run, reason, inBlockOnly}
 use Rattle.hidden.specs.Differences.{isQuoted, insideRec, insideRecs}
 use Rattle.hidden.proofs.Veil.{veiled}
 use Rattle.hidden.proofs.VeilRead.{insideTok, insideAny, Either, left, right, either, or-split}
@@ -72,21 +72,21 @@ module _ (i : ℕ) (t : Tok) where
   unfolding insideRecs insideRec rec
   first k e a = rw e (or-false a)
 
-  item-kept : (f : Option ℕ) (out : List Rec) (c : Class) → Kept (insideRecs out i) (atItem f out c t)
+  item-kept : (d : ℕ) (f : Option ℕ) (out : List Rec) (c : Class) → Kept (insideRecs out i) (atItem d f out c t)
   unfolding Kept atItem From inConfig config isQuoted insideRecs
-  item-kept f out loop = rw (first 5 refl (insideRecs out i)) (λ e. left e)
-  item-kept f out tag = rw (first 4 refl (insideRecs out i)) (λ e. left e)
-  item-kept none out save = rw (plain out 2 refl, or-false (insideRecs out i)) (λ e. left e)
-  item-kept (some f) out save = rw (plain out 3 refl, or-false (insideRecs out i)) (λ e. left e)
-  item-kept none out (nothing atEnd) = λ e. left e
-  item-kept (some f) out (nothing atEnd) = tt
-  item-kept f out (nothing reservedWord) = fails-kept 7 (t .at) 0 f out
-  item-kept f out (nothing noStart) = fails-kept 7 (t .at) 0 f out
-  item-kept f out (nothing openQuote) = fails-kept 7 (t .at) 0 f out
-  item-kept f out (nothing openField) = fails-kept 7 (t .at) 0 f out
-  item-kept f out block = fails-kept 7 (t .at) 0 f out
-  item-kept f out (value k) = fails-kept 7 (t .at) 0 f out
-  item-kept f out overLimit = fails-kept 7 (t .at) 0 f out
+  item-kept d f out loop = rw (first 5 refl (insideRecs out i)) (λ e. left e)
+  item-kept d f out tag = rw (first 4 refl (insideRecs out i)) (λ e. left e)
+  item-kept d none out save = rw (plain out 2 refl, or-false (insideRecs out i)) (λ e. left e)
+  item-kept d (some f) out save = rw (plain out 3 refl, or-false (insideRecs out i)) (λ e. left e)
+  item-kept d none out (nothing atEnd) = λ e. left e
+  item-kept d (some f) out (nothing atEnd) = tt
+  item-kept d f out (nothing reservedWord) = fails-kept 7 (t .at) d f out
+  item-kept d f out (nothing noStart) = fails-kept 7 (t .at) d f out
+  item-kept d f out (nothing openQuote) = fails-kept 7 (t .at) d f out
+  item-kept d f out (nothing openField) = fails-kept 7 (t .at) d f out
+  item-kept d f out block = fails-kept 7 (t .at) d f out
+  item-kept d f out (value k) = fails-kept 7 (t .at) d f out
+  item-kept d f out overLimit = fails-kept 7 (t .at) d f out
 
   wider : (a b : Bool) → (a ≡ true → b ≡ true) → (o : Outcome) → Kept a o → Kept b o
   unfolding Kept From
@@ -108,8 +108,8 @@ module _ (i : ℕ) (t : Tok) where
       e : insideRecs (out ++ held ++ (loopEnd ∷ [])) i ≡ both out held
       e = ended (out ++ held) ∙ append out held
 
-      pick : (b : Bool) → Kept (both out held) (cond b (atItem f (out ++ held ++ (loopEnd ∷ [])) (t .class) t) (fails (refused 5 at (k % n)) f out t))
-      pick true = subst (λ a. Kept a (atItem f (out ++ held ++ (loopEnd ∷ [])) (t .class) t)) e (item-kept f (out ++ held ++ (loopEnd ∷ [])) (t .class))
+      pick : (b : Bool) → Kept (both out held) (cond b (atItem (inBlockOnly f (reason (t .class))) f (out ++ held ++ (loopEnd ∷ [])) (t .class) t) (fails (refused 5 at (k % n)) f out t))
+      pick true = subst (λ a. Kept a (atItem (inBlockOnly f (reason (t .class))) f (out ++ held ++ (loopEnd ∷ [])) (t .class) t)) e (item-kept _ f (out ++ held ++ (loopEnd ∷ [])) (t .class))
       pick false = wider (insideRecs out i) (both out held) (out-in out held) _ (fails-kept 5 at (k % n) f out)
 
   assoc-or : (a b c : Bool) → a || (b || c) ≡ true → Either (a || b ≡ true) (c ≡ true)
@@ -148,11 +148,11 @@ module _ (i : ℕ) (t : Tok) where
   unfolding Kept atWant From inConfig config both insideRecs
   want-kept at f out held (value kind) q = rw (or-false (insideRecs (out ++ held ++ (rec kind t ∷ [])) i), valued (out ++ held) kind q, append out held) (or-split _ _)
   want-kept at f out held overLimit q = tt
-  want-kept at f out held block q = failed 6 at 0 f out held
-  want-kept at f out held loop q = failed 6 at 0 f out held
-  want-kept at f out held save q = failed 6 at 0 f out held
-  want-kept at f out held tag q = failed 6 at 0 f out held
-  want-kept at f out held (nothing w) q = failed 6 at 0 f out held
+  want-kept at f out held block q = failed 6 at (reason block) f out held
+  want-kept at f out held loop q = failed 6 at (reason loop) f out held
+  want-kept at f out held save q = failed 6 at (reason save) f out held
+  want-kept at f out held tag q = failed 6 at (reason tag) f out held
+  want-kept at f out held (nothing w) q = failed 6 at (reason (nothing w)) f out held
 
   start-kept : (a : Bool) (c : Class) → Kept a (atStart c t)
   unfolding Kept atStart From inConfig config isQuoted insideRecs insideRec rec
@@ -167,7 +167,7 @@ module _ (i : ℕ) (t : Tok) where
   move-kept : (s : State) (f : Option ℕ) (out held : List Rec) → Kept (both out held) (move s f out held t)
   unfolding move
   move-kept start f out held = start-kept (both out held) (t .class)
-  move-kept items f out held = wider (insideRecs out i) (both out held) (out-in out held) _ (item-kept f out (t .class))
+  move-kept (items d) f out held = wider (insideRecs out i) (both out held) (out-in out held) _ (item-kept d f out (t .class))
   move-kept (names at n) f out held = name-kept at n f out held (t .class)
   move-kept (values at n k) f out held = value-kept at n k f out held (t .class) refl
   move-kept (wants at) f out held = want-kept at f out held (t .class) refl

@@ -20,14 +20,16 @@ use Rattle.items.specs.declared.Values.{Values}
 use Rattle.values.specs.declared.Found.{Found}
 use Rattle.values.specs.declared.Found.the-variants.{Value}
 use Rattle.items.specs.declared.Item.{Item as Answered}
-use Rattle.items.specs.declared.Item.the-variants.{Loop, Single, Failed, Broken}
-use Rattle.grammar.specs.declared.Cause.the-variants.{Ragged, NoValue, NoItem, NoNames, OverLimit}
-use Rattle.grammar.specs.Tokens.{Mode, inBlock, lexIn, lex, after, Tok, tok, tokensAt, headAt, tagFirst, tagAt}
-use Rattle.grammar.specs.Machine.{Rec, rec, loopEnd}
+use Rattle.items.specs.declared.Item.the-variants.{Loop, Single, Failed, Absent, Broken}
+use Rattle.grammar.specs.declared.Cause.the-variants.{Ragged, NoValue, NoNames, OverLimit}
+use Rattle.grammar.specs.Tokens.{Mode, inBlock, lexIn, lex, after, Tok, tok, tokensAt, headAt, headWhy, tagFirst, tagAt}
+use Rattle.grammar.specs.Machine.{Rec, rec, loopEnd, reason}
 use Rattle.sizes.specs.Sizes.{sizesOf, noSizes, added, joined, Upto}
-use Rattle.grammar.specs.Descent.{nameRecs, afterNames, valueRecs, afterValues, taken, failed, broken, isOver, rows, loopBy, loopItem, single, tagItem, itemBy, item}
-use Rattle.items.specs.Answers.{headWhy, whyNot, namesOf, namesAt, headOver, valuesOf, valuesAt, rowsOf, itemAnswer, itemAt}
-use Rattle.values.specs.Finding.{foundAt, isOverFound}
+use Rattle.grammar.specs.Descent.{nameRecs, afterNames, valueRecs, afterValues, taken, failed, absent, broken, isOver, rows, loopBy, loopItem, single, tagItem, itemBy, item}
+use Rattle.items.specs.Answers.{namesOf, namesAt, headOver, valuesOf, valuesAt, rowsOf, itemAnswer, itemAt}
+use Rattle.values.specs.Answers.{whyNot, numberOfWhy}
+use Rattle.values.specs.Finding.{foundAt, isOverFound, whyFound}
+use Rattle.values.proofs.Choices.{wanted-why}
 use Rattle.grammar.proofs.Descent.{Ends, names-ends, values-ends}
 use Rattle.grammar.proofs.Lexes.{lex-other, startsItem}
 use Rattle.items.proofs.Lists.{met-value, name-step, value-step}
@@ -145,15 +147,19 @@ item-loop s o g e =
 
 -- a tag by what is found behind it
 single-answer : (t u : Tok) (us : List Tok) (c : Class) (n : ℕ) → ((k w : ℕ) → wanted c n ≡ Value k w → ⊥)
-    → itemAnswer (single t c u us) ≡ cond (isOverFound (wanted c n)) (Broken OverLimit (u .at)) (Failed NoValue (t .at) (u .at))
-unfolding single wanted itemAnswer headAt
-single-answer t u us (value k) n h = absurd (h k n refl)
-single-answer t u us overLimit n h = refl
-single-answer t u us tag n h = refl
-single-answer t u us block n h = refl
-single-answer t u us loop n h = refl
-single-answer t u us save n h = refl
-single-answer t u us (nothing w) n h = refl
+    → itemAnswer (single t c u us) ≡ cond (isOverFound (wanted c n)) (Broken OverLimit (u .at)) (Failed (NoValue (numberOfWhy (whyFound (wanted c n)))) (t .at) (u .at))
+unfolding single wanted itemAnswer headAt reason
+single-answer t u us c n h = rw (← wanted-why c n) (by c h)
+  where
+    by : (c : Class) → ((k w : ℕ) → wanted c n ≡ Value k w → ⊥)
+        → itemAnswer (single t c u us) ≡ cond (isOverFound (wanted c n)) (Broken OverLimit (u .at)) (Failed (NoValue (numberOfWhy (whyNot c))) (t .at) (u .at))
+    by (value k) h = absurd (h k n refl)
+    by overLimit h = refl
+    by tag h = refl
+    by block h = refl
+    by loop h = refl
+    by save h = refl
+    by (nothing w) h = refl
 
 -- THE TAG AT AN OFFSET
 tag-item : (s : List ℕ) (o w : ℕ) → Met inBlock s o (lexed tag w) → itemAt s o ≡ itemAnswer (tagItem (tok (lexed tag w) o) (tokensAt inBlock s (gapEnd s (o + w))))
@@ -180,7 +186,7 @@ item-value s o k w g e f =
     (tag-item s o n (met-tag s o g e) ∙ value-answer (tok (lexed tag n) o) s p k w (met-value s p k w (gap-none s (o + n)) f′) ∙ rw d)
 
 alone-answer : (t : Tok) (s : List ℕ) (p : ℕ) → gap (drop p s) ≡ 0 → ((k w : ℕ) → foundAt s p ≡ Value k w → ⊥)
-    → itemAnswer (tagItem t (tokensAt inBlock s p)) ≡ cond (isOverFound (foundAt s p)) (Broken OverLimit p) (Failed NoValue (t .at) p)
+    → itemAnswer (tagItem t (tokensAt inBlock s p)) ≡ cond (isOverFound (foundAt s p)) (Broken OverLimit p) (Failed (NoValue (numberOfWhy (whyFound (foundAt s p)))) (t .at) p)
 unfolding tagItem tok lex
 alone-answer t s p g h =
     let x = lexIn inBlock (drop p s) in
@@ -189,7 +195,7 @@ alone-answer t s p g h =
     rw (f .1, q) (single-answer t (tok x p) (f .0) (x .class) (x .size) (λ k w e. h k w (q ∙ e)))
 
 pub item-alone : (s : List ℕ) (o : ℕ) → gap (drop o s) ≡ 0 → tagAt s o ≡ true → ((k w : ℕ) → foundAt s (gapEnd s (wordEnd s o)) ≡ Value k w → ⊥)
-    → let p = gapEnd s (wordEnd s o) in itemAt s o ≡ cond (isOverFound (foundAt s p)) (Broken OverLimit p) (Failed NoValue o p)
+    → let p = gapEnd s (wordEnd s o) in itemAt s o ≡ cond (isOverFound (foundAt s p)) (Broken OverLimit p) (Failed (NoValue (numberOfWhy (whyFound (foundAt s p)))) o p)
 unfolding lexed tok
 item-alone s o g e h =
     let n = word (drop o s) in
@@ -198,7 +204,7 @@ item-alone s o g e h =
     (tag-item s o n (met-tag s o g e) ∙ alone-answer (tok (lexed tag n) o) s (gapEnd s (o + n)) (gap-none s (o + n)) h′)
 
 -- NO ITEM AT AN OFFSET
-none-answer : (c : Class) (t : Tok) (ts : List Tok) → startsItem c ≡ false → itemAnswer (itemBy c t ts) ≡ Failed NoItem (t .at) (t .at)
+none-answer : (c : Class) (t : Tok) (ts : List Tok) → startsItem c ≡ false → itemAnswer (itemBy c t ts) ≡ Absent (t .at)
 unfolding startsItem itemBy itemAnswer headAt
 none-answer loop t ts e = absurd (true≢false e)
 none-answer tag t ts e = absurd (true≢false e)
@@ -213,7 +219,7 @@ unfolding tagFirst
 no-item [] e f = unfold lexIn lexed startsItem in refl
 no-item (b ∷ s) e f = lex-other inBlock b s e f
 
-pub item-none : (s : List ℕ) (o : ℕ) → gap (drop o s) ≡ 0 → startsAt keyLoop s o ≡ false → tagAt s o ≡ false → itemAt s o ≡ Failed NoItem o o
+pub item-none : (s : List ℕ) (o : ℕ) → gap (drop o s) ≡ 0 → startsAt keyLoop s o ≡ false → tagAt s o ≡ false → itemAt s o ≡ Absent o
 unfolding itemAt item tagAt lex tok
 item-none s o g e f =
     let x = lexIn inBlock (drop o s) in
@@ -252,7 +258,7 @@ module _ {s : List ℕ} {o end stop : ℕ} {f : Found} (r : TagRead s o end stop
   tag-value k w next z e p q =
       rw (p, q, r .stops, r .ends) (sym (item-value s o k w (r .bare) (r .tagged) (rw (← r .ends, ← r .stops) (sym (r .finds) ∙ e))))
 
-  pub tag-alone : ((k w : ℕ) → f ≡ Value k w → ⊥) → cond (isOverFound f) (Broken OverLimit stop) (Failed NoValue o stop) ≡ itemAt s o
+  pub tag-alone : ((k w : ℕ) → f ≡ Value k w → ⊥) → cond (isOverFound f) (Broken OverLimit stop) (Failed (NoValue (numberOfWhy (whyFound f))) o stop) ≡ itemAt s o
   tag-alone n =
       rw (r .finds, r .stops, r .ends) (sym (item-alone s o (r .bare) (r .tagged) (λ k w e. n k w (rw (r .finds, r .stops, r .ends) e))))
 

@@ -21,11 +21,13 @@ use Rattle.items.specs.declared.Names.{Names}
 use Rattle.items.specs.declared.Values.{Values}
 use Rattle.values.specs.declared.Found.{Found}
 use Rattle.values.specs.declared.Found.the-variants.{Value}
-use Rattle.grammar.specs.Tokens.{inBlock, lexIn, lex, after, Tok, tok, tokensAt, headAt, tagFirst, tagAt}
+use Rattle.grammar.specs.Tokens.{inBlock, lexIn, lex, after, Tok, tok, tokensAt, headAt, headWhy, tagFirst, tagAt}
 use Rattle.grammar.specs.Machine.{rec}
 use Rattle.sizes.specs.Sizes.{sizesOf, noSizes, added, joined, Upto}
 use Rattle.grammar.specs.Descent.{nameRecs, valueRecs, isOver}
-use Rattle.items.specs.Answers.{headWhy, whyNot, namesOf, namesAt, headOver, valuesOf, valuesAt}
+use Rattle.values.specs.Answers.{whyNot}
+use Rattle.values.proofs.Choices.{wanted-why}
+use Rattle.items.specs.Answers.{namesOf, namesAt, headOver, valuesOf, valuesAt}
 use Rattle.values.specs.Finding.{foundAt, isOverFound, whyFound}
 use Rattle.grammar.proofs.Descent.{NoName, NoValue, value-or-not, names-more, names-none, values-more, values-none}
 use Rattle.grammar.proofs.Fits.{isValue, lexIn-pos}
@@ -141,16 +143,6 @@ wanted-over loop n = refl
 wanted-over save n = refl
 wanted-over tag n = refl
 wanted-over (nothing r) n = refl
-
-pub wanted-why : (c : Class) (n : ℕ) → whyNot c ≡ whyFound (wanted c n)
-unfolding whyNot wanted
-wanted-why (value j) n = refl
-wanted-why overLimit n = refl
-wanted-why block n = refl
-wanted-why loop n = refl
-wanted-why save n = refl
-wanted-why tag n = refl
-wanted-why (nothing r) n = refl
 
 pub no-value : (c : Class) (n : ℕ) → ((k w : ℕ) → wanted c n ≡ Value k w → ⊥) → NoValue c
 unfolding wanted

@@ -10,10 +10,10 @@ use lib.Dec.{eqb}
 use lib.ListN.{length}
 use Rattle.values.specs.Values.{Class, Reason, block, loop, save, tag, value, overLimit, nothing}
 use Rattle.grammar.specs.Tokens.{Tok, headAt}
-use Rattle.grammar.specs.Machine.{Rec, rec, loopEnd}
+use Rattle.grammar.specs.Machine.{Rec, rec, loopEnd, reason}
 use Rattle.kinds.specs.Kinds.{kindOf, shapeOf, shapeLength, outlineShape, bodyLength, outlineLength, isContent, hasContent}
 use Rattle.sizes.specs.Sizes.{contentSize, sizesOf, noSizes, added, joined, Upto}
-use Rattle.grammar.specs.Descent.{nameRecs, afterNames, valueRecs, afterValues, Item, taken, failed, broken, isOver, rows, loopBy, loopItem, single, tagItem, itemBy, item}
+use Rattle.grammar.specs.Descent.{nameRecs, afterNames, valueRecs, afterValues, Item, taken, failed, absent, broken, isOver, rows, loopBy, loopItem, single, tagItem, itemBy, item}
 use Rattle.grammar.proofs.Descent.{NoName, name-or-not, NoValue, value-or-not, names-more, names-none, values-more, values-none, nothing-name, nothing-value, save-name, save-value}
 use Rattle.grammar.proofs.Offsets.{Both, both-last, both-save, both-more, both-from}
 use Rattle.sizes.proofs.Room.{sizes-cons, sizes-none, sizes-one, sizes-append, upto-none, upto-added, upto-joined}
@@ -88,8 +88,8 @@ values-alike {s = s} {o = o} (both-more {t = t} {ts = ts} {us = us} h z b) = by 
 pub data AlikeItem (s : List ℕ) (o : ℕ) : Item → Item → Type 0 where
   alike-taken : {b : Bool} {rs : List Rec} {ts us : List Tok} (to : ℕ) → o < to → Both s to ts us → Upto (to - o) (sizesOf rs) → AlikeItem s o (taken b rs ts) (taken b rs us)
   alike-ragged : {a d : ℕ} {ts us : List Tok} → Both s o ts us → AlikeItem s o (failed 5 a d ts) (failed 5 a d us)
-  alike-alone : {a : ℕ} {ts us : List Tok} → Both s o ts us → AlikeItem s o (failed 6 a 0 ts) (failed 6 a 0 us)
-  alike-absent : {a : ℕ} {ts us : List Tok} → Both s o ts us → AlikeItem s o (failed 7 a 0 ts) (failed 7 a 0 us)
+  alike-alone : {a d : ℕ} {ts us : List Tok} → Both s o ts us → AlikeItem s o (failed 6 a d ts) (failed 6 a d us)
+  alike-absent : {ts us : List Tok} → Both s o ts us → AlikeItem s o (absent ts) (absent us)
   alike-unnamed : {a : ℕ} → AlikeItem s o (broken 8 a) (broken 8 a)
   alike-over : {a : ℕ} → AlikeItem s o (broken 9 a) (broken 9 a)
 
@@ -153,11 +153,11 @@ single-alike o t u l z m y h b loop = alike-alone h
 single-alike o t u l z m y h b save = alike-alone h
 single-alike o t u l z m y h b (nothing w) = alike-alone h
 
-single-nothing : (t u : Tok) (us : List Tok) (c : Class) (w : Reason) → c ≡ nothing w → single t c u us ≡ failed 6 (t .at) 0 (u ∷ us)
+single-nothing : (t u : Tok) (us : List Tok) (c : Class) (w : Reason) → c ≡ nothing w → single t c u us ≡ failed 6 (t .at) (reason (nothing w)) (u ∷ us)
 unfolding single
 single-nothing t u us c w e = rw e
 
-single-save : (t u : Tok) (us : List Tok) (c : Class) → c ≡ save → single t c u us ≡ failed 6 (t .at) 0 (u ∷ us)
+single-save : (t u : Tok) (us : List Tok) (c : Class) → c ≡ save → single t c u us ≡ failed 6 (t .at) (reason save) (u ∷ us)
 unfolding single
 single-save t u us c e = rw e
 
@@ -168,13 +168,13 @@ tag-alike o t l z (both-save {t = u} {u = v} {ts = ts} {us = us} h a e f) =
     rw (single-save t u ts (u .class) e, single-save t v us (v .class) f) (alike-alone (both-from o (both-save h a e f) (omega arith)))
 tag-alike o t l z (both-more {t = u} h y b) = single-alike o t u l z (h .onward) y (both-from o (both-more h y b) (omega arith)) b (u .class)
 
-item-nothing : (t : Tok) (ts : List Tok) (c : Class) (w : Reason) → c ≡ nothing w → itemBy c t ts ≡ failed 7 (t .at) 0 (t ∷ ts)
+item-nothing : (t : Tok) (ts : List Tok) (c : Class) (w : Reason) → c ≡ nothing w → itemBy c t ts ≡ absent (t ∷ ts)
 unfolding itemBy
 item-nothing t ts c w e = rw e
 
-item-save : (t : Tok) (ts : List Tok) (c : Class) (n : ℕ) → c ≡ save → t .at ≡ n → itemBy c t ts ≡ failed 7 n 0 (t ∷ ts)
+item-save : (t : Tok) (ts : List Tok) (c : Class) → c ≡ save → itemBy c t ts ≡ absent (t ∷ ts)
 unfolding itemBy
-item-save t ts c n e q = rw e (ap (λ (x : ℕ). failed 7 x 0 (t ∷ ts)) q)
+item-save t ts c e = rw e
 
 more-alike : {s : List ℕ} {o : ℕ} {t : Tok} {ts us : List Tok} → o ≤ t .at → 0 < t .size → Both s o (t ∷ ts) (t ∷ us) → Both s (t .at + t .size) ts us → (c : Class) → AlikeItem s o (itemBy c t ts) (itemBy c t us)
 unfolding itemBy headAt
@@ -190,5 +190,5 @@ more-alike l z h b (nothing w) = alike-absent h
 pub item-alike : {s : List ℕ} {o : ℕ} {ts us : List Tok} → Both s o ts us → AlikeItem s o (item ts) (item us)
 unfolding item headAt
 item-alike (both-last {t = t} h w e) = rw (item-nothing t [] (t .class) w e) (alike-absent (both-last h w e))
-item-alike (both-save {t = t} {u = u} {ts = ts} {us = us} h a e f) = rw (item-save t ts (t .class) (t .at) e refl, item-save u us (u .class) (t .at) f a) (alike-absent (both-save h a e f))
+item-alike (both-save {t = t} {u = u} {ts = ts} {us = us} h a e f) = rw (item-save t ts (t .class) e, item-save u us (u .class) f) (alike-absent (both-save h a e f))
 item-alike (both-more {t = t} h z b) = more-alike (h .onward) z (both-more h z b) b (t .class)

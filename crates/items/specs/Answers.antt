@@ -6,34 +6,16 @@ use mathlib.Core.List.{List, [], _∷_}
 use lib.Dec.{eqb}
 use lib.ListN.{length, drop}
 use Rattle.gaps.specs.Gaps.{gap}
-use Rattle.values.specs.Values.{Class, block, loop, save, tag, value, overLimit, nothing}
-use Rattle.values.specs.Answers.{whyOf}
-use Rattle.values.specs.declared.Why.{Why}
-use Rattle.values.specs.declared.Why.the-variants.{AtEnd, Reserved, NoStart}
 use Rattle.items.specs.declared.Names.{Names}
 use Rattle.items.specs.declared.Values.{Values}
 use Rattle.items.specs.declared.Item.{Item as Answered}
-use Rattle.items.specs.declared.Item.the-variants.{Loop, Single, Failed, Broken}
+use Rattle.items.specs.declared.Item.the-variants.{Loop, Single, Failed, Absent, Broken}
 use Rattle.grammar.specs.declared.Cause.the-variants.{Ragged}
 use Rattle.grammar.specs.Causes.{failing, breaking}
-use Rattle.grammar.specs.Tokens.{Tok, inBlock, tokensAt, headAt}
+use Rattle.grammar.specs.Tokens.{Tok, inBlock, tokensAt, headAt, headWhy}
 use Rattle.text.specs.Limits.{limit}
 use Rattle.sizes.specs.Sizes.{sizesOf, noSizes, added, joined}
-use Rattle.grammar.specs.Descent.{Item, taken, failed, broken, item, nameRecs, afterNames, valueRecs, afterValues, isOver}
-
--- why no value stands where this token does
-unfoldable pub whyNot : Class → Why
-whyNot (nothing w) = whyOf w
-whyNot tag = NoStart
-whyNot block = Reserved
-whyNot loop = Reserved
-whyNot save = Reserved
-whyNot (value k) = AtEnd
-whyNot overLimit = AtEnd
-
-unfoldable pub headWhy : List Tok → Why
-headWhy [] = AtEnd
-headWhy (t ∷ ts) = whyNot (t .class)
+use Rattle.grammar.specs.Descent.{Item, taken, failed, absent, broken, item, nameRecs, afterNames, valueRecs, afterValues, isOver}
 
 -- o is an offset of a text within limit 1
 pub record Ready (s : List ℕ) (o : ℕ) : Type 0 where
@@ -82,6 +64,7 @@ unfoldable pub itemAnswer : Item → Answered
 itemAnswer (taken true rs rest) = Loop (headAt rest) (sizesOf rs) (headWhy rest)
 itemAnswer (taken false rs rest) = Single (headAt rest) (sizesOf rs)
 itemAnswer (failed n o d rest) = Failed (failing n d) o (headAt rest)
+itemAnswer (absent rest) = Absent (headAt rest)
 itemAnswer (broken n o) = Broken (breaking n) o
 
 -- the item at offset o, behind space and comments. It is the same in the block and in a frame: no item reaches over a

@@ -14,8 +14,9 @@ use sizes::Sizes;
 use values::Found;
 use values::Why;
 
-// What reading an item comes to: read, with the offset behind it and the space and comments there; failed by 5, 6 or 7, with the
-// offset where it stopped; or by 8 or 9, which end the whole reading.
+// What reading an item comes to: read, with the offset behind it and the space and comments there, a loop with why its list of
+// values ended; failed by 5 or 6, with the offset where it stopped; absent, where none starts; or 8 or 9, which end the whole
+// reading.
 pub enum Item {
     Loop {
         next: usize,
@@ -30,6 +31,9 @@ pub enum Item {
         cause: Cause,
         at: usize,
         stop: usize,
+    },
+    Absent {
+        at: usize,
     },
     Broken {
         cause: Cause,
@@ -186,14 +190,16 @@ fn parse_tag(s: &[u8], at: usize) -> Item
             sizes,
         };
     }
-    let Found::Missing { .. } = found else {
+    let Found::Missing { why } = found else {
         return Item::Broken {
             cause: Cause::OverLimit,
             at: stop,
         };
     };
     Item::Failed {
-        cause: Cause::NoValue,
+        cause: Cause::NoValue {
+            reason: why.number(),
+        },
         at,
         stop,
     }
@@ -210,9 +216,5 @@ pub fn parse_data_item(s: &[u8], at: usize) -> Item
     if at_tag(s, at) {
         return parse_tag(s, at);
     }
-    Item::Failed {
-        cause: Cause::NoItem,
-        at,
-        stop: at,
-    }
+    Item::Absent { at }
 }

@@ -7,7 +7,7 @@ use mathlib.Core.List.{List, [], _∷_, _++_}
 use native.Mathlib.Omega.{arith}
 use lib.ListN.{length, getD}
 use Rattle.text.specs.Bytes.{is, isAscii, isDigit, isEol}
-use Rattle.places.specs.Reports.{success}
+use Rattle.places.specs.Reports.{success, refusedAt}
 use Rattle.numbers.specs.Spelling.{padded, trim, plain, signBytes, uncBytes, expBytes, fracBytes, renderNumber}
 use Rattle.records.specs.Bytes.{le32, le64, signed32, flag}
 use Rattle.records.specs.Records.{tokenBytes, decimalBytes, endRecord, placeRecord, contentRecord, loopRecord, numberRecord, uncertainRecord}
@@ -25,6 +25,7 @@ use Rattle.values.specs.Alone.{isKind as isKindAlone, isAlone}
 use Rattle.stores.specs.Soundness.{takes, filledFrom, filled, eachReadable, eachInside, follows, laidOut}
 use Rattle.stores.specs.Soundness.{sound}
 use Rattle.rendering.specs.Rendering.{linesOf, rendering, limit as renderLimit, renderRoom, renderAnswer, renderOut}
+use Rattle.outlining.specs.Outlining.{outlineBy, outlineAnswer}
 use Rattle.record_lines.specs.Lines.{decimalOf as renderedDecimal, tokenText as renderedText, isEnd, lineOf}
 use Rattle.hidden.specs.Differences.{isMark, isQuoted, insideRec, insideRecs, Swap, same, digits, inside, Differ, DigitsDiffer, ContentsDiffer}
 use Rattle.readings.specs.Readings.{bytes}
@@ -122,6 +123,16 @@ stays-digit (inside x p q r) h = absurd x
 letter-example : DigitsDiffer (bytes "a1") (bytes "ab") → ⊥
 unfolding bytes DigitsDiffer isDigit
 letter-example d = false≢true (stays-digit (d .bytes 1 (omega arith)) refl)
+
+-- Digits change in a loop's value and in the quote that is not closed behind it: the refusal stays, whole, with why the loop's list ended
+
+refused-example : outlineAnswer (bytes "data_x loop_ _a 1 '2") 0 ≡ refusedAt 7 (record { offset = 18; line = 1; column = 19 }) 4
+unfolding all outlineBy outlineAnswer
+refused-example = refl
+
+detail-example : outlineAnswer (bytes "data_x loop_ _a 9 '0") 0 ≡ refusedAt 7 (record { offset = 18; line = 1; column = 19 }) 4
+unfolding all outlineBy outlineAnswer
+detail-example = refl
 
 -- Inside a recorded quote a letter for a letter; a semicolon for one
 

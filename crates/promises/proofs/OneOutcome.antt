@@ -37,8 +37,8 @@ causeIn n d =
     (cond (eqb n 3) NoData
     (cond (eqb n 4) OpenFrame
     (cond (eqb n 5) (Ragged d)
-    (cond (eqb n 6) NoValue
-    (cond (eqb n 7) NoItem
+    (cond (eqb n 6) (NoValue d)
+    (cond (eqb n 7) (NoItem d)
     (cond (eqb n 8) NoNames OverLimit))))))
 
 cause-back : (c : Cause) → causeIn (causeNumber c) (causeDetail c) ≡ c
@@ -47,8 +47,8 @@ cause-back NotAscii = refl
 cause-back NoData = refl
 cause-back OpenFrame = refl
 cause-back (Ragged d) = refl
-cause-back NoValue = refl
-cause-back NoItem = refl
+cause-back (NoValue d) = refl
+cause-back (NoItem d) = refl
 cause-back NoNames = refl
 cause-back OverLimit = refl
 
@@ -66,8 +66,8 @@ cause-low NotAscii = (refl, refl, refl)
 cause-low NoData = (refl, refl, refl)
 cause-low OpenFrame = (refl, refl, refl)
 cause-low (Ragged d) = (refl, refl, refl)
-cause-low NoValue = (refl, refl, refl)
-cause-low NoItem = (refl, refl, refl)
+cause-low (NoValue d) = (refl, refl, refl)
+cause-low (NoItem d) = (refl, refl, refl)
 cause-low NoNames = (refl, refl, refl)
 cause-low OverLimit = (refl, refl, refl)
 

@@ -1,4 +1,4 @@
--- Document 01's 'Readings to hold us to', as one list: what Read answers to each text, with room enough, by number, place and detail, or with its records as the outline
+-- Document 01's 'Readings to hold us to', with the details of document 02's One and readings of its own, as one list: what Read answers to each text, with room enough, by number, place and detail, or with its records as the outline
 -- program prints them, the two lengths and the area; and what each word says as a value. * marks the readings that 01 stars. Assumes nothing.
 use Prim.Native.Nat.{ℕ}
 use Prim.Native.Char.{code}
@@ -86,10 +86,10 @@ readings =
     ∷ reads "data_x loop_ _a" (done-with (row 1 0 6 1 1 ∷ row 5 7 5 1 8 ∷ row 6 13 2 1 14 ∷ loop-end ∷ []) 64 2 "xa")
     -- * 5, detail 1, at 7,1,8
     ∷ reads "data_x loop_ _a _b 1 2 3" (no 5 7 1 8 1)
-    -- * 6 at 7
-    ∷ reads "data_x _a 'b" (no 6 7 1 8 0)
-    -- 7 at 18,1,19
-    ∷ reads "data_x loop_ _a 1 'b" (no 7 18 1 19 0)
+    -- * 6 at 7, and by document 02 (One) detail 4
+    ∷ reads "data_x _a 'b" (no 6 7 1 8 4)
+    -- 7 at 18,1,19, detail 4
+    ∷ reads "data_x loop_ _a 1 'b" (no 7 18 1 19 4)
     -- * read, an empty frame
     ∷ reads "data_x save_f _a save_" (done-with (row 1 0 6 1 1 ∷ row 2 7 6 1 8 ∷ row 3 17 5 1 18 ∷ []) 59 2 "xf")
     -- 7 at 19,1,20
@@ -119,6 +119,18 @@ readings =
     -- the outline program's example: 183 store bytes and the area tabcx
     ∷ reads "data_t\n_a 1.50(2)\nloop_ _b _c\nx ?\n" (done-with example 183 5 "tabcx")
     ∷ means "1.50(2)" (Number (decimal 1 50 2 true 2) 7)
+    -- document 02, One: why no value stands behind a tag: the text ends, a reserved word, a byte that starts none (`_` and form feed too), a text field that is not closed
+    ∷ reads "data_x _a" (no 6 7 1 8 1)
+    ∷ reads "data_x _a stop_x" (no 6 7 1 8 2)
+    ∷ reads "data_x _a _b 1" (no 6 7 1 8 3)
+    ∷ reads "data_x _a\u{c}" (no 6 7 1 8 3)
+    ∷ reads "data_x _a ;b" (no 6 7 1 8 5)
+    -- why a loop's list ended, directly behind a loop of the block, with rows or without
+    ∷ reads "data_x loop_ _a 'b" (no 7 16 1 17 4)
+    ∷ reads "data_x loop_ _a 1 data_y" (no 7 18 1 19 2)
+    -- nothing behind a frame, behind a tag's value
+    ∷ reads "data_x loop_ _a 1 save_f save_ $" (no 7 31 1 32 0)
+    ∷ reads "data_x loop_ _a 1 _b 2 $" (no 7 23 1 24 0)
     ∷ []
   where
     example : List Row

@@ -27,6 +27,15 @@ fn told_column(report: Report) -> usize {
     }
 }
 
+// The source tells no reason.
+fn told_detail(report: Report) -> usize {
+    let number = report.number;
+    match number {
+        6 | 7 => 0,
+        _ => report.detail,
+    }
+}
+
 // Refusal number, line, column and detail.
 fn same_answer(entry: &[u8], report: Report) -> bool {
     if report.number != list::field(entry, 1) {
@@ -38,7 +47,7 @@ fn same_answer(entry: &[u8], report: Report) -> bool {
     if told_column(report) != list::field(entry, 3) {
         return false;
     }
-    report.detail == list::field(entry, 4)
+    told_detail(report) == list::field(entry, 4)
 }
 
 // The source doesn't tell quoted text from bare.

@@ -40,7 +40,7 @@ pass true w t c o h = advance inFrame w t (lexed c (length w)) o h refl
 pass false w t c o h = advance inBlock w t (lexed c (length w)) o h refl
 
 unfoldable pub stateOf : Where → ℕ → State
-stateOf (at-items e) a = items
+stateOf (at-items e) a = items 0
 stateOf (at-names n) a = names a n
 stateOf (at-values n k) a = values a n k
 stateOf at-value a = wants a
@@ -77,33 +77,42 @@ first-token (looped {f} {es} e w r n) o = record { t = _; ts = _; reads = pass f
 first-token (opened {es} e w r n) o = record { t = _; ts = _; reads = pass false w (render es) save o r; begins = by-save e }
 first-token (shut {es} e w r n) o = record { t = _; ts = _; reads = pass true w (render es) save o r; begins = by-save e }
 
--- a loop's end has no token: the next one ends it
-ends-loop : (a n j : ℕ) (fr : Option ℕ) (out held : List Rec) (t : Tok) → j % n ≡ 0 → loopEnds a n j fr out held t ≡ atItem fr (out ++ held ++ (loopEnd ∷ [])) (t .class) t
+-- a loop's end has no token: the next one ends it, whatever a 7 there would say
+any-detail : {e : Bool} {c : Class} (d : ℕ) (fr : Option ℕ) (out : List Rec) (t : Tok) → Begins e c → atItem d fr out c t ≡ atItem 0 fr out c t
+unfolding atItem
+any-detail d fr out t by-tag = refl
+any-detail d fr out t (by-loop e) = refl
+any-detail d none out t (by-save e) = refl
+any-detail d (some a) out t (by-save e) = refl
+any-detail d none out t (by-end e) = refl
+any-detail d (some a) out t (by-end e) = refl
+
+ends-loop : (e : Bool) (a n j : ℕ) (fr : Option ℕ) (out held : List Rec) (t : Tok) → Begins e (t .class) → j % n ≡ 0 → loopEnds a n j fr out held t ≡ atItem 0 fr (out ++ held ++ (loopEnd ∷ [])) (t .class) t
 unfolding loopEnds
-ends-loop a n j fr out held t z = rw (eq-eqb (j % n) 0 z)
+ends-loop e a n j fr out held t b z = rw (eq-eqb (j % n) 0 z) (any-detail _ fr (out ++ held ++ (loopEnd ∷ [])) t b)
 
-values-end : {e : Bool} {c : Class} (a n j : ℕ) (fr : Option ℕ) (out held : List Rec) (t : Tok) → Begins e c → j % n ≡ 0 → atValue a n j fr out held c t ≡ atItem fr (out ++ held ++ (loopEnd ∷ [])) (t .class) t
+values-end : {e : Bool} {c : Class} (a n j : ℕ) (fr : Option ℕ) (out held : List Rec) (t : Tok) → Begins e c → t .class ≡ c → j % n ≡ 0 → atValue a n j fr out held c t ≡ atItem 0 fr (out ++ held ++ (loopEnd ∷ [])) (t .class) t
 unfolding atValue
-values-end a n j fr out held t by-tag z = ends-loop a n j fr out held t z
-values-end a n j fr out held t (by-loop e) z = ends-loop a n j fr out held t z
-values-end a n j fr out held t (by-save e) z = ends-loop a n j fr out held t z
-values-end a n j fr out held t (by-end e) z = ends-loop a n j fr out held t z
+values-end a n j fr out held t by-tag q z = ends-loop false a n j fr out held t (rw q by-tag) z
+values-end a n j fr out held t (by-loop e) q z = ends-loop e a n j fr out held t (rw q (by-loop e)) z
+values-end a n j fr out held t (by-save e) q z = ends-loop e a n j fr out held t (rw q (by-save e)) z
+values-end a n j fr out held t (by-end e) q z = ends-loop e a n j fr out held t (rw q (by-end e)) z
 
-names-end : {c : Class} (a n : ℕ) (fr : Option ℕ) (out held : List Rec) (t : Tok) → Begins true c → t .class ≡ c → atName a (suc n) fr out held c t ≡ atItem fr (out ++ held ++ (loopEnd ∷ [])) (t .class) t
+names-end : {c : Class} (a n : ℕ) (fr : Option ℕ) (out held : List Rec) (t : Tok) → Begins true c → t .class ≡ c → atName a (suc n) fr out held c t ≡ atItem 0 fr (out ++ held ++ (loopEnd ∷ [])) (t .class) t
 unfolding atName noMoreNames
-names-end a n fr out held t (by-loop e) q = ap (λ c. atValue a (suc n) 0 fr out held c t) q ∙ values-end a (suc n) 0 fr out held t (by-loop e) (zero-mod (suc n))
-names-end a n fr out held t (by-save e) q = ap (λ c. atValue a (suc n) 0 fr out held c t) q ∙ values-end a (suc n) 0 fr out held t (by-save e) (zero-mod (suc n))
-names-end a n fr out held t (by-end e) q = ap (λ c. atValue a (suc n) 0 fr out held c t) q ∙ values-end a (suc n) 0 fr out held t (by-end e) (zero-mod (suc n))
+names-end a n fr out held t (by-loop e) q = ap (λ c. atValue a (suc n) 0 fr out held c t) q ∙ values-end a (suc n) 0 fr out held t (by-loop e) q (zero-mod (suc n))
+names-end a n fr out held t (by-save e) q = ap (λ c. atValue a (suc n) 0 fr out held c t) q ∙ values-end a (suc n) 0 fr out held t (by-save e) q (zero-mod (suc n))
+names-end a n fr out held t (by-end e) q = ap (λ c. atValue a (suc n) 0 fr out held c t) q ∙ values-end a (suc n) 0 fr out held t (by-end e) q (zero-mod (suc n))
 
 values-wait : {f e : Bool} {es : List Line} → Nested f (at-items e) es → (o a n j : ℕ) (fr : Option ℕ) (out held : List Rec) → j % n ≡ 0
-    → run (tokensFrom (render es) 0 (modeOf f) o) (config (values a n j) fr out held) ≡ run (tokensFrom (render es) 0 (modeOf f) o) (config items fr (out ++ held ++ (loopEnd ∷ [])) [])
+    → run (tokensFrom (render es) 0 (modeOf f) o) (config (values a n j) fr out held) ≡ run (tokensFrom (render es) 0 (modeOf f) o) (config (items 0) fr (out ++ held ++ (loopEnd ∷ [])) [])
 unfolding run move config
 values-wait d o a n j fr out held z =
     let x = first-token d o in
-    rw (x .reads) (ap (λ m. follow m (λ c. run (x .ts) c)) (values-end a n j fr out held (x .t) (x .begins) z))
+    rw (x .reads) (ap (λ m. follow m (λ c. run (x .ts) c)) (values-end a n j fr out held (x .t) (x .begins) refl z))
 
 names-wait : {f : Bool} {es : List Line} → Nested f (at-items true) es → (o a n : ℕ) (fr : Option ℕ) (out held : List Rec)
-    → run (tokensFrom (render es) 0 (modeOf f) o) (config (names a (suc n)) fr out held) ≡ run (tokensFrom (render es) 0 (modeOf f) o) (config items fr (out ++ held ++ (loopEnd ∷ [])) [])
+    → run (tokensFrom (render es) 0 (modeOf f) o) (config (names a (suc n)) fr out held) ≡ run (tokensFrom (render es) 0 (modeOf f) o) (config (items 0) fr (out ++ held ++ (loopEnd ∷ [])) [])
 unfolding run move config
 names-wait d o a n fr out held =
     let x = first-token d o in

@@ -1,4 +1,4 @@
--- What a `match` on what is found tells where it leaves a variant out. Assumes nothing.
+-- What a `match` on what is found tells where it leaves a variant out, and why none is found. Assumes nothing.
 use Prim.Native.Nat.{ℕ}
 use mathlib.Core.Path.{_≡_, refl}
 use mathlib.Core.List.{[], _∷_}
@@ -8,6 +8,9 @@ use denote.Enum.Declared.{tagOf}
 use types.Run.{OneOf}
 use Rattle.values.specs.declared.Found.{Found}
 use Rattle.values.specs.declared.Found.the-variants.{Value, Over, Missing}
+use Rattle.values.specs.Values.{Class, block, loop, save, tag, value, overLimit, nothing}
+use Rattle.values.specs.Answers.{whyNot}
+use Rattle.values.specs.Finding.{wanted, whyFound}
 use Rattle.values.proofs.Found.{the-type as found-type}
 
 apart : _≡_ {A = ℕ} 0 1 → ⊥
@@ -27,3 +30,14 @@ over-left (Value k n) (inr e) d = absurd (omega arith)
 over-left Over e d = refl
 over-left (Missing w) e (inl d) = absurd (omega arith)
 over-left (Missing w) e (inr d) = absurd (omega arith)
+
+-- why none is found where a token stands
+pub wanted-why : (c : Class) (n : ℕ) → whyNot c ≡ whyFound (wanted c n)
+unfolding whyNot wanted
+wanted-why (value j) n = refl
+wanted-why overLimit n = refl
+wanted-why block n = refl
+wanted-why loop n = refl
+wanted-why save n = refl
+wanted-why tag n = refl
+wanted-why (nothing r) n = refl

@@ -19,6 +19,24 @@ whyOf noStart = NoStart
 whyOf openQuote = OpenQuote
 whyOf openField = OpenField
 
+-- why no value stands where a token of this class does; of a value nobody asks
+unfoldable pub whyNot : Class → Why
+whyNot (nothing w) = whyOf w
+whyNot tag = NoStart
+whyNot block = Reserved
+whyNot loop = Reserved
+whyNot save = Reserved
+whyNot (value k) = AtEnd
+whyNot overLimit = AtEnd
+
+-- the reason's number (document 02, One): the text ends, a reserved word, a byte that starts no value, a quote, a text field that is not closed
+abbrev pub numberOfWhy : Why → ℕ
+numberOfWhy AtEnd = 1
+numberOfWhy Reserved = 2
+numberOfWhy NoStart = 3
+numberOfWhy OpenQuote = 4
+numberOfWhy OpenField = 5
+
 -- a token where a value is wanted; numbers come with their meaning
 unfoldable pub answer : List ℕ → Class → ℕ → Value
 answer s (value k) n = cond (eqb k 14 || eqb k 15) (Number (meaning (parts (take n s))) n) (Token k n)

@@ -16,7 +16,7 @@ use Rattle.values.specs.declared.Why.the-variants.{AtEnd, Reserved, NoSt
 use Rattle.values.specs.declared.Found.{Found}
 use Rattle.values.specs.declared.Found.the-variants.{Value, Over, Missing}
 use Rattle.values.specs.Values.{Class, block, loop, save, tag, value, overLimit, nothing, Lexed, lexAsValue}
-use Rattle.values.specs.Answers.{whyOf}
+use Rattle.values.specs.Answers.{whyOf, numberOfWhy}
 
 -- a token where a value is wanted
 unfoldable pub wanted : Class → ℕ → Found
@@ -57,21 +57,14 @@ kindOfNumber d = cond (d .uncertain) 15 14
 unfoldable pub startsDecimal : ℕ → Bool
 startsDecimal b = isDigit b || (is plusSign b || is minusSign b)
 
--- As one number: a value's kind, which is below 32, and its length times 32; what is no value has no length
+-- As one number: a value's kind, which is below 32, and its length times 32; what is no value has no length, but its reason's number, or 6
 
 unfoldable pub pack : ℕ → ℕ → ℕ
 pack k n = k + n * 32
 
-abbrev pub numberOfWhy : Why → ℕ
-numberOfWhy AtEnd = 0
-numberOfWhy Reserved = 1
-numberOfWhy NoStart = 2
-numberOfWhy OpenQuote = 3
-numberOfWhy OpenField = 4
-
 abbrev pub packedOf : Found → ℕ
 packedOf (Value k n) = pack k n
-packedOf Over = 5
+packedOf Over = 6
 packedOf (Missing w) = numberOfWhy w
 
 unfoldable pub packedAt : List ℕ → ℕ → ℕ
@@ -79,7 +72,7 @@ packedAt s o = packedOf (foundAt s o)
 
 -- and back
 unfoldable pub whyOfNumber : ℕ → Why
-whyOfNumber t = cond (eqb t 0) AtEnd (cond (eqb t 1) Reserved (cond (eqb t 2) NoStart (cond (eqb t 3) OpenQuote OpenField)))
+whyOfNumber t = cond (eqb t 1) AtEnd (cond (eqb t 2) Reserved (cond (eqb t 3) NoStart (cond (eqb t 4) OpenQuote OpenField)))
 
 unfoldable pub unpackedOf : ℕ → Found
-unpackedOf t = cond (leb 32 t) (Value (t % 32) (t / 32)) (cond (eqb t 5) Over (Missing (whyOfNumber t)))
+unpackedOf t = cond (leb 32 t) (Value (t % 32) (t / 32)) (cond (eqb t 6) Over (Missing (whyOfNumber t)))

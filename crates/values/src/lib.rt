@@ -4,7 +4,7 @@ ghost use mathlib.Core.Bool.{true, false};
 ghost use Prim.Native.Nat.{_-_, _≤_, _<_, _^_};
 ghost use lib.ListN.{length, getD};
 ghost use Rattle.words.specs.Words.{wordEnd};
-ghost use Rattle.values.specs.Answers.{valueAt};
+ghost use Rattle.values.specs.Answers.{valueAt, numberOfWhy};
 ghost use Rattle.values.specs.Finding.{startsDecimal, kindOfNumber, pack, packedOf, packedAt, whyOfNumber, unpackedOf};
 ghost use Rattle.values.specs.Pieces.{numberAt, wordAt, pointAt, quoteAt, fieldAt};
 ghost use Rattle.values.specs.declared.Found.the-variants.{Value as FoundValue};
@@ -39,20 +39,35 @@ pub enum Value {
 
 // What is found is packed into one number, since one comes back from a call in a register, an enum through memory;
 // `Found::of` takes it apart. A value is its kind and its length times `KINDS`; what is no value has no length, and a
-// number below `KINDS` says what it is.
+// number below `KINDS` says what it is: the reason's own, or `OVER`.
 const KINDS: usize = 32;
 
-const AT_END: usize = 0;
+const AT_END: usize = 1;
 
-const RESERVED: usize = 1;
+const RESERVED: usize = 2;
 
-const NO_START: usize = 2;
+const NO_START: usize = 3;
 
-const OPEN_QUOTE: usize = 3;
+const OPEN_QUOTE: usize = 4;
 
-const OPEN_FIELD: usize = 4;
+const OPEN_FIELD: usize = 5;
 
-const OVER: usize = 5;
+const OVER: usize = 6;
+
+impl Why {
+    // Document 02's number.
+    pub fn number(self) -> usize
+        ensures { λ r. ⌜ r ≡ numberOfWhy self ⌝ }
+    {
+        match self {
+            Why::AtEnd => AT_END,
+            Why::Reserved => RESERVED,
+            Why::NoStart => NO_START,
+            Why::OpenQuote => OPEN_QUOTE,
+            Why::OpenField => OPEN_FIELD,
+        }
+    }
+}
 
 // A value, packed.
 fn packed(kind: u8, size: usize) -> usize

@@ -22,11 +22,10 @@ use Rattle.values.specs.declared.Found.{Found}
 use Rattle.values.specs.declared.Found.the-variants.{Value, Over, Missing}
 use Rattle.grammar.specs.Tokens.{inBlock, lexIn, lex, after, Tok, tok}
 use Rattle.grammar.specs.Machine.{Rec, rec, loopEnd}
-use Rattle.grammar.specs.Descent.{nameRecs, afterNames, valueRecs, afterValues, Item, taken, failed, broken, isOver, rows, loopBy, loopItem, single, tagItem, itemBy, item}
+use Rattle.grammar.specs.Descent.{nameRecs, afterNames, valueRecs, afterValues, Item, taken, failed, absent, broken, isOver, rows, loopBy, loopItem, single, tagItem, itemBy, item}
 use Rattle.sizes.specs.Sizes.{storeSize, sizesOf}
 use Rattle.grammar.specs.Tokens.{tokensAt, headAt}
-use Rattle.items.specs.declared.Item.the-variants.{Failed}
-use Rattle.grammar.specs.declared.Cause.the-variants.{NoItem}
+use Rattle.items.specs.declared.Item.the-variants.{Absent}
 use Rattle.items.specs.Answers.{itemAnswer, itemAt}
 use Rattle.grammar.specs.Tokens.{tagAt}
 use Rattle.values.specs.Finding.{foundAt}
@@ -370,10 +369,11 @@ module _ (full : Bool) (s : List ℕ) (d : Desk) (h : ItemHere full s d) (t : ta
 pub tag-here : (s : List ℕ) (o : ℕ) → gap (drop o s) ≡ 0 → startsAt keyLoop s o ≡ false → isTaken (itemOf s o) ≡ true → tagAt s o ≡ true
 tag-here s o g e r = by (tagAt s o) refl
   where
-    read : (i : Item) → isTaken i ≡ true → itemAnswer i ≡ Failed NoItem o o → ⊥
+    read : (i : Item) → isTaken i ≡ true → itemAnswer i ≡ Absent o → ⊥
     read (taken true rs rest) r e = let z : _≡_ {A = ℕ} 0 1 = unfold itemAnswer in cc in omega arith
     read (taken false rs rest) r e = let z : _≡_ {A = ℕ} 0 1 = unfold itemAnswer in cc in omega arith
     read (failed n a d rest) r e = unfold isTaken in absurd (false≢true r)
+    read (absent rest) r e = unfold isTaken in absurd (false≢true r)
     read (broken n a) r e = unfold isTaken in absurd (false≢true r)
 
     by : (t : Bool) → tagAt s o ≡ t → t ≡ true

@@ -12,7 +12,7 @@ use Rattle.values.specs.declared.Found.the-variants.{Value}
 use Rattle.values.specs.Finding.{foundAt}
 use Rattle.grammar.specs.Tokens.{Tok, inBlock}
 use Rattle.grammar.specs.Machine.{Rec}
-use Rattle.grammar.specs.Descent.{Item, taken, failed, broken, item, nameRecs, afterNames, valueRecs, afterValues}
+use Rattle.grammar.specs.Descent.{Item, taken, failed, absent, broken, item, nameRecs, afterNames, valueRecs, afterValues}
 use Rattle.grammar.specs.Tokens.{tokensAt, headAt}
 use Rattle.sizes.specs.Sizes.{areaSize}
 use Rattle.putting.specs.declared.Cursor.{Cursor}
@@ -92,16 +92,19 @@ WroteValues full s d e =
 unfoldable pub itemRecs : Item → List Rec
 itemRecs (taken b rs rest) = rs
 itemRecs (failed n o d rest) = []
+itemRecs (absent rest) = []
 itemRecs (broken n o) = []
 
 unfoldable pub itemRest : Item → List Tok
 itemRest (taken b rs rest) = rest
 itemRest (failed n o d rest) = rest
+itemRest (absent rest) = rest
 itemRest (broken n o) = []
 
 unfoldable pub isTaken : Item → Bool
 isTaken (taken b rs rest) = true
 isTaken (failed n o d rest) = false
+isTaken (absent rest) = false
 isTaken (broken n o) = false
 
 -- the item at an offset

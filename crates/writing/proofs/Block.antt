@@ -62,7 +62,7 @@ module _ (full : Bool) (s store area : List ℕ) (f : Fits full s store area) (h
   size : w ≡ word (drop o s)
   size = omega (arith, word-end s o)
 
-  read : (startsAt keyData s o ≡ true) × (recs ≡ recAt 1 o w ∷ recsLeft none s (gapEnd s (o + w))) × (isDone (left none s (gapEnd s (o + w)) []) ≡ true)
+  read : (startsAt keyData s o ≡ true) × (recs ≡ recAt 1 o w ∷ recsLeft none s (gapEnd s (o + w))) × (isDone (left 0 none s (gapEnd s (o + w)) []) ≡ true)
   read = heading s o w (trim-offset s atStart h q) size (f .reads)
 
   pub block-going : Going s h
@@ -110,7 +110,7 @@ module _ (full : Bool) (s store area : List ℕ) (f : Fits full s store area) (h
         record {
           going = trim-going s (e .cursor) k y (x .going);
           bare = rw at-rest (gap-none s (o + w));
-          reads = ap (λ (p : ℕ). isDone (left none s p [])) at-rest ∙ read .2;
+          reads = ap (λ (p : ℕ). isDone (left 0 none s p [])) at-rest ∙ read .2;
           room = rw same (room-onward full s _ _ d e′ rest-room onward);
         }
 

@@ -126,7 +126,7 @@ one-moved full s f g d e h r q a l t c w z =
           record {
             going = trim-going s (e .cursor) h z (w .going);
             bare = rw y (gap-none s q);
-            reads = ap (λ (p : ℕ). isDone (left g s p [])) y ∙ t .reads;
+            reads = ap (λ (p : ℕ). isDone (left 0 g s p [])) y ∙ t .reads;
             room = rw same (room-onward full s (recsLeft f s o) ls d (desk h (e .store) (e .area)) (a .room) all);
           };
       onward = rw same all;
@@ -151,7 +151,7 @@ item-moved full s f d e a r t w =
           record {
             going = w .going;
             bare = rw y (i .bare);
-            reads = ap (λ (q : ℕ). isDone (left f s q [])) y ∙ t .reads;
+            reads = ap (λ (q : ℕ). isDone (left 0 f s q [])) y ∙ t .reads;
             room = rw same (room-onward full s (recsLeft f s o) ls d e (a .room) all);
           };
       onward = rw same all;

@@ -26,12 +26,12 @@ module _ (s : List ℕ) (o end stop : ℕ) where
   next-value k n g t e p q = ap nextOf (tag-value (tag-read (Value k n) g t e p q) k n _ _ refl refl refl)
 
   -- an item over a digit limit stops where one without a value does
-  stopped : (b : Bool) → Stop stop ≡ nextOf (cond b (Broken OverLimit stop) (Failed NoValue o stop))
+  stopped : (b : Bool) (d : ℕ) → Stop stop ≡ nextOf (cond b (Broken OverLimit stop) (Failed (NoValue d) o stop))
   unfolding nextOf
-  stopped true = refl
-  stopped false = refl
+  stopped true d = refl
+  stopped false d = refl
 
   pub next-alone : gap (drop o s) ≡ 0 → tagAt s o ≡ true → end ≡ wordEnd s o → stop ≡ gapEnd s end → ((k n : ℕ) → foundAt s stop ≡ Value k n → ⊥) → Stop stop ≡ nextOf (itemAt s o)
   next-alone g t e p h =
       let f = foundAt s stop in
-      stopped (isOverFound f) ∙ ap nextOf (tag-alone (tag-read f g t e p refl) h)
+      stopped (isOverFound f) _ ∙ ap nextOf (tag-alone (tag-read f g t e p refl) h)

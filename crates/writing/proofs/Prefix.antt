@@ -7,7 +7,7 @@ use mathlib.Core.Option.{Option, none, some}
 use lib.Dec.{eqb}
 use Rattle.values.specs.Values.{Class, block, loop, save, tag, value, overLimit, nothing, atEnd, reservedWord, noStart, openQuote, openField}
 use Rattle.grammar.specs.Tokens.{Tok}
-use Rattle.grammar.specs.Machine.{Rec, Answer, refused, done, State, start, items, names, values, wants, config, Outcome, go, stop, loopEnd, closes, fails, atItem, loopEnds, atValue, noMoreNames, atName, atWant, move, follow, run}
+use Rattle.grammar.specs.Machine.{Rec, Answer, refused, done, State, start, items, names, values, wants, config, Outcome, go, stop, loopEnd, closes, fails, atItem, loopEnds, atValue, noMoreNames, atName, atWant, move, follow, run, reason, inBlockOnly}
 
 unfoldable pub prefixed : List Rec → Answer → Answer
 prefixed p (done rs) = done (p ++ rs)
@@ -20,7 +20,7 @@ prefixedOut p (stop a) = stop (prefixed p a)
 -- behind the block's heading
 unfoldable pub started : State → Bool
 started start = false
-started items = true
+started (items d) = true
 started (names a n) = true
 started (values a n k) = true
 started (wants a) = true
@@ -47,7 +47,7 @@ halt p n o d = record { same = refl; begun = tt }
 module _ (p : List Rec) where
   closes-after : (f : ℕ) (out : List Rec) (c : Class) (t : Tok) → After p (closes f (p ++ out) c t) (closes f out c t)
   unfolding closes started
-  closes-after f out save t = step p items none _ _ [] refl (append-assoc p out _)
+  closes-after f out save t = step p (items 0) none _ _ [] refl (append-assoc p out _)
   closes-after f out block t = halt p 4 f 0
   closes-after f out loop t = halt p 4 f 0
   closes-after f out tag t = halt p 4 f 0
@@ -60,21 +60,21 @@ module _ (p : List Rec) where
   fails-after n o d none out t = halt p n o d
   fails-after n o d (some f) out t = closes-after f out (t .class) t
 
-  item-after : (f : Option ℕ) (out : List Rec) (c : Class) (t : Tok) → After p (atItem f (p ++ out) c t) (atItem f out c t)
+  item-after : (d : ℕ) (f : Option ℕ) (out : List Rec) (c : Class) (t : Tok) → After p (atItem d f (p ++ out) c t) (atItem d f out c t)
   unfolding atItem started
-  item-after f out loop t = step p _ f _ _ _ refl refl
-  item-after f out tag t = step p _ f _ _ _ refl refl
-  item-after none out save t = step p items _ _ _ [] refl (append-assoc p out _)
-  item-after (some f) out save t = step p items none _ _ [] refl (append-assoc p out _)
-  item-after none out (nothing atEnd) t = unfold prefixedOut prefixed Begun in record { same = refl; begun = tt }
-  item-after (some f) out (nothing atEnd) t = halt p 4 f 0
-  item-after f out (nothing reservedWord) t = fails-after 7 (t .at) 0 f out t
-  item-after f out (nothing noStart) t = fails-after 7 (t .at) 0 f out t
-  item-after f out (nothing openQuote) t = fails-after 7 (t .at) 0 f out t
-  item-after f out (nothing openField) t = fails-after 7 (t .at) 0 f out t
-  item-after f out block t = fails-after 7 (t .at) 0 f out t
-  item-after f out (value k) t = fails-after 7 (t .at) 0 f out t
-  item-after f out overLimit t = fails-after 7 (t .at) 0 f out t
+  item-after d f out loop t = step p _ f _ _ _ refl refl
+  item-after d f out tag t = step p _ f _ _ _ refl refl
+  item-after d none out save t = step p (items 0) _ _ _ [] refl (append-assoc p out _)
+  item-after d (some f) out save t = step p (items 0) none _ _ [] refl (append-assoc p out _)
+  item-after d none out (nothing atEnd) t = unfold prefixedOut prefixed Begun in record { same = refl; begun = tt }
+  item-after d (some f) out (nothing atEnd) t = halt p 4 f 0
+  item-after d f out (nothing reservedWord) t = fails-after 7 (t .at) d f out t
+  item-after d f out (nothing noStart) t = fails-after 7 (t .at) d f out t
+  item-after d f out (nothing openQuote) t = fails-after 7 (t .at) d f out t
+  item-after d f out (nothing openField) t = fails-after 7 (t .at) d f out t
+  item-after d f out block t = fails-after 7 (t .at) d f out t
+  item-after d f out (value k) t = fails-after 7 (t .at) d f out t
+  item-after d f out overLimit t = fails-after 7 (t .at) d f out t
 
   ends-after : (at n k : ℕ) (f : Option ℕ) (out held : List Rec) (t : Tok) → After p (loopEnds at n k f (p ++ out) held t) (loopEnds at n k f out held t)
   unfolding loopEnds
@@ -83,8 +83,8 @@ module _ (p : List Rec) where
       kept : (p ++ out) ++ held ++ (loopEnd ∷ []) ≡ p ++ (out ++ held ++ (loopEnd ∷ []))
       kept = simp append-assoc
 
-      by : (b : Bool) → After p (cond b (atItem f ((p ++ out) ++ held ++ (loopEnd ∷ [])) (t .class) t) (fails (refused 5 at (k % n)) f (p ++ out) t)) (cond b (atItem f (out ++ held ++ (loopEnd ∷ [])) (t .class) t) (fails (refused 5 at (k % n)) f out t))
-      by true = rw kept (item-after f (out ++ held ++ (loopEnd ∷ [])) (t .class) t)
+      by : (b : Bool) → After p (cond b (atItem (inBlockOnly f (reason (t .class))) f ((p ++ out) ++ held ++ (loopEnd ∷ [])) (t .class) t) (fails (refused 5 at (k % n)) f (p ++ out) t)) (cond b (atItem (inBlockOnly f (reason (t .class))) f (out ++ held ++ (loopEnd ∷ [])) (t .class) t) (fails (refused 5 at (k % n)) f out t))
+      by true = rw kept (item-after _ f (out ++ held ++ (loopEnd ∷ [])) (t .class) t)
       by false = fails-after 5 at (k % n) f out t
 
   value-after : (at n k : ℕ) (f : Option ℕ) (out held : List Rec) (c : Class) (t : Tok) → After p (atValue at n k f (p ++ out) held c t) (atValue at n k f out held c t)
@@ -114,18 +114,18 @@ module _ (p : List Rec) where
 
   want-after : (at : ℕ) (f : Option ℕ) (out held : List Rec) (c : Class) (t : Tok) → After p (atWant at f (p ++ out) held c t) (atWant at f out held c t)
   unfolding atWant started
-  want-after at f out held (value kind) t = step p items f _ _ [] refl (simp append-assoc)
+  want-after at f out held (value kind) t = step p (items 0) f _ _ [] refl (simp append-assoc)
   want-after at f out held overLimit t = halt p 9 (t .at) 0
-  want-after at f out held block t = fails-after 6 at 0 f out t
-  want-after at f out held loop t = fails-after 6 at 0 f out t
-  want-after at f out held save t = fails-after 6 at 0 f out t
-  want-after at f out held tag t = fails-after 6 at 0 f out t
-  want-after at f out held (nothing w) t = fails-after 6 at 0 f out t
+  want-after at f out held block t = fails-after 6 at (reason block) f out t
+  want-after at f out held loop t = fails-after 6 at (reason loop) f out t
+  want-after at f out held save t = fails-after 6 at (reason save) f out t
+  want-after at f out held tag t = fails-after 6 at (reason tag) f out t
+  want-after at f out held (nothing w) t = fails-after 6 at (reason (nothing w)) f out t
 
   move-after : (s : State) (f : Option ℕ) (out held : List Rec) (t : Tok) → started s ≡ true → After p (move s f (p ++ out) held t) (move s f out held t)
   unfolding move started
   move-after start f out held t e = absurd (false≢true e)
-  move-after items f out held t e = item-after f out (t .class) t
+  move-after (items d) f out held t e = item-after d f out (t .class) t
   move-after (names a n) f out held t e = name-after a n f out held (t .class) t
   move-after (values a n k) f out held t e = value-after a n k f out held (t .class) t
   move-after (wants a) f out held t e = want-after a f out held (t .class) t

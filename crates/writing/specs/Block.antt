@@ -12,7 +12,7 @@ use Rattle.deciding.specs.Frames.{left}
 use Rattle.grammar.specs.Reading.{decided}
 use Rattle.text.specs.Limits.{limit}
 use Rattle.items.specs.declared.Item.{Item as Answered}
-use Rattle.items.specs.declared.Item.the-variants.{Loop, Single, Failed, Broken}
+use Rattle.items.specs.declared.Item.the-variants.{Loop, Single, Failed, Absent, Broken}
 use Rattle.sizes.specs.Sizes.{areaSize}
 use Rattle.putting.specs.declared.Cursor.{Cursor}
 use Rattle.writing.specs.declared.Next.{Next}
@@ -30,15 +30,15 @@ unfoldable pub isDone : Answer → Bool
 isDone (done rs) = true
 isDone (refused n o d) = false
 
--- the records from an offset on, in the block or in the frame that opened at an offset
+-- the records from an offset on, in the block or in the frame that opened at an offset. What is read does not depend on the detail that a 7 would have
 abbrev pub recsLeft : Option ℕ → List ℕ → ℕ → List Rec
-recsLeft f s o = answerRecs (left f s o [])
+recsLeft f s o = answerRecs (left 0 f s o [])
 
 -- from the cursor on, where no space stands, all is read, and there is room for it
 pub record Ahead (full : Bool) (s : List ℕ) (f : Option ℕ) (d : Desk) : Type 0 where
   pub going : Going s (d .cursor)
   pub bare : gap (drop (d .cursor .place .offset) s) ≡ 0
-  pub reads : isDone (left f s (d .cursor .place .offset) []) ≡ true
+  pub reads : isDone (left 0 f s (d .cursor .place .offset) []) ≡ true
   pub room : Room full (recsLeft f s (d .cursor .place .offset)) d
 
 -- from the desk d in f to the desk e in g: what is left there is what was left here, less what is written
@@ -81,6 +81,7 @@ unfoldable pub nextOf : Answered → Next
 nextOf (Loop n z w) = Item
 nextOf (Single n z) = Item
 nextOf (Failed c o p) = Stop p
+nextOf (Absent o) = Stop o
 nextOf (Broken c o) = Stop o
 
 -- the records of a text that is read, and what is written of them

@@ -32,6 +32,7 @@ fn decide_next(s: &[u8], at: usize) -> Next
         Item::Loop { .. } => Next::Item,
         Item::Single { .. } => Next::Item,
         Item::Failed { stop, .. } => Next::Stop { at: stop },
+        Item::Absent { at: here } => Next::Stop { at: here },
         Item::Broken { at: here, .. } => Next::Stop { at: here },
     }
 }

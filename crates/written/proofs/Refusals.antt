@@ -14,7 +14,7 @@ use Rattle.places.specs.Places.{placeAt}
 use Rattle.places.specs.Reports.{success, refusedAt, refusedBare, noRoom}
 use Rattle.values.specs.Values.{Class, block, loop, save, tag, value, overLimit, nothing, atEnd, reservedWord, noStart, openQuote, openField}
 use Rattle.grammar.specs.Tokens.{Tok, tokens}
-use Rattle.grammar.specs.Machine.{Rec, Answer, refused, done, State, start, items, names, values, wants, Config, config, Outcome, go, stop, rec, loopEnd, closes, fails, atItem, loopEnds, atValue, noMoreNames, atName, atWant, atStart, move, follow, run}
+use Rattle.grammar.specs.Machine.{Rec, Answer, refused, done, State, start, items, names, values, wants, Config, config, Outcome, go, stop, rec, loopEnd, closes, fails, atItem, loopEnds, atValue, noMoreNames, atName, atWant, atStart, move, follow, run, reason, inBlockOnly}
 use Rattle.grammar.specs.Reading.{decided, outline}
 use Rattle.text.specs.Limits.{limit}
 use Rattle.sizes.specs.Sizes.{storeSize, areaSize}
@@ -46,28 +46,28 @@ module _ (t : Tok) where
   fails-ok n o d none out h = h
   fails-ok n o d (some f) out h = closes-ok f out (t .class)
 
-  item-ok : (f : Option ℕ) (out : List Rec) (c : Class) → Ok (atItem f out c t)
+  item-ok : (d : ℕ) (f : Option ℕ) (out : List Rec) (c : Class) → Ok (atItem d f out c t)
   unfolding Ok Numbered atItem
-  item-ok f out loop = tt
-  item-ok f out tag = tt
-  item-ok none out save = tt
-  item-ok (some f) out save = tt
-  item-ok none out (nothing atEnd) = tt
-  item-ok (some f) out (nothing atEnd) = omega arith
-  item-ok f out (nothing reservedWord) = fails-ok 7 (t .at) 0 f out (omega arith)
-  item-ok f out (nothing noStart) = fails-ok 7 (t .at) 0 f out (omega arith)
-  item-ok f out (nothing openQuote) = fails-ok 7 (t .at) 0 f out (omega arith)
-  item-ok f out (nothing openField) = fails-ok 7 (t .at) 0 f out (omega arith)
-  item-ok f out block = fails-ok 7 (t .at) 0 f out (omega arith)
-  item-ok f out (value k) = fails-ok 7 (t .at) 0 f out (omega arith)
-  item-ok f out overLimit = fails-ok 7 (t .at) 0 f out (omega arith)
+  item-ok d f out loop = tt
+  item-ok d f out tag = tt
+  item-ok d none out save = tt
+  item-ok d (some f) out save = tt
+  item-ok d none out (nothing atEnd) = tt
+  item-ok d (some f) out (nothing atEnd) = omega arith
+  item-ok d f out (nothing reservedWord) = fails-ok 7 (t .at) d f out (omega arith)
+  item-ok d f out (nothing noStart) = fails-ok 7 (t .at) d f out (omega arith)
+  item-ok d f out (nothing openQuote) = fails-ok 7 (t .at) d f out (omega arith)
+  item-ok d f out (nothing openField) = fails-ok 7 (t .at) d f out (omega arith)
+  item-ok d f out block = fails-ok 7 (t .at) d f out (omega arith)
+  item-ok d f out (value k) = fails-ok 7 (t .at) d f out (omega arith)
+  item-ok d f out overLimit = fails-ok 7 (t .at) d f out (omega arith)
 
   ends-ok : (a n k : ℕ) (f : Option ℕ) (out held : List Rec) → Ok (loopEnds a n k f out held t)
   unfolding loopEnds
   ends-ok a n k f out held = by (eqb (k % n) 0)
     where
-      by : (b : Bool) → Ok (cond b (atItem f (out ++ held ++ (loopEnd ∷ [])) (t .class) t) (fails (refused 5 a (k % n)) f out t))
-      by true = item-ok f (out ++ held ++ (loopEnd ∷ [])) (t .class)
+      by : (b : Bool) → Ok (cond b (atItem (inBlockOnly f (reason (t .class))) f (out ++ held ++ (loopEnd ∷ [])) (t .class) t) (fails (refused 5 a (k % n)) f out t))
+      by true = item-ok _ f (out ++ held ++ (loopEnd ∷ [])) (t .class)
       by false = fails-ok 5 a (k % n) f out (omega arith)
 
   value-ok : (a n k : ℕ) (f : Option ℕ) (out held : List Rec) (c : Class) → Ok (atValue a n k f out held c t)
@@ -99,11 +99,11 @@ module _ (t : Tok) where
   unfolding Ok Numbered atWant
   want-ok a f out held (value kind) = tt
   want-ok a f out held overLimit = omega arith
-  want-ok a f out held block = fails-ok 6 a 0 f out (omega arith)
-  want-ok a f out held loop = fails-ok 6 a 0 f out (omega arith)
-  want-ok a f out held save = fails-ok 6 a 0 f out (omega arith)
-  want-ok a f out held tag = fails-ok 6 a 0 f out (omega arith)
-  want-ok a f out held (nothing w) = fails-ok 6 a 0 f out (omega arith)
+  want-ok a f out held block = fails-ok 6 a (reason block) f out (omega arith)
+  want-ok a f out held loop = fails-ok 6 a (reason loop) f out (omega arith)
+  want-ok a f out held save = fails-ok 6 a (reason save) f out (omega arith)
+  want-ok a f out held tag = fails-ok 6 a (reason tag) f out (omega arith)
+  want-ok a f out held (nothing w) = fails-ok 6 a (reason (nothing w)) f out (omega arith)
 
   start-ok : (c : Class) → Ok (atStart c t)
   unfolding Ok Numbered atStart
@@ -118,7 +118,7 @@ module _ (t : Tok) where
   move-ok : (s : State) (f : Option ℕ) (out held : List Rec) → Ok (move s f out held t)
   unfolding move
   move-ok start f out held = start-ok (t .class)
-  move-ok items f out held = item-ok f out (t .class)
+  move-ok (items d) f out held = item-ok d f out (t .class)
   move-ok (names a n) f out held = name-ok a n f out held (t .class)
   move-ok (values a n k) f out held = value-ok a n k f out held (t .class)
   move-ok (wants a) f out held = want-ok a f out held (t .class)

@@ -18,7 +18,7 @@ use Rattle.gaps.specs.Gaps.{gap}
 use Rattle.gaps.proofs.Gaps.{gap-fits}
 use Rattle.values.specs.Values.{Class, block, loop, save, tag, value, overLimit, nothing, atEnd, reservedWord, noStart, openQuote, openField, Lexed, lexed}
 use Rattle.grammar.specs.Tokens.{Mode, before, inBlock, inFrame, lex, after, Tok, tok, emit, step, tokensFrom, tokens}
-use Rattle.grammar.specs.Machine.{Rec, Answer, refused, done, State, start, items, names, values, wants, Config, config, Outcome, go, stop, rec, loopEnd, closes, fails, atItem, loopEnds, atValue, noMoreNames, atName, atWant, atStart, move, follow, run}
+use Rattle.grammar.specs.Machine.{Rec, Answer, refused, done, State, start, items, names, values, wants, Config, config, Outcome, go, stop, rec, loopEnd, closes, fails, atItem, loopEnds, atValue, noMoreNames, atName, atWant, atStart, move, follow, run, reason, inBlockOnly}
 use Rattle.grammar.specs.Reading.{decided, outline}
 use Rattle.text.specs.Limits.{limit}
 use Rattle.grammar.proofs.Fits.{lex-fits}
@@ -67,7 +67,7 @@ pub data Taken (s : List ℕ) : Bool → Bool → List Rec → Type 0 where
 -- what the machine has, by its state
 data Has (s : List ℕ) : Mode → State → Option ℕ → List Rec → List Rec → Type 0 where
   at-start : Has s before start none [] []
-  at-items : {f : Bool} {m : Mode} {fr : Option ℕ} {out : List Rec} → In f m fr → Taken s f false out → Has s m items fr out []
+  at-items : {f : Bool} {m : Mode} {fr : Option ℕ} {d : ℕ} {out : List Rec} → In f m fr → Taken s f false out → Has s m (items d) fr out []
   at-names : {f e : Bool} {m : Mode} {fr : Option ℕ} {a n : ℕ} {out h : List Rec} → In f m fr → Taken s f e out → Tags s f n h → Has s m (names a n) fr out h
   at-values : {f e : Bool} {m : Mode} {fr : Option ℕ} {a n j : ℕ} {out h : List Rec} → In f m fr → Taken s f e out → Rows s f (suc n) (suc j) h → Has s m (values a (suc n) (suc j)) fr out h
   at-wants : {f : Bool} {m : Mode} {fr : Option ℕ} {a : ℕ} {out : List Rec} {r : Rec} → In f m fr → Taken s f false out → Took s (modeOf f) tag 4 r → Has s m (wants a) fr out (r ∷ [])
@@ -138,30 +138,30 @@ module _ (s : List ℕ) (m : Mode) (t : Tok) (reads : lex m (drop (t .at) s) ≡
       let j = in-frame i in
       closes-ok o x e out (t .class) (j .mode) refl (rw (j .frame) at h) b
 
-  item-ok : (o : ℕ) {f e : Bool} (fr : Option ℕ) (out : List Rec) (c : Class) → In f m fr → Taken s f e out → bytesOf out ≤ o → t .class ≡ c → (e ≡ true → c ≡ tag → ⊥) → Ok o (atItem fr out c t)
+  item-ok : (o d : ℕ) {f e : Bool} (fr : Option ℕ) (out : List Rec) (c : Class) → In f m fr → Taken s f e out → bytesOf out ≤ o → t .class ≡ c → (e ≡ true → c ≡ tag → ⊥) → Ok o (atItem d fr out c t)
   unfolding Ok atItem config after bytesOf rec
-  item-ok o fr out loop i h b p n =
+  item-ok o d fr out loop i h b p n =
       record { has = rw p (at-names i h (opens (rw (in-mode i) at (took loop 5 p)))); spent = omega arith }
-  item-ok o {e = e} fr out tag i h b p n =
+  item-ok o d {e = e} fr out tag i h b p n =
       record { has = rw p (at-wants i (rows-last e (λ q. n q refl) h) (rw (in-mode i) at (took tag 4 p))); spent = omega arith }
-  item-ok o none out save i h b p n =
+  item-ok o d none out save i h b p n =
       let j = in-block i in
       record {
         has = rw (p, j .mode) (at-items (frame-mode (t .at)) (opened (rw (j .frame) at h) (rw (j .mode) at (took save 2 p))));
         spent = omega (arith, bytes-append out (rec 2 t ∷ []));
       }
-  item-ok o {e = e} (some x) out save i h b p n =
+  item-ok o d {e = e} (some x) out save i h b p n =
       let j = in-frame i in
       unfold closes config in closes-ok o x e out save (j .mode) p (rw (j .frame) at h) b
-  item-ok o {e = e} none out (nothing atEnd) i h b p n = record { rowless = e; taken = rw (in-block i .frame) at h; spent = b }
-  item-ok o (some x) out (nothing atEnd) i h b p n = tt
-  item-ok o fr out (nothing reservedWord) i h b p n = fails-ok o 7 (t .at) 0 fr out i h b
-  item-ok o fr out (nothing noStart) i h b p n = fails-ok o 7 (t .at) 0 fr out i h b
-  item-ok o fr out (nothing openQuote) i h b p n = fails-ok o 7 (t .at) 0 fr out i h b
-  item-ok o fr out (nothing openField) i h b p n = fails-ok o 7 (t .at) 0 fr out i h b
-  item-ok o fr out block i h b p n = fails-ok o 7 (t .at) 0 fr out i h b
-  item-ok o fr out (value k) i h b p n = fails-ok o 7 (t .at) 0 fr out i h b
-  item-ok o fr out overLimit i h b p n = fails-ok o 7 (t .at) 0 fr out i h b
+  item-ok o d {e = e} none out (nothing atEnd) i h b p n = record { rowless = e; taken = rw (in-block i .frame) at h; spent = b }
+  item-ok o d (some x) out (nothing atEnd) i h b p n = tt
+  item-ok o d fr out (nothing reservedWord) i h b p n = fails-ok o 7 (t .at) d fr out i h b
+  item-ok o d fr out (nothing noStart) i h b p n = fails-ok o 7 (t .at) d fr out i h b
+  item-ok o d fr out (nothing openQuote) i h b p n = fails-ok o 7 (t .at) d fr out i h b
+  item-ok o d fr out (nothing openField) i h b p n = fails-ok o 7 (t .at) d fr out i h b
+  item-ok o d fr out block i h b p n = fails-ok o 7 (t .at) d fr out i h b
+  item-ok o d fr out (value k) i h b p n = fails-ok o 7 (t .at) d fr out i h b
+  item-ok o d fr out overLimit i h b p n = fails-ok o 7 (t .at) d fr out i h b
 
   -- a loop ends before t: with rows, or without and no tag follows
   ended-spent : (o : ℕ) (out held : List Rec) → bytesOf out + bytesOf held ≤ o → bytesOf (out ++ held ++ (loopEnd ∷ [])) ≤ o
@@ -172,8 +172,8 @@ module _ (s : List ℕ) (m : Mode) (t : Tok) (reads : lex m (drop (t .at) s) ≡
   unfolding loopEnds
   rows-ok o a n j {f} {e} fr out held i h g b = pick (eqb (suc j % suc n) 0) refl
     where
-      pick : (x : Bool) → eqb (suc j % suc n) 0 ≡ x → Ok o (cond x (atItem fr (out ++ held ++ (loopEnd ∷ [])) (t .class) t) (fails (refused 5 a (suc j % suc n)) fr out t))
-      pick true q = item-ok o fr (out ++ held ++ (loopEnd ∷ [])) (t .class) i (rows h g (eqb-true (suc j % suc n) 0 q)) (ended-spent o out held b) refl (λ z w. true≢false (sym z))
+      pick : (x : Bool) → eqb (suc j % suc n) 0 ≡ x → Ok o (cond x (atItem (inBlockOnly fr (reason (t .class))) fr (out ++ held ++ (loopEnd ∷ [])) (t .class) t) (fails (refused 5 a (suc j % suc n)) fr out t))
+      pick true q = item-ok o _ fr (out ++ held ++ (loopEnd ∷ [])) (t .class) i (rows h g (eqb-true (suc j % suc n) 0 q)) (ended-spent o out held b) refl (λ z w. true≢false (sym z))
       pick false q = fails-ok o 5 a (suc j % suc n) fr out i h (omega arith)
 
   value-ok : (o a n j : ℕ) {f e : Bool} (fr : Option ℕ) (out held : List Rec) (c : Class) → In f m fr → Taken s f e out → Rows s f (suc n) (suc j) held → bytesOf out + bytesOf held ≤ o → t .class ≡ c → Ok o (atValue a (suc n) (suc j) fr out held c t)
@@ -191,7 +191,7 @@ module _ (s : List ℕ) (m : Mode) (t : Tok) (reads : lex m (drop (t .at) s) ≡
   unfolding loopEnds
   bare-ok o a n {f} {e} fr out held i h g b z =
       let q : 0 % suc n ≡ 0 = zero-mod (suc n) in
-      rw q (item-ok o fr (out ++ held ++ (loopEnd ∷ [])) (t .class) i (no-rows h g) (ended-spent o out held b) refl (λ w. z))
+      rw q (item-ok o _ fr (out ++ held ++ (loopEnd ∷ [])) (t .class) i (no-rows h g) (ended-spent o out held b) refl (λ w. z))
 
   -- the first value, or none
   first-ok : (o a n : ℕ) {f e : Bool} (fr : Option ℕ) (out held : List Rec) (c : Class) → In f m fr → Taken s f e out → Tags s f (suc n) held → bytesOf out + bytesOf held ≤ o → t .class ≡ c → (c ≡ tag → ⊥) → Ok o (atValue a (suc n) 0 fr out held c t)
@@ -229,11 +229,11 @@ module _ (s : List ℕ) (m : Mode) (t : Tok) (reads : lex m (drop (t .at) s) ≡
         spent = omega (arith, bytes-append (out ++ (r ∷ [])) (rec k t ∷ []), bytes-append out (r ∷ []));
       }
   want-ok o a fr out r overLimit i h g b p = tt
-  want-ok o a fr out r block i h g b p = fails-ok o 6 a 0 fr out i h (omega arith)
-  want-ok o a fr out r loop i h g b p = fails-ok o 6 a 0 fr out i h (omega arith)
-  want-ok o a fr out r save i h g b p = fails-ok o 6 a 0 fr out i h (omega arith)
-  want-ok o a fr out r tag i h g b p = fails-ok o 6 a 0 fr out i h (omega arith)
-  want-ok o a fr out r (nothing w) i h g b p = fails-ok o 6 a 0 fr out i h (omega arith)
+  want-ok o a fr out r block i h g b p = fails-ok o 6 a (reason block) fr out i h (omega arith)
+  want-ok o a fr out r loop i h g b p = fails-ok o 6 a (reason loop) fr out i h (omega arith)
+  want-ok o a fr out r save i h g b p = fails-ok o 6 a (reason save) fr out i h (omega arith)
+  want-ok o a fr out r tag i h g b p = fails-ok o 6 a (reason tag) fr out i h (omega arith)
+  want-ok o a fr out r (nothing w) i h g b p = fails-ok o 6 a (reason (nothing w)) fr out i h (omega arith)
 
   start-ok : (o : ℕ) (c : Class) → m ≡ before → t .class ≡ c → Ok o (atStart c t)
   unfolding Ok atStart config after bytesOf rec
@@ -250,7 +250,7 @@ move-ok : (s : List ℕ) (m : Mode) (t : Tok) (reads : lex m (drop (t .at) s) �
     → (o : ℕ) {st : State} {fr : Option ℕ} {out held : List Rec} → Has s m st fr out held → bytesOf out + bytesOf held ≤ o → Ok s m t reads within o (move st fr out held t)
 unfolding move bytesOf
 move-ok s _ t reads within o at-start b = start-ok s before t reads within o (t .class) refl refl
-move-ok s m t reads within o (at-items {fr = fr} {out = out} i h) b = item-ok s m t reads within o fr out (t .class) i h (omega arith) refl (λ z w. true≢false (sym z))
+move-ok s m t reads within o (at-items {fr = fr} {d = d} {out = out} i h) b = item-ok s m t reads within o d fr out (t .class) i h (omega arith) refl (λ z w. true≢false (sym z))
 move-ok s m t reads within o (at-names {fr = fr} {a = a} {n = n} {out = out} {h = held} i h g) b = name-ok s m t reads within o a n fr out held (t .class) i h g b refl
 move-ok s m t reads within o (at-values {fr = fr} {a = a} {n = n} {j = j} {out = out} {h = held} i h g) b = value-ok s m t reads within o a n j fr out held (t .class) i h g b refl
 move-ok s m t reads within o (at-wants {fr = fr} {a = a} {out = out} {r = r} i h g) b = want-ok s m t reads within o a fr out r (t .class) i h g b refl

@@ -9,10 +9,10 @@ use Rattle.deciding.proofs.parse_data_block.Statement.{statement}
 use Rattle.deciding.proofs.parse_data_block.Tie as tie
 
 abbrev Inv-loop : tie.InvT-loop
-Inv-loop s start end sizes₀ at₀ sizes at = Begun s start at sizes
+Inv-loop s start end sizes₀ at₀ reason₀ sizes at reason = Begun s start at sizes reason
 
 abbrev μ-loop : tie.MeasureT-loop
-μ-loop s start end sizes₀ at₀ sizes at = length s - at
+μ-loop s start end sizes₀ at₀ reason₀ sizes at reason = length s - at
 
 parse-identifier-requires : tie.Need-parse-identifier-requires Inv-loop μ-loop
 parse-identifier-requires c κs = tt
@@ -53,7 +53,7 @@ join-requires c κs =
     let l = b .before .before .loop in
     let a = b .before .before .before .before .before .before .before .before .args in
     let small = c .before .before .before .before .before .before .before .before .before .before .before .pre .0 .small in
-    let r = stepped-read (a .s .now) (l .at) _ _ _ (b .parse-data-item-or-save-frame .ensures) (c .before .step .given .1) in
+    let r = stepped-read (l .reason) (a .s .now) (l .at) _ _ _ _ (b .parse-data-item-or-save-frame .ensures) (c .before .step .given .1) in
     (upto-more _ (limit * limit) _ (l .inv .fits) (omega (arith, l .inv .within, small)), upto-more _ (limit * limit) _ (r .fits) (omega (arith, r .within, small)))
 
 loop-less : tie.Need-loop-less Inv-loop μ-loop
@@ -61,7 +61,7 @@ loop-less c =
     let b = c .before .before .before .before in
     let l = b .before .before .loop in
     let a = b .before .before .before .before .before .before .before .before .args in
-    let r = stepped-read (a .s .now) (l .at) _ _ _ (b .parse-data-item-or-save-frame .ensures) (c .before .before .step .given .1) in
+    let r = stepped-read (l .reason) (a .s .now) (l .at) _ _ _ _ (b .parse-data-item-or-save-frame .ensures) (c .before .before .step .given .1) in
     omega (arith, r .onward, r .within)
 
 loop-again : tie.Need-loop-again Inv-loop μ-loop
@@ -69,8 +69,8 @@ loop-again c =
     let b = c .before .before .before .before in
     let l = b .before .before .loop in
     let a = b .before .before .before .before .before .before .before .before .args in
-    let r = stepped-read (a .s .now) (l .at) _ _ _ (b .parse-data-item-or-save-frame .ensures) (c .before .before .step .given .1) in
-    rw (c .join .ensures) (block-goes-on (a .s .now) (a .start) (l .at) _ _ _ (l .inv) r)
+    let r = stepped-read (l .reason) (a .s .now) (l .at) _ _ _ _ (b .parse-data-item-or-save-frame .ensures) (c .before .before .step .given .1) in
+    rw (c .join .ensures) (block-goes-on (a .s .now) (a .start) (l .at) _ _ _ (l .reason) _ (l .inv) r)
 
 enum-known-step-2 : tie.Need-enum-known-step-2 Inv-loop μ-loop
 enum-known-step-2 c = c .match .keys2
@@ -80,10 +80,10 @@ returns c =
     let b = c .before .before .before in
     let l = b .before .before .loop in
     let a = b .before .before .before .before .before .before .before .before .args in
-    block-refused (a .s .now) (a .start) (l .at) (l .sizes) _ _ (l .inv) (stepped-refused (a .s .now) (l .at) _ _ _ (b .parse-data-item-or-save-frame .ensures) (c .before .step2 .given .1))
+    block-refused (a .s .now) (a .start) (l .at) (l .sizes) (l .reason) _ _ (l .inv) (stepped-refused (l .reason) (a .s .now) (l .at) _ _ _ (b .parse-data-item-or-save-frame .ensures) (c .before .step2 .given .1))
 
 returns-2 : tie.Need-returns-2 Inv-loop μ-loop
-returns-2 c = block-ends _ _ (c .before .loop .at) (c .before .loop .sizes) (c .before .loop .inv) (c .loop-test .left)
+returns-2 c = block-ends _ _ (c .before .loop .at) (c .before .loop .sizes) (c .before .loop .reason) (c .before .loop .inv) (c .loop-test .left)
 
 pub parse-data-block-spec : {M : Type 1} → statement M
 parse-data-block-spec =

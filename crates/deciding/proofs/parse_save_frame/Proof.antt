@@ -11,7 +11,7 @@ use Rattle.deciding.proofs.parse_save_frame.Statement.{statement}
 use Rattle.deciding.proofs.parse_save_frame.Tie as tie
 
 abbrev Inv-loop : tie.InvT-loop
-Inv-loop s start end sizes₀ at₀ sizes at = Passed s none start (some start) at sizes
+Inv-loop s start end sizes₀ at₀ sizes at = Passed s none start (some start) at sizes 0
 
 abbrev μ-loop : tie.MeasureT-loop
 μ-loop s start end sizes₀ at₀ sizes at = length s - at
@@ -83,7 +83,7 @@ loop-again c =
     let b = c .before .before .before .before in
     let l = b .before .before .loop in
     let r = inside-read (known b) (c .before .before .inside .given .1) in
-    rw (c .join .ensures) (passed-then _ none (some _) (some _) _ (l .at) _ _ _ (l .inv) r)
+    rw (c .join .ensures) (passed-then _ none (some _) (some _) _ (l .at) _ _ _ 0 0 (l .inv) r)
 
 enum-known-inside-2 : tie.Need-enum-known-inside-2 Inv-loop μ-loop
 enum-known-inside-2 c = c .match .keys2

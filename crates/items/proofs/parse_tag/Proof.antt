@@ -86,8 +86,8 @@ returns c =
     let b = c .before .before .before .before .before .before .before in
     tag-value (tag-read b) _ _ _ _ (c .before .before .before .before .before .found .given .1) (c .gap-end2 .ensures) (c .before .add-value .ensures ∙ rw (c .before .before .add .ensures, c .before .before .before .none .ensures))
 
-enum-told : tie.Need-enum-told
-enum-told c = search needs
+enum-known-found-2 : tie.Need-enum-known-found-2
+enum-known-found-2 c = search needs
 
 returns-2 : tie.Need-returns-2
 returns-2 c =
@@ -95,10 +95,13 @@ returns-2 c =
     rw (over-left (b .of .result) (c .before .match .keys2) (c .match2 .keys2))
     at (tag-alone (tag-read b) (not-value (b .of .result) (c .before .match .keys2)))
 
+number-requires : tie.Need-number-requires
+number-requires c κs = search needs
+
 returns-3 : tie.Need-returns-3
 returns-3 c =
-    let b = c .before .before .before in
-    rw (c .enum-told .given .1) at (tag-alone (tag-read b) (not-value (b .of .result) (c .before .before .match .keys2)))
+    let b = c .before .before .before .before .before in
+    rw (c .number .ensures) (rw (c .before .before .found2 .given .1) at (tag-alone (tag-read b) (not-value (b .of .result) (c .before .before .before .before .match .keys2))))
 
 pub parse-tag-spec : {M : Type 1} → statement M
 parse-tag-spec =
@@ -116,6 +119,7 @@ parse-tag-spec =
     add-gap-end
     gap-end-requires-2
     returns
-    enum-told
+    enum-known-found-2
     returns-2
+    number-requires
     returns-3)

@@ -20,6 +20,9 @@ enum-known-item c = search needs
 enum-known-item-2 : tie.Need-enum-known-item-2
 enum-known-item-2 c = search needs
 
+enum-known-item-3 : tie.Need-enum-known-item-3
+enum-known-item-3 c = search needs
+
 returns : tie.Need-returns
 unfolding nextOf
 returns c = ap nextOf (sym (c .enum-told .given .1)) ∙ ap nextOf (c .before .before .parse-data-item .ensures)
@@ -36,6 +39,10 @@ returns-4 : tie.Need-returns-4
 unfolding nextOf
 returns-4 c = ap nextOf (sym (c .before .item2 .given .1)) ∙ ap nextOf (c .before .before .before .parse-data-item .ensures)
 
+returns-5 : tie.Need-returns-5
+unfolding nextOf
+returns-5 c = ap nextOf (sym (c .before .item3 .given .1)) ∙ ap nextOf (c .before .before .before .parse-data-item .ensures)
+
 pub decide-next-spec : {M : Type 1} → statement M
 decide-next-spec =
     tie.close
@@ -45,7 +52,9 @@ decide-next-spec =
     enum-told-2
     enum-known-item
     enum-known-item-2
+    enum-known-item-3
     returns
     returns-2
     returns-3
-    returns-4)
+    returns-4
+    returns-5)
