@@ -249,7 +249,7 @@ mod tests {
     use super::*;
     use chuntarek::Document;
 
-    /// The hint on a refusal, or what comes to nothing.
+    /// The first hint on a refusal, or an empty one.
     fn first_hint(text: &[u8]) -> Hint {
         let refusal = Document::read(text).expect_err("the text is refused");
         let nowhere = Place {
@@ -275,7 +275,7 @@ mod tests {
         (hint.place.line, hint.place.column, hint.sentence)
     }
 
-    /// The sentence, where the hint stands at the third byte of the second line behind the tag.
+    /// The sentence on what stands behind a comment, a line end and two bytes of space.
     fn instead(value: &str) -> String {
         let (line, column, sentence) = behind_tag(&format!(" # b\r\n\t {value}"));
         assert_eq!((line, column), (3, 3), "{value}");
@@ -353,7 +353,7 @@ mod tests {
         assert!(instead(&format!("stop_{long}")).starts_with(&shown));
     }
 
-    /// Bytes that no tag and no value stands for make a message all the same.
+    /// Whatever stands where a value may, there is something to say of it.
     #[test]
     fn every_pair_of_bytes_is_spoken_of() {
         for before in [

@@ -54,6 +54,7 @@ fn leading(text: &[u8], at: usize, is_one: impl Fn(u8) -> bool) -> usize {
 #[cfg(test)]
 mod tests {
     use super::*;
+    use chuntarek::Document;
 
     #[test]
     fn words_end_before_space_and_form_feed() {
@@ -96,5 +97,22 @@ mod tests {
         assert_eq!(place_at(text, from(0, 5, 7), 4), from(4, 6, 1));
         assert_eq!(place_at(text, from(0, 5, 7), 6), from(6, 7, 1));
         assert_eq!(place_at(text, from(0, 5, 7), 13), from(13, 9, 3));
+    }
+
+    /// The library's own places, over every gap of six bytes that matter.
+    #[test]
+    fn the_library_finds_the_same_places() {
+        let letters = b" \n\r#";
+        for row in 0..4usize.pow(6) {
+            let letter = |at: u32| letters[row / 4usize.pow(at) % 4];
+            let gap: Vec<u8> = (0..6).map(letter).collect();
+            let text = [b"data_x\r_a ", &gap[..], b"\n1"].concat();
+            let document = Document::read(&text).expect("the value stands there");
+            let mut places = document.records().skip(1).map(|record| record.place);
+            let tag = places.next().flatten().expect("the tag has a place");
+            let value = places.next().flatten();
+            let at = gap_end(&text, word_end(&text, tag.offset as usize));
+            assert_eq!(Some(place_at(&text, tag, at)), value, "{text:?}");
+        }
     }
 }
