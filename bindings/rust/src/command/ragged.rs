@@ -269,6 +269,8 @@ mod tests {
             "",
             "_c 1",
             "_c",
+            "_c 'b",
+            "_c [",
             "loop_ _c 1 [",
             "loop_",
             "save_f save_",
@@ -293,6 +295,8 @@ mod tests {
 
     #[test]
     fn a_mark_within_a_quote_is_shown() {
+        let glued = b"data_x loop_ _a _b\n.5. ?";
+        assert_eq!(second(glued), (2, 5, NOT_WHOLE.into()));
         let text = b"data_x loop_ _a _b\n1 'b' 2 'GUANOSINE-5'-PHOSPHATE'\n3 \"c\"d 4\n";
         assert_eq!(second(text), (2, 22, CLOSED_EARLY.into()));
         let text = b"data_x loop_ _a _b _c\n1 'a dog's life '\n";
