@@ -120,10 +120,42 @@ static void texts_are_refused(void)
     text_is_refused("data_x \303\251", 2, 7, 1, 8, 0);
     text_is_refused("data_x\nsave_f _a 1", 4, 7, 2, 1, 0);
     text_is_refused("data_x loop_ _a _b 1 2 3", 5, 7, 1, 8, 1);
-    text_is_refused("data_x _a 'b", 6, 7, 1, 8, 0);
+    text_is_refused("data_x _a 'b", 6, 7, 1, 8, 4);
     text_is_refused("data_x data_y", 7, 7, 1, 8, 0);
     text_is_refused("data_x loop_", 8, 7, 1, 8, 0);
     text_is_refused("data_x _a 1234567890", 9, 10, 1, 11, 0);
+}
+
+/* A tag without a value says what stands there instead. */
+static void missing_values_have_reasons(void)
+{
+    text_is_refused("data_x _a", 6, 7, 1, 8, CHUNTAREK_TEXT_ENDS);
+    text_is_refused("data_x\n_a # b\n", 6, 7, 2, 1, CHUNTAREK_TEXT_ENDS);
+    text_is_refused("data_x _a stop_x", 6, 7, 1, 8, CHUNTAREK_RESERVED_WORD);
+    text_is_refused("data_x _a LOOP_ _b 1", 6, 7, 1, 8, CHUNTAREK_RESERVED_WORD);
+    text_is_refused("data_x _a _b 1", 6, 7, 1, 8, CHUNTAREK_STARTS_NO_VALUE);
+    text_is_refused("data_x _a # b\n[", 6, 7, 1, 8, CHUNTAREK_STARTS_NO_VALUE);
+    text_is_refused("data_x _a\f1", 6, 7, 1, 8, CHUNTAREK_STARTS_NO_VALUE);
+    text_is_refused("data_x _a 'b\n'", 6, 7, 1, 8, CHUNTAREK_OPEN_QUOTE);
+    text_is_refused("data_x _a \"b'", 6, 7, 1, 8, CHUNTAREK_OPEN_QUOTE);
+    text_is_refused("data_x _a ;b", 6, 7, 1, 8, CHUNTAREK_OPEN_FIELD);
+    text_is_refused("data_x _a\n;b\n ;", 6, 7, 1, 8, CHUNTAREK_OPEN_FIELD);
+}
+
+/* So does what stands directly behind the values of a loop of the block; what stands elsewhere does not. */
+static void ended_loops_have_reasons(void)
+{
+    text_is_refused("data_x loop_ _a 1 data_y", 7, 18, 1, 19, CHUNTAREK_RESERVED_WORD);
+    text_is_refused("data_x loop_ _a 1 # b\n$", 7, 22, 2, 1, CHUNTAREK_STARTS_NO_VALUE);
+    text_is_refused("data_x loop_ _a 1 'b", 7, 18, 1, 19, CHUNTAREK_OPEN_QUOTE);
+    text_is_refused("data_x loop_ _a 'b", 7, 16, 1, 17, CHUNTAREK_OPEN_QUOTE);
+    text_is_refused("data_x loop_ _a 1 ;b", 7, 18, 1, 19, CHUNTAREK_OPEN_FIELD);
+    text_is_refused("data_x 'b", 7, 7, 1, 8, 0);
+    text_is_refused("data_x _a 1 2", 7, 12, 1, 13, 0);
+    text_is_refused("data_x loop_ _a 1 _b 2 $", 7, 23, 1, 24, 0);
+    text_is_refused("data_x loop_ _a 1 save_f save_ $", 7, 31, 1, 32, 0);
+    text_is_refused("data_x save_f loop_ _a 'b", 4, 7, 1, 8, 0);
+    text_is_refused("data_x loop_ _a _b _c 1 2 'b", 5, 7, 1, 8, 2);
 }
 
 /* A comment may fill a text up to the limit, and not further. */
@@ -333,6 +365,8 @@ int main(void)
     room_is_counted_to_the_byte();
     outline_is_written();
     texts_are_refused();
+    missing_values_have_reasons();
+    ended_loops_have_reasons();
     long_text_is_refused();
     long_rendering_is_refused();
     sample_is_rendered();

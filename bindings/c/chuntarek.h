@@ -34,8 +34,8 @@ enum chuntarek_number {
     CHUNTAREK_NO_DATA = 3,     /* no data_ after leading space and comments; there */
     CHUNTAREK_OPEN_FRAME = 4,  /* a frame isn't closed; its opening save_ */
     CHUNTAREK_RAGGED = 5,      /* a loop's values don't fill whole rows, detail is how many are left over; its loop_ */
-    CHUNTAREK_NO_VALUE = 6,    /* a tag has no valid value; its _ */
-    CHUNTAREK_NO_ITEM = 7,     /* an item is expected and none starts; there */
+    CHUNTAREK_NO_VALUE = 6,    /* a tag has no valid value, detail is the reason; its _ */
+    CHUNTAREK_NO_ITEM = 7,     /* an item is expected and none starts, detail is the reason or 0; there */
     CHUNTAREK_NO_NAMES = 8,    /* a loop has no names; its loop_ */
     CHUNTAREK_OVER_LIMIT = 9,  /* a number has too many digits; its first byte */
     CHUNTAREK_STORE_FULL = 10, /* the store lacks room, the lengths are those needed; 0, 0, 0 */
@@ -43,6 +43,16 @@ enum chuntarek_number {
     CHUNTAREK_UNSOUND = 12,    /* store and area are not what a reading could have written; 0, 0, 0 */
     CHUNTAREK_NAME_TWICE = 13, /* a name stands twice in one scope; the numbers of its first and its second record, then 0 */
     CHUNTAREK_NO_CONTENT = 14  /* no such record, or it has no content; 0, 0, 0 */
+};
+
+/* Why no value stands where one is looked for, behind space and comments: the detail of every 6, of what stands behind the tag; and of a 7
+ * directly behind a loop of the block itself, of what ended the loop's values, which is where the 7 is. Any other 7 has detail 0. */
+enum chuntarek_reason {
+    CHUNTAREK_TEXT_ENDS = 1,       /* nothing, the text ends; never with 7 */
+    CHUNTAREK_RESERVED_WORD = 2,   /* a word that begins with data_, global_, loop_, save_ or stop_, in any letter case */
+    CHUNTAREK_STARTS_NO_VALUE = 3, /* a byte that starts no value: _ $ [ ] or a control byte, form feed too */
+    CHUNTAREK_OPEN_QUOTE = 4,      /* ' or ", and the same mark does not follow on its line */
+    CHUNTAREK_OPEN_FIELD = 5       /* ;, and no ; follows at the start of a line */
 };
 
 /* The kinds of records. 8 to 15 are values. */
@@ -64,9 +74,9 @@ enum chuntarek_kind {
     CHUNTAREK_UNCERTAIN = 15   /* decimal parts and the uncertainty in brackets */
 };
 
-/* One answer: the number, three place numbers (offset counts from 0, line and column from 1), the detail (0 but for 5), and the lengths
- * of what was written, or of what is needed where the number is 10 or 11: first the store's (read, outline) or the rendered text's
- * (render), second the area's (read). What a function does not say is 0. */
+/* One answer: the number, three place numbers (offset counts from 0, line and column from 1), the detail (0 but for 5, 6 and 7), and the
+ * lengths of what was written, or of what is needed where the number is 10 or 11: first the store's (read, outline) or the rendered
+ * text's (render), second the area's (read). What a function does not say is 0. */
 typedef struct {
     uint64_t number, offset, line, column, detail, first_length, second_length;
 } chuntarek_answer;

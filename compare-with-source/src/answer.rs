@@ -25,6 +25,17 @@ pub struct Refusal {
     pub detail: usize,
 }
 
+impl Refusal {
+    /// The detail as far as the source tells it: the remainder of a 5. The reason in a 6 or 7 is ours.
+    pub fn told_detail(&self) -> usize {
+        if self.number == 5 {
+            self.detail
+        } else {
+            0
+        }
+    }
+}
+
 /// The decimal parts of a number.
 #[derive(Debug, Clone, Copy, PartialEq, Eq)]
 pub struct Decimal {
@@ -193,7 +204,7 @@ pub fn as_told(answer: &Answer) -> Told {
             column: (4..=6)
                 .contains(&refusal.number)
                 .then_some(refusal.place.column),
-            detail: refusal.detail,
+            detail: refusal.told_detail(),
             shown: Shown::Start(String::new()),
         }),
     }

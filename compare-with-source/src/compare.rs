@@ -196,7 +196,7 @@ fn same_refusal(text: &str, ours: &Refusal, theirs: &ToldRefusal) -> Verdict {
     if number != theirs.number {
         return different(&format!("{number} here, {} in the source", theirs.number));
     }
-    if ours.detail != theirs.detail {
+    if ours.told_detail() != theirs.detail {
         return different(&format!("detail of a {number}"));
     }
     if !shows(&text[ours.place.offset..], &theirs.shown) {
@@ -255,6 +255,7 @@ mod tests {
             ("data_ save_f", 4),
             ("data_x loop_ _a _b 1 2 3", 5),
             ("data_x _a 'b", 6),
+            ("data_x loop_ _a 'b", 7),
             ("data_x data_y", 7),
         ] {
             assert_eq!(verdict(text), Verdict::Same(number), "{text}");
@@ -280,6 +281,26 @@ mod tests {
         let text = [200];
         let answer = model::read(&text);
         assert_eq!(compare(&text, &answer), Verdict::SetApart(NOT_UTF8));
+    }
+
+    /// The source says why no value stands nowhere, so any reason will do; a remainder it does tell.
+    #[cfg(has_source)]
+    #[test]
+    fn only_the_detail_of_a_5_is_held_to_the_source() {
+        for (text, number) in [("data_x _a 'b", 6), ("data_x loop_ _a 'b", 7)] {
+            let refusal = model::read(text.as_bytes()).expect_err("no value stands there");
+            for detail in 0..=5 {
+                let ours = Err(Refusal { detail, ..refusal });
+                assert_eq!(compare(text.as_bytes(), &ours), Verdict::Same(number));
+            }
+        }
+        let text = b"data_x loop_ _a _b _c 1 2 3 4";
+        let refusal = model::read(text).expect_err("a value is left over");
+        let ours = Err(Refusal {
+            detail: refusal.detail + 1,
+            ..refusal
+        });
+        assert_eq!(compare(text, &ours), different("detail of a 5"));
     }
 
     #[cfg(has_source)]

@@ -182,4 +182,26 @@ mod tests {
         assert_eq!(read(b"data_x _a 1"), Ok(model::read(b"data_x _a 1")));
         assert_eq!(read(b""), Ok(model::read(b"")));
     }
+
+    #[test]
+    fn the_library_tells_the_models_reasons() {
+        for text in [
+            "data_x _a",
+            "data_x _a stop_x",
+            "data_x _a _b 1",
+            "data_x _a\x0c1",
+            "data_x _a 'b",
+            "data_x _a ;b",
+            "data_x loop_ _a 1 'b",
+            "data_x loop_ _a 'b",
+            "data_x loop_ _a 1 data_y",
+            "data_x loop_ _a 1 [",
+            "data_x loop_ _a 1 ;b",
+            "data_x loop_ _a 1 save_f save_ $",
+            "data_x loop_ _a 1 _b 2 $",
+        ] {
+            let text = text.as_bytes();
+            assert_eq!(read(text), Ok(model::read(text)));
+        }
+    }
 }

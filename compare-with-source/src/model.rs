@@ -1,5 +1,6 @@
 //! A reference model of document 01's reading, written from its rules in their order and not from
-//! the source. A test aid: slow where plainness asks for it, and nothing of it is proved.
+//! the source, with the reasons that document 02 adds. A test aid: slow where plainness asks for it,
+//! and nothing of it is proved.
 
 use crate::answer::{mark_bytes, Answer, Body, Decimal, Place, Record, Refusal};
 
@@ -43,6 +44,22 @@ impl Stop {
         }
     }
 }
+
+/// Why no value stands where one is looked for, by 02's numbers.
+#[derive(Debug, Clone, Copy, PartialEq, Eq)]
+enum Reason {
+    TextEnds = 1,
+    ReservedWord = 2,
+    StartsNoValue = 3,
+    OpenQuote = 4,
+    OpenField = 5,
+}
+
+/// A value, or why none stands there.
+type Sought = Result<Record, Reason>;
+
+/// An item's records and, for a loop, why its list of values ended.
+type Item = (Vec<Record>, Option<Reason>);
 
 /// The offsets at which the lines of a text begin.
 struct Lines {
@@ -159,23 +176,33 @@ impl Reader<'_> {
         word
     }
 
-    /// `data_`, a name, then items and frames to the end.
+    /// `data_`, a name, then items and frames to the end. Where none starts directly behind a loop,
+    /// the detail says why that loop's list had ended.
     fn block(&mut self) -> Result<Vec<Record>, Stop> {
         self.skip();
         if !self.starts_with("data_") {
             return Err(Stop::at(3, self.at));
         }
         let mut records = vec![self.named(1)];
+        let mut list_ended = None;
         loop {
             self.skip();
             if self.rest().is_empty() {
                 return Ok(records);
             }
-            records.extend(if self.starts_with("save_") {
-                self.frame()?
+            if self.starts_with("save_") {
+                records.extend(self.frame()?);
+                list_ended = None;
+            } else if self.starts_item() {
+                let (item, ended) = self.item()?;
+                records.extend(item);
+                list_ended = ended;
             } else {
-                self.item()?
-            });
+                return Err(Stop {
+                    detail: list_ended.map_or(0, |reason| reason as usize),
+                    ..Stop::at(7, self.at)
+                });
+            }
         }
     }
 
@@ -185,7 +212,7 @@ impl Reader<'_> {
         let mut records = vec![self.named(2)];
         loop {
             match self.item() {
-                Ok(item) => records.extend(item),
+                Ok((item, _)) => records.extend(item),
                 Err(stop) if (5..=7).contains(&stop.number) => break,
                 Err(stop) => return Err(stop),
             }
@@ -199,15 +226,20 @@ impl Reader<'_> {
         Ok(records)
     }
 
+    fn starts_item(&self) -> bool {
+        self.starts_with("loop_") || self.starts_with("_")
+    }
+
     /// A loop, or a tag and its value.
-    fn item(&mut self) -> Result<Vec<Record>, Stop> {
+    fn item(&mut self) -> Result<Item, Stop> {
         self.skip();
-        if self.starts_with("loop_") {
-            self.whole_loop()
-        } else if self.starts_with("_") {
-            self.single()
-        } else {
+        if !self.starts_item() {
             Err(Stop::at(7, self.at))
+        } else if self.starts_with("_") {
+            self.single().map(|records| (records, None))
+        } else {
+            let (records, ended) = self.whole_loop()?;
+            Ok((records, Some(ended)))
         }
     }
 
@@ -215,12 +247,16 @@ impl Reader<'_> {
         let start = self.at;
         let tag = self.named(4);
         match self.value()? {
-            Some(value) => Ok(vec![tag, value]),
-            None => Err(Stop::at(6, start)),
+            Ok(value) => Ok(vec![tag, value]),
+            Err(reason) => Err(Stop {
+                detail: reason as usize,
+                ..Stop::at(6, start)
+            }),
         }
     }
 
-    fn whole_loop(&mut self) -> Result<Vec<Record>, Stop> {
+    /// A loop's records, and why its list of values ended.
+    fn whole_loop(&mut self) -> Result<(Vec<Record>, Reason), Stop> {
         let start = self.at;
         self.at += 5;
         let opening = self.record(5, start, Body::Nothing);
@@ -229,9 +265,12 @@ impl Reader<'_> {
             return Err(Stop::at(8, start));
         }
         let mut values = Vec::new();
-        while let Some(value) = self.value()? {
-            values.push(value);
-        }
+        let ended = loop {
+            match self.value()? {
+                Ok(value) => values.push(value),
+                Err(reason) => break reason,
+            }
+        };
         let remainder = values.len() % tags.len();
         if remainder != 0 {
             return Err(Stop {
@@ -246,7 +285,7 @@ impl Reader<'_> {
         records.extend(tags);
         records.extend(values);
         records.push(Record::LOOP_END);
-        Ok(records)
+        Ok((records, ended))
     }
 
     fn loop_tags(&mut self) -> Vec<Record> {
@@ -260,23 +299,23 @@ impl Reader<'_> {
         }
     }
 
-    /// A value, or none. Where none stands, only space and comments are gone over.
-    fn value(&mut self) -> Result<Option<Record>, Stop> {
+    /// A value, or why there is none. Where none stands, only space and comments are gone over.
+    fn value(&mut self) -> Result<Sought, Stop> {
         self.skip();
         let Some(first) = self.rest().first().copied() else {
-            return Ok(None);
+            return Ok(Err(Reason::TextEnds));
         };
         if RESERVED.iter().any(|word| self.starts_with(word)) {
-            return Ok(None);
+            return Ok(Err(Reason::ReservedWord));
         }
         match first {
-            b'.' => self.point().map(Some),
-            b'?' => Ok(Some(self.single_byte(9))),
-            b'\'' => Ok(self.quoted(11, first)),
-            b'"' => Ok(self.quoted(12, first)),
-            b';' => Ok(self.field()),
-            byte if starts_bare(byte) => self.bare().map(Some),
-            _ => Ok(None),
+            b'.' => self.point().map(Ok),
+            b'?' => Ok(Ok(self.single_byte(9))),
+            b'\'' => Ok(self.quoted(11, first).ok_or(Reason::OpenQuote)),
+            b'"' => Ok(self.quoted(12, first).ok_or(Reason::OpenQuote)),
+            b';' => Ok(self.field().ok_or(Reason::OpenField)),
+            byte if starts_bare(byte) => self.bare().map(Ok),
+            _ => Ok(Err(Reason::StartsNoValue)),
         }
     }
 
@@ -465,14 +504,100 @@ mod tests {
         assert_eq!(refused("data_x data_y"), (7, 7, 1, 8, 0));
         assert_eq!(refused("data_x loop_"), (8, 7, 1, 8, 0));
         assert_eq!(refused("data_x loop_ _a _b 1 2 3"), (5, 7, 1, 8, 1));
-        assert_eq!(refused("data_x _a 'b"), (6, 7, 1, 8, 0));
-        assert_eq!(refused("data_x loop_ _a 1 'b"), (7, 18, 1, 19, 0));
+        assert_eq!(refused("data_x _a 'b"), (6, 7, 1, 8, 4));
+        assert_eq!(refused("data_x loop_ _a 1 'b"), (7, 18, 1, 19, 4));
         assert_eq!(refused("data_x save_f save_g"), (7, 19, 1, 20, 0));
         assert_eq!(refused("data_x _a .5."), (7, 11, 1, 12, 0));
         assert_eq!(refused("data_x\x0c"), (7, 6, 1, 7, 0));
         assert_eq!(refused("data_x _a 1234567890"), (9, 10, 1, 11, 0));
         assert_eq!(refused("data_x \u{e9}"), (2, 7, 1, 8, 0));
         assert_eq!(refused("data_x save_f _a 1"), (4, 7, 1, 8, 0));
+    }
+
+    /// The detail alone, of a refusal by this number.
+    fn detail(text: &str, number: u8) -> usize {
+        let (refused_by, _, _, _, detail) = refused(text);
+        assert_eq!(refused_by, number, "{text:?}");
+        detail
+    }
+
+    #[test]
+    fn a_tag_without_a_value_has_the_reason() {
+        for (behind, reason) in [
+            ("", 1),
+            (" \n", 1),
+            (" # b", 1),
+            (" # b\n\t[", 3),
+            (" stop_x", 2),
+            (" DATA_", 2),
+            (" Global_ 1", 2),
+            (" loop_ _b 1", 2),
+            (" save_", 2),
+            (" _b 1", 3),
+            (" $", 3),
+            (" ]", 3),
+            ("\x0c1", 3),
+            (" \x00", 3),
+            (" \x0b", 3),
+            (" \x7f", 3),
+            (" 'b", 4),
+            (" 'b\n'", 4),
+            (" \"b'\r\"", 4),
+            (" '", 4),
+            (" ;", 5),
+            (" ;b", 5),
+            ("\n;b\n ;\n", 5),
+        ] {
+            assert_eq!(
+                detail(&format!("data_x _a{behind}"), 6),
+                reason,
+                "{behind:?}"
+            );
+        }
+    }
+
+    #[test]
+    fn no_item_directly_behind_a_loop_has_the_reason() {
+        for (behind, reason) in [
+            ("1 'b", 4),
+            ("'b", 4),
+            ("1 data_y", 2),
+            ("1 Stop_", 2),
+            ("global_x", 2),
+            ("1 # b\n[", 3),
+            ("$", 3),
+            ("1\x0c", 3),
+            ("1 ;b", 5),
+            ("1 save_f save_ loop_ _a ]", 3),
+        ] {
+            let text = format!("data_x loop_ _a {behind}");
+            assert_eq!(detail(&text, 7), reason, "{text:?}");
+        }
+    }
+
+    #[test]
+    fn no_item_elsewhere_has_no_reason() {
+        for text in [
+            "data_x 'b",
+            "data_x\x0c",
+            "data_x _a 1 2",
+            "data_x _a 1 'b",
+            "data_x loop_ _a 1 save_f save_ $",
+            "data_x loop_ _a 1 save_f loop_ _a 1 save_ 'b",
+            "data_x save_f loop_ _a 1 save_ [",
+            "data_x loop_ _a 1 _b 2 $",
+            "data_x loop_ _a 1 _b 2 3",
+        ] {
+            assert_eq!(detail(text, 7), 0, "{text:?}");
+        }
+    }
+
+    #[test]
+    fn other_refusals_keep_their_details() {
+        assert_eq!(detail("data_x loop_ _a _b 1 'b", 5), 1);
+        assert_eq!(detail("data_x save_f _a 'b", 4), 0);
+        assert_eq!(detail("data_x loop_ _a 1 loop_ 'b", 8), 0);
+        assert_eq!(detail("data_x loop_ _a 1 _b 1234567890", 9), 0);
     }
 
     #[test]

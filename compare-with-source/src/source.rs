@@ -134,6 +134,7 @@ fn refusal(error: &PDBError) -> ToldRefusal {
         number,
         line,
         column,
+        // It drops the reason of a 6 or 7.
         detail: if number == 5 { remainder(error) } else { 0 },
         shown,
     }

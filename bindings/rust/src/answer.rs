@@ -14,7 +14,8 @@ pub struct Answer {
     pub line: u64,
     /// The column in bytes, from 1.
     pub column: u64,
-    /// For 5 how many values are left over, else 0.
+    /// For 5 how many values are left over, for 6 and 7 the number of the [`Reason`](crate::Reason),
+    /// else 0.
     pub detail: u64,
     /// The length of the store (read, outline) or of the rendered text (render): written, or needed
     /// where the number is 10 or 11.

@@ -20,10 +20,12 @@ mod command {
     pub mod input;
     pub mod message;
     pub mod outline;
+    pub mod ragged;
     pub mod render;
     pub mod status;
     pub mod table;
     pub mod values;
+    pub mod walk;
 }
 
 use std::env;

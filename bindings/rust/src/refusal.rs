@@ -4,6 +4,7 @@ use std::error::Error;
 use std::fmt;
 
 use crate::answer::Answer;
+use crate::reason::Reason;
 use crate::record::Place;
 
 /// The numbers of answers.
@@ -20,9 +21,10 @@ pub mod number {
     pub const OPEN_FRAME: u64 = 4;
     /// A loop's values don't fill whole rows.
     pub const RAGGED: u64 = 5;
-    /// A tag has no valid value.
+    /// A tag has no valid value; the reason says why.
     pub const NO_VALUE: u64 = 6;
-    /// An item is expected and none starts.
+    /// An item is expected and none starts; directly behind a loop of the block the reason says why
+    /// its values end there.
     pub const NO_ITEM: u64 = 7;
     /// A loop has no names.
     pub const NO_NAMES: u64 = 8;
@@ -50,7 +52,7 @@ pub struct Refusal {
     pub place: Option<Place>,
     /// For 13: the number of the name's first record, and of the record that repeats it.
     pub records: Option<(u64, u64)>,
-    /// For 5 how many values are left over, else 0.
+    /// For 5 how many values are left over, for 6 and 7 the number of the [`Reason`], else 0.
     pub detail: u64,
     /// For 10 and 11: the two lengths needed.
     pub needed: Option<(usize, usize)>,
@@ -84,11 +86,24 @@ impl Refusal {
         }
     }
 
+    /// Why no value stands where one is looked for: with every 6, and with a 7 directly behind a loop
+    /// of the block itself.
+    pub fn reason(&self) -> Option<Reason> {
+        match self.number {
+            number::NO_VALUE | number::NO_ITEM => Reason::of_number(self.detail),
+            _ => None,
+        }
+    }
+
     /// What is wrong, in a sentence that needs no knowledge of this library.
     pub fn sentence(&self) -> String {
-        match self.number {
-            number::RAGGED => ragged(self.detail),
-            number => String::from(fixed_sentence(number)),
+        match (self.number, self.reason()) {
+            (number::RAGGED, _) => ragged(self.detail),
+            (number::NO_ITEM, Some(reason)) => {
+                format!("neither a further value of the loop nor a tag, a loop or a save frame stands here: {reason}")
+            }
+            (number, Some(reason)) => format!("{}: {reason}", fixed_sentence(number)),
+            (number, None) => String::from(fixed_sentence(number)),
         }
     }
 }
@@ -216,6 +231,47 @@ mod tests {
         sentences.sort();
         sentences.dedup();
         assert_eq!(sentences.len(), 15);
+    }
+
+    #[test]
+    fn only_6_and_7_have_a_reason() {
+        for detail in 0..=6 {
+            let reason = Reason::of_number(detail);
+            for number in 1..=15 {
+                let expected = if number == 6 || number == 7 {
+                    reason
+                } else {
+                    None
+                };
+                assert_eq!(Refusal::bare(number, detail).reason(), expected);
+            }
+        }
+    }
+
+    #[test]
+    fn a_reason_is_said() {
+        assert_eq!(
+            Refusal::bare(6, 4).to_string(),
+            "refused 6: no value that can be read follows this tag: \
+             the quote that opens there is not closed on its line"
+        );
+        assert_eq!(
+            Refusal::bare(7, 3).to_string(),
+            "refused 7: neither a further value of the loop nor a tag, a loop or a save frame stands here: \
+             no value starts with the byte there"
+        );
+        assert_eq!(
+            Refusal::bare(7, 0).to_string(),
+            "refused 7: a tag, a loop or a save frame is expected here"
+        );
+        for number in [6, 7] {
+            let mut sentences: Vec<String> = (0..=5)
+                .map(|detail| Refusal::bare(number, detail).sentence())
+                .collect();
+            sentences.sort();
+            sentences.dedup();
+            assert_eq!(sentences.len(), 6);
+        }
     }
 
     #[test]

@@ -133,11 +133,64 @@ fn check_says_what_is_wrong_and_shows_where() {
         ),
         (
             "05-ragged",
-            "2:1: refused 5: the values of this loop do not fill whole rows: 2 are left over\n    loop_ _label _x _y\n    ^\n",
+            "2:1: refused 5: the values of this loop do not fill whole rows: 2 are left over, \
+             as it has 3 tags and 5 values (last: `0.1` `0.2` `O1` `0.3`)\n    loop_ _label _x _y\n    ^\n\
+             examples/refused/05-ragged.cif:4:1: the row that begins here is not whole\n    O1 0.3\n    ^\n",
         ),
         (
-            "06-no-value",
-            "2:1: refused 6: no value that can be read follows this tag\n    _name 'urea\n    ^\n",
+            "05-unquoted",
+            "2:1: refused 5: the values of this loop do not fill whole rows: 1 is left over, \
+             as it has 2 tags and 1 value (last: `1`)\n    loop_ _id _formula\n    ^\n\
+             examples/refused/05-unquoted.cif:3:3: this value begins with `[`: put quote marks around it\n    1 [Fe(CN)6]4-\n      ^\n",
+        ),
+        (
+            "05-quote-in-quotes",
+            "2:1: refused 5: the values of this loop do not fill whole rows: 1 is left over, \
+             as it has 2 tags and 3 values (last: `GMP` `'GUANOSINE-5'` `-MONOPHOSPHATE'`)\n    loop_ _id _name\n    ^\n\
+             examples/refused/05-quote-in-quotes.cif:3:18: the mark before this closes its quote: \
+             a text that holds this mark stands between marks of the other kind\n    \
+             GMP 'GUANOSINE-5'-MONOPHOSPHATE'\n                     ^\n",
+        ),
+        (
+            "06-text-ends",
+            "2:15: refused 6: the file ends where the value of _cell_length_a should stand (write `?` for an unknown value)\n    _cell_length_a\n                  ^\n",
+        ),
+        (
+            "06-reserved-word",
+            "2:7: refused 6: `stop_watch` begins with a reserved word: put quote marks around it\n    _tool stop_watch\n          ^\n",
+        ),
+        (
+            "06-starts-no-value",
+            "2:10: refused 6: this value begins with `[`: put quote marks around it\n    _formula [Fe(CN)6]4-\n             ^\n",
+        ),
+        (
+            "06-missing",
+            "3:1: refused 6: the value of _cell_length_a is missing: the tag _cell_length_b stands in its place \
+             (write `?` for an unknown value; one that begins with `_` needs quote marks)\n    _cell_length_b 5.661\n    ^\n",
+        ),
+        (
+            "06-open-quote",
+            "2:7: refused 6: the quote that opens here is not closed on its line\n    _name 'urea\n          ^\n",
+        ),
+        (
+            "06-open-field",
+            "3:1: refused 6: the text field that opens here has no closing `;` at the start of a line\n    ;urea\n    ^\n",
+        ),
+        (
+            "07-open-quote",
+            "4:1: refused 7: the quote that opens here is not closed on its line\n    'oxygen\n    ^\n",
+        ),
+        (
+            "07-open-field",
+            "4:1: refused 7: the text field that opens here has no closing `;` at the start of a line\n    ;oxygen\n    ^\n",
+        ),
+        (
+            "07-starts-no-value",
+            "4:1: refused 7: this value begins with `[`: put quote marks around it\n    [Fe(CN)6]4-\n    ^\n",
+        ),
+        (
+            "07-second-block",
+            "4:1: refused 7: a second block begins here, and one file holds one: put each block into a file of its own\n    data_y\n    ^\n",
         ),
         (
             "07-no-item",
@@ -157,6 +210,83 @@ fn check_says_what_is_wrong_and_shows_where() {
         let expected = refused("", &format!("{file}:{message}"));
         assert_eq!(run(&["check", &file]), expected);
     }
+}
+
+/// The outline has the tag's place, as the library answers; the message has the value's.
+#[test]
+fn a_message_stands_where_the_value_fails() {
+    let (status, output, message) = run_with(&["outline", "-"], b"data_x\n_a # b\r\n\t'c\n");
+    assert_eq!((status, output.as_str()), (1, "refused 6 7 2 1\n"));
+    assert_eq!(
+        message,
+        "<stdin>:3:2: refused 6: the quote that opens here is not closed on its line\n     'c\n     ^\n"
+    );
+}
+
+#[test]
+fn what_stands_for_a_value_is_said() {
+    let missing = "the value of _a is missing:";
+    let sentences: [(&[u8], &str); 9] = [
+        (b"", "the file ends where the value of _a should stand "),
+        (
+            b" loop_ _b 1",
+            &format!("{missing} `loop_` stands in its place "),
+        ),
+        (
+            b" data_y",
+            &format!("{missing} `data_y` stands in its place "),
+        ),
+        (
+            b" save_",
+            &format!("{missing} `save_` stands in its place "),
+        ),
+        (
+            b" _b 1",
+            &format!("{missing} the tag _b stands in its place "),
+        ),
+        (
+            b" stop_x",
+            "`stop_x` begins with a reserved word: put quote marks around it\n",
+        ),
+        (
+            b" $b",
+            "this value begins with `$`: put quote marks around it\n",
+        ),
+        (
+            b" \x0c",
+            "the control character 0C (form feed) stands here: remove it\n",
+        ),
+        (
+            b" ;b",
+            "the text field that opens here has no closing `;` at the start of a line\n",
+        ),
+    ];
+    for (behind, sentence) in sentences {
+        let text = [b"data_x _a", behind].concat();
+        let (status, _, message) = run_with(&["check", "-"], &text);
+        let place = if behind.is_empty() { 10 } else { 11 };
+        let start = format!("<stdin>:1:{place}: refused 6: {sentence}");
+        assert_eq!(status, 1);
+        assert!(message.starts_with(&start), "{message}");
+    }
+}
+
+/// The loop is read twice more, to find its values; that takes no other room than reading does.
+#[test]
+fn a_large_ragged_loop_is_said() {
+    let mut text = b"data_x\nloop_ _a _b _c\n".to_vec();
+    for _ in 0..100_000 {
+        text.extend(b"1 . ?\n");
+    }
+    text.extend(b"2 [\n");
+    let (status, _, message) = run_with(&["check", "-"], &text);
+    assert_eq!(status, 1);
+    assert_eq!(
+        message,
+        "<stdin>:2:1: refused 5: the values of this loop do not fill whole rows: 1 is left over, \
+         as it has 3 tags and 300001 values (last: `1` `.` `?` `2`)\n    loop_ _a _b _c\n    ^\n\
+         <stdin>:100003:3: this value begins with `[`: put quote marks around it\n    2 [\n      ^\n"
+    );
 }
 
 #[test]

@@ -2,7 +2,7 @@
 
 mod common;
 
-use chuntarek::{outline, read, Decimal, Document, Kind};
+use chuntarek::{outline, read, Decimal, Document, Kind, Reason, Refusal};
 use common::{document, kinds, refusal};
 
 /// Both services refuse a text alike, with any room.
@@ -49,12 +49,107 @@ fn the_refusals_of_document_01() {
     refused(b"data_x data_y", 7, 7, 1, 8, 0);
     refused(b"data_x loop_", 8, 7, 1, 8, 0);
     refused(b"data_x loop_ _a _b 1 2 3", 5, 7, 1, 8, 1);
-    refused(b"data_x _a 'b", 6, 7, 1, 8, 0);
-    refused(b"data_x loop_ _a 1 'b", 7, 18, 1, 19, 0);
+    refused(b"data_x _a 'b", 6, 7, 1, 8, 4);
+    refused(b"data_x loop_ _a 1 'b", 7, 18, 1, 19, 4);
     refused(b"data_x save_f save_g", 7, 19, 1, 20, 0);
     refused(b"data_x _a .5.", 7, 11, 1, 12, 0);
     refused(b"data_x\x0c", 7, 6, 1, 7, 0);
     refused(b"data_x _a 1234567890", 9, 10, 1, 11, 0);
+}
+
+/// The refusal of a text by this number, and its reason.
+fn reason(text: &str, number: u64) -> Option<Reason> {
+    let refusal: Refusal = Document::read(text.as_bytes()).expect_err(text);
+    assert_eq!(refusal.number, number, "{text:?}");
+    let told = refusal.reason();
+    let detail = told.map_or(0, Reason::number);
+    assert_eq!(refusal.detail, detail, "{text:?}");
+    told
+}
+
+#[test]
+fn a_tag_without_a_value_says_why() {
+    refused(b"data_x _a", 6, 7, 1, 8, 1);
+    refused(b"data_x _a stop_x", 6, 7, 1, 8, 2);
+    refused(b"data_x _a _b 1", 6, 7, 1, 8, 3);
+    refused(b"data_x _a\x0c1", 6, 7, 1, 8, 3);
+    refused(b"data_x _a 'b", 6, 7, 1, 8, 4);
+    refused(b"data_x _a ;b", 6, 7, 1, 8, 5);
+    for (behind, why) in [
+        ("", Reason::TextEnds),
+        (" \t\r\n", Reason::TextEnds),
+        (" # [\n#", Reason::TextEnds),
+        (" data_y", Reason::ReservedWord),
+        (" # b\nGLOBAL_", Reason::ReservedWord),
+        (" Loop_", Reason::ReservedWord),
+        (" save_", Reason::ReservedWord),
+        (" stop_watch", Reason::ReservedWord),
+        (" _", Reason::StartsNoValue),
+        (" $b", Reason::StartsNoValue),
+        (" [", Reason::StartsNoValue),
+        ("\n]", Reason::StartsNoValue),
+        (" \x0c", Reason::StartsNoValue),
+        (" \x00", Reason::StartsNoValue),
+        (" \x7f", Reason::StartsNoValue),
+        (" '", Reason::OpenQuote),
+        (" \"b'\n\"", Reason::OpenQuote),
+        (" 'b\r'", Reason::OpenQuote),
+        (" ;", Reason::OpenField),
+        ("\n;b\n ;", Reason::OpenField),
+        ("\n;b;", Reason::OpenField),
+    ] {
+        assert_eq!(reason(&format!("data_x _a{behind}"), 6), Some(why));
+    }
+}
+
+#[test]
+fn no_item_directly_behind_a_loop_says_why_its_values_end() {
+    refused(b"data_x loop_ _a 'b", 7, 16, 1, 17, 4);
+    refused(b"data_x loop_ _a 1 data_y", 7, 18, 1, 19, 2);
+    for (behind, why) in [
+        ("1 Stop_", Reason::ReservedWord),
+        ("global_x", Reason::ReservedWord),
+        ("1 # c\n$", Reason::StartsNoValue),
+        ("[", Reason::StartsNoValue),
+        ("1\x0c", Reason::StartsNoValue),
+        ("1 \"b\n\"", Reason::OpenQuote),
+        ("1 ;b\n", Reason::OpenField),
+        (";", Reason::OpenField),
+        ("1 loop_ _b ]", Reason::StartsNoValue),
+        ("1 save_f save_ loop_ _b 'c", Reason::OpenQuote),
+    ] {
+        assert_eq!(reason(&format!("data_x loop_ _a {behind}"), 7), Some(why));
+    }
+}
+
+#[test]
+fn no_item_elsewhere_has_no_reason() {
+    refused(b"data_x loop_ _a 1 save_f save_ $", 7, 31, 1, 32, 0);
+    refused(b"data_x loop_ _a 1 _b 2 $", 7, 23, 1, 24, 0);
+    refused(b"data_x loop_ _a 1 _b 2 3", 7, 23, 1, 24, 0);
+    refused(b"data_x _a 1 2", 7, 12, 1, 13, 0);
+    for text in [
+        "data_x 'b",
+        "data_x [",
+        "data_x _a 1 'b",
+        "data_x save_f save_ ;",
+        "data_x save_f loop_ _a 1 save_ [",
+        "data_x loop_ _a 1 save_f loop_ _b 1 save_ stop_",
+    ] {
+        assert_eq!(reason(text, 7), None);
+    }
+}
+
+/// Inside a frame nothing but 4, 8 and 9 comes out, and a 5 keeps its remainder.
+#[test]
+fn other_refusals_have_no_reason() {
+    refused(b"data_x save_f _a 'b", 4, 7, 1, 8, 0);
+    refused(b"data_x save_f loop_ _a 'b", 4, 7, 1, 8, 0);
+    refused(b"data_x loop_ _a _b _c 1 2 'b", 5, 7, 1, 8, 2);
+    refused(b"data_x loop_ 'b", 8, 7, 1, 8, 0);
+    assert_eq!(reason("data_x save_f _a 'b", 4), None);
+    let ragged = Document::read(b"data_x loop_ _a _b 1").expect_err("a value is left over");
+    assert_eq!((ragged.detail, ragged.reason()), (1, None));
 }
 
 #[test]
@@ -148,9 +243,9 @@ fn keywords_match_in_any_letter_case_and_as_prefixes() {
         kinds(&document(b"DATA_x SAVE_f sAvE_ LOOP__a 1")),
         [1, 2, 3, 5, 6, 14, 7]
     );
-    refused(b"data_x _a Loop_x", 6, 7, 1, 8, 0);
-    refused(b"data_x _a global_", 6, 7, 1, 8, 0);
-    refused(b"data_x _a stop_", 6, 7, 1, 8, 0);
+    refused(b"data_x _a Loop_x", 6, 7, 1, 8, 2);
+    refused(b"data_x _a global_", 6, 7, 1, 8, 2);
+    refused(b"data_x _a stop_", 6, 7, 1, 8, 2);
 }
 
 #[test]
@@ -167,12 +262,12 @@ fn a_failing_item_in_a_frame_is_dropped() {
 
 #[test]
 fn line_ends_are_taken_greedily_from_the_left() {
-    refused(b"data_x\r\n_a", 6, 8, 2, 1, 0);
-    refused(b"data_x\n\r_a", 6, 8, 2, 1, 0);
-    refused(b"data_x\r_a", 6, 7, 2, 1, 0);
-    refused(b"data_x\n\n_a", 6, 8, 3, 1, 0);
-    refused(b"data_x\n\r\n_a", 6, 9, 3, 1, 0);
-    refused(b"data_x\r\r\n\n _a", 6, 11, 4, 2, 0);
+    refused(b"data_x\r\n_a", 6, 8, 2, 1, 1);
+    refused(b"data_x\n\r_a", 6, 8, 2, 1, 1);
+    refused(b"data_x\r_a", 6, 7, 2, 1, 1);
+    refused(b"data_x\n\n_a", 6, 8, 3, 1, 1);
+    refused(b"data_x\n\r\n_a", 6, 9, 3, 1, 1);
+    refused(b"data_x\r\r\n\n _a", 6, 11, 4, 2, 1);
 }
 
 #[test]

@@ -6,7 +6,7 @@ use chuntarek::{number, Document, Place, Record, Refusal};
 
 use super::cell;
 use super::excerpt::excerpt;
-use super::hint::{hint, is_binary};
+use super::hint::{hints, is_binary, Hint};
 use super::input::Input;
 
 /// Writes a message to standard error. If nobody can see it, nothing can be done about that.
@@ -23,15 +23,32 @@ pub fn printable(character: char) -> char {
     }
 }
 
-/// What is wrong with a text that is refused.
+/// What is wrong with a text that is refused, each thing where it stands.
 pub fn refused(input: &Input, refusal: &Refusal) -> String {
-    let sentence = hint(&input.text, refusal).unwrap_or_else(|| refusal.sentence());
-    let message = format!("refused {}: {sentence}", refusal.number);
-    match refusal.place {
-        Some(place) if is_cif(input, refusal) => at_place(input, place, &message),
-        Some(place) => located(input, place, &message),
-        None => format!("{}: {message}", input.name),
+    let mut hints = hints(&input.text, refusal).into_iter();
+    let first = hints.next().or_else(|| unhinted(refusal));
+    let Some(Hint { place, sentence }) = first else {
+        return numbered(refusal, &input.name, &refusal.sentence());
+    };
+    let message = numbered(refusal, &position(input, place), &sentence);
+    if !is_cif(input, refusal) {
+        return message;
     }
+    let further = hints.map(|hint| at_place(input, hint.place, &hint.sentence));
+    let shown = excerpt(&input.text, place);
+    let lines = [message, shown].into_iter().chain(further);
+    lines.collect::<Vec<String>>().join("\n")
+}
+
+/// The refusal's own words, where they are close enough.
+fn unhinted(refusal: &Refusal) -> Option<Hint> {
+    let place = refusal.place?;
+    let sentence = refusal.sentence();
+    Some(Hint { place, sentence })
+}
+
+fn numbered(refusal: &Refusal, position: &str, sentence: &str) -> String {
+    format!("{position}: refused {}: {sentence}", refusal.number)
 }
 
 /// What is wrong with the rendering of a text that was read.
@@ -41,7 +58,7 @@ pub fn not_rendered(input: &Input, refusal: &Refusal) -> String {
         number::TOO_LONG => {
             format!("{name}: refused 1: its rendering would be longer than 16,777,216 bytes")
         }
-        _ => format!("{name}: refused {number}: {}", refusal.sentence()),
+        _ => numbered(refusal, name, &refusal.sentence()),
     }
 }
 
@@ -76,15 +93,47 @@ fn at_record(input: &Input, record: Option<Record>, message: &str) -> String {
 
 /// A message at a place, and what stands there.
 fn at_place(input: &Input, place: Place, message: &str) -> String {
-    let line = located(input, place, message);
-    format!("{line}\n{}", excerpt(&input.text, place))
+    let (position, shown) = (position(input, place), excerpt(&input.text, place));
+    format!("{position}: {message}\n{shown}")
 }
 
-fn located(input: &Input, place: Place, message: &str) -> String {
-    format!("{}:{}:{}: {message}", input.name, place.line, place.column)
+fn position(input: &Input, place: Place) -> String {
+    format!("{}:{}:{}", input.name, place.line, place.column)
 }
 
 /// Whether showing a line helps: a file that is no CIF at all gets its one line of message alone.
 fn is_cif(input: &Input, refusal: &Refusal) -> bool {
     refusal.number != number::NO_DATA && !is_binary(&input.text)
+}
+
+#[cfg(test)]
+mod tests {
+    use super::*;
+
+    /// A small file that holds everything a hint looks at, cut at each byte and ended by others.
+    #[test]
+    fn no_bytes_break_a_message() {
+        let whole =
+            b"data_x loop_ _a _b 1 'c' \"d\" # e\n;f\n; _g 'h' save_i save_ loop_ _j\r\n[ _k stop_x";
+        let ends = [b'\'', b';', b'#', b'_', b'[', b'.', b' ', 0, 12, 127, 200];
+        let mut refusals = 0;
+        for cut in 0..=whole.len() {
+            for (first, second) in ends.iter().flat_map(|end| ends.map(|other| (*end, other))) {
+                let text = [&whole[..cut], &[first, second]].concat();
+                let Err(refusal) = Document::read(&text) else {
+                    continue;
+                };
+                let input = Input {
+                    name: String::from("x.cif"),
+                    text,
+                };
+                let message = refused(&input, &refusal);
+                let start = format!(": refused {}: ", refusal.number);
+                assert!(message.starts_with("x.cif:"), "{message}");
+                assert!(message.contains(&start), "{message}");
+                refusals += 1;
+            }
+        }
+        assert!(refusals > 5_000, "only {refusals} texts are refused");
+    }
 }
