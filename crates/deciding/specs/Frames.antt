@@ -47,7 +47,7 @@ unfoldable pub modeOf : Option ℕ → Mode
 modeOf none = inBlock
 modeOf (some a) = inFrame
 
--- what the machine answers of the text from offset o on, where an item is expected, a 7 there has the detail d and `out` is kept
+-- what the machine answers of the text from offset o on, where an item is expected and `out` is kept; a 7 there has the detail d
 unfoldable pub left : ℕ → Option ℕ → List ℕ → ℕ → List Rec → Answer
 left d f s o out = run (tokensAt (modeOf f) s o) (config (items d) f out [])
 
@@ -55,7 +55,8 @@ left d f s o out = run (tokensAt (modeOf f) s o) (config (items d) f out [])
 unfoldable pub blockAt : List ℕ → ℕ → Answer
 blockAt s o = run (tokensAt before s o) (config start none [] [])
 
--- from o in f to p in g, where a 7 has the detail d, records of these sizes are kept, and nothing else is changed of what is still answered
+-- from o in f to p in g records of these sizes are kept, and nothing else is changed of what is still answered; a 7 at p has the
+-- detail d, whatever one at o had
 pub record Passed (s : List ℕ) (f : Option ℕ) (o : ℕ) (g : Option ℕ) (p : ℕ) (z : Sizes) (d : ℕ) : Type 0 where
   pub kept : List Rec
   pub sizes : z ≡ sizesOf kept

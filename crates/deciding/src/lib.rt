@@ -28,7 +28,7 @@ const BEHIND_VALUE: usize = 0;
 
 const BEHIND_FRAME: usize = 0;
 
-// What an item, or a frame, is in the block: read, with why the list of values ended if it is a loop, else 0; or the reading's end.
+// What an item, or a frame, is in the block: read, with why its list of values ended if it is a loop; or the reading's end.
 enum Step {
     Read {
         next: usize,
@@ -124,7 +124,7 @@ fn parse_save_frame(s: &[u8], start: usize) -> Step
     }
 }
 
-// The item or the frame at an offset of the block, where the loop directly before ended for a reason.
+// The item or the frame at an offset of the block; the reason is why the loop directly before ended.
 fn parse_data_item_or_save_frame(s: &[u8], at: usize, reason: usize) -> Step
     requires { ⌜ Here (now s) at × (at < length (now s)) ⌝ }
     ensures { λ r. ⌜ Stepped reason (now (s .entry)) at r ⌝ }

@@ -5,7 +5,7 @@ use mathlib.Core.Bool.{Bool, true, false, cond}
 use mathlib.Core.List.{List, [], _∷_, _++_}
 use lib.Dec.{eqb}
 use lib.ListN.{length}
-use Rattle.values.specs.Values.{Class, Reason, block, loop, save, tag, value, overLimit, nothing}
+use Rattle.values.specs.Values.{Class, Reason, block, loop, save, tag, value, overLimit, nothing, atEnd}
 use Rattle.grammar.specs.Tokens.{Tok}
 use Rattle.grammar.specs.Machine.{Rec, rec, loopEnd, reason}
 
@@ -108,7 +108,7 @@ single t save u us = failed 6 (t .at) (reason save) (u ∷ us)
 single t (nothing w) u us = failed 6 (t .at) (reason (nothing w)) (u ∷ us)
 
 unfoldable pub tagItem : Tok → List Tok → Item
-tagItem t [] = failed 6 (t .at) 0 []
+tagItem t [] = failed 6 (t .at) (reason (nothing atEnd)) []
 tagItem t (u ∷ us) = single t (u .class) u us
 
 unfoldable pub itemBy : Class → Tok → List Tok → Item

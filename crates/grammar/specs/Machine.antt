@@ -46,11 +46,11 @@ rec k t = record { kind = k; at = t .at; size = t .size }
 unfoldable pub loopEnd : Rec
 loopEnd = record { kind = 7; at = 0; size = 0 }
 
--- why no value stands where this token does, by its number
+-- why no value stands where this token does, by document 02's number
 unfoldable pub reason : Class → ℕ
 reason c = numberOfWhy (whyNot c)
 
--- a detail that only the block itself gives
+-- what only the block itself says: inside a frame a 7 has no detail
 unfoldable pub inBlockOnly : Option ℕ → ℕ → ℕ
 inBlockOnly none d = d
 inBlockOnly (some f) d = 0
@@ -86,10 +86,11 @@ atItem d f out block t = fails (refused 7 (t .at) d) f out t
 atItem d f out (value k) t = fails (refused 7 (t .at) d) f out t
 atItem d f out overLimit t = fails (refused 7 (t .at) d) f out t
 
--- the loop at `at` ends before t, with n names and k values; directly behind a loop of the block a 7 says why its list ended
+-- the loop at `at` ends before t, with n names and k values; a 7 there says why its list ended
 unfoldable pub loopEnds : ℕ → ℕ → ℕ → Option ℕ → List Rec → List Rec → Tok → Outcome
 loopEnds at n k f out held t =
-    cond (eqb (k % n) 0) (atItem (inBlockOnly f (reason (t .class))) f (out ++ held ++ (loopEnd ∷ [])) (t .class) t) (fails (refused 5 at (k % n)) f out t)
+    cond (eqb (k % n) 0) (atItem (inBlockOnly f (reason (t .class))) f (out ++ held ++ (loopEnd ∷ [])) (t .class) t)
+    (fails (refused 5 at (k % n)) f out t)
 
 unfoldable pub atValue : ℕ → ℕ → ℕ → Option ℕ → List Rec → List Rec → Class → Tok → Outcome
 atValue at n k f out held (value kind) t = go (config (values at n (suc k)) f out (held ++ (rec kind t ∷ [])))

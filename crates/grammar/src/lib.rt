@@ -2,7 +2,8 @@
 ghost use mathlib.Core.Path.{_≡_};
 ghost use Rattle.grammar.specs.Causes.{causeNumber, causeDetail};
 
-// What a text is refused for at a place in it, 2 to 9. The reason says why no value stands: behind a tag, or where the loop before ended; 0 where no loop did.
+// What a text is refused for at a place in it, 2 to 9. The reason says why no value stands behind a tag, or where the loop directly
+// before ended; 0 where none stands there.
 pub enum Cause {
     NotAscii,
     NoData,

@@ -27,7 +27,7 @@ use Rattle.grammar.specs.Machine.{Rec, rec, loopEnd, reason}
 use Rattle.sizes.specs.Sizes.{sizesOf, noSizes, added, joined, Upto}
 use Rattle.grammar.specs.Descent.{nameRecs, afterNames, valueRecs, afterValues, taken, failed, absent, broken, isOver, rows, loopBy, loopItem, single, tagItem, itemBy, item}
 use Rattle.items.specs.Answers.{namesOf, namesAt, headOver, valuesOf, valuesAt, rowsOf, itemAnswer, itemAt}
-use Rattle.values.specs.Answers.{whyNot, numberOfWhy}
+use Rattle.values.specs.Answers.{whyNot, numberOfWhy, wanted}
 use Rattle.values.specs.Finding.{foundAt, isOverFound, whyFound}
 use Rattle.values.proofs.Choices.{wanted-why}
 use Rattle.grammar.proofs.Descent.{Ends, names-ends, values-ends}
@@ -36,7 +36,6 @@ use Rattle.items.proofs.Lists.{met-value, name-step, value-step}
 use Rattle.grammar.proofs.Offsets.{tokens-gap, tokens-ends, Met, met-loop, met-tag, first, both, both-spot}
 use Rattle.items.proofs.Passes.{names-alike, values-alike}
 use Rattle.sizes.proofs.Room.{sizes-cons, sizes-one, sizes-snoc, sizes-append, joined-assoc, added-none, upto-more}
-use Rattle.values.specs.Finding.{wanted}
 use Rattle.items.proofs.Wanted.{found-wanted}
 
 -- the first token stands behind space and comments

@@ -25,7 +25,7 @@ use Rattle.grammar.specs.Tokens.{inBlock, lexIn, lex, after, Tok, tok, tokensAt
 use Rattle.grammar.specs.Machine.{rec}
 use Rattle.sizes.specs.Sizes.{sizesOf, noSizes, added, joined, Upto}
 use Rattle.grammar.specs.Descent.{nameRecs, valueRecs, isOver}
-use Rattle.values.specs.Answers.{whyNot}
+use Rattle.values.specs.Answers.{whyNot, wanted}
 use Rattle.values.proofs.Choices.{wanted-why}
 use Rattle.items.specs.Answers.{namesOf, namesAt, headOver, valuesOf, valuesAt}
 use Rattle.values.specs.Finding.{foundAt, isOverFound, whyFound}
@@ -34,7 +34,6 @@ use Rattle.grammar.proofs.Fits.{isValue, lexIn-pos}
 use Rattle.grammar.proofs.Lexes.{no-name}
 use Rattle.grammar.proofs.Offsets.{tokens-gap, Met, met, met-tag, first}
 use Rattle.sizes.proofs.Room.{sizes-cons, added-joined, sizes-none, none-joined, joined-none, upto-none, upto-added}
-use Rattle.values.specs.Finding.{wanted}
 use Rattle.items.proofs.Wanted.{found-wanted}
 
 -- names counted so far, and those from here on

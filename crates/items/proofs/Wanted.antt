@@ -8,8 +8,8 @@ use Rattle.text.specs.Bytes.{is}
 use Rattle.words.specs.Words.{word}
 use Rattle.keywords.specs.Keywords.{starts, keyData, keyGlobal, keyLoop, keySave, keyStop}
 use Rattle.values.specs.Values.{loop, save, tag, nothing, reservedWord, noStart, Lexed, lexed, lexValue, lexAsValue}
-use Rattle.values.specs.Answers.{whyOf}
-use Rattle.values.specs.Finding.{wanted, foundAt}
+use Rattle.values.specs.Answers.{whyOf, whyNot, wanted}
+use Rattle.values.specs.Finding.{foundAt}
 use Rattle.keywords.proofs.Keywords.{reserved-words}
 use Rattle.values.proofs.Laws.{found-as-value, as-value-end, as-value, tag-none}
 use Rattle.grammar.specs.Tokens.{Mode, saveSize, lexIn}
@@ -17,7 +17,7 @@ use Rattle.grammar.specs.Tokens.{Mode, saveSize, lexIn}
 -- no value starts with a keyword or `_`
 starts-none : (d g l s t u : Bool) (z w : ℕ) (v : Lexed) → (u ≡ true → v ≡ lexed (nothing noStart) 0)
     → let x = cond (d || g || l || s || t) (lexed (nothing reservedWord) 0) v in let y = cond (d || g || t) (lexed (nothing reservedWord) 0) (cond l (lexed loop 5) (cond s (lexed save z) (cond u (lexed tag w) v))) in wanted (x .class) (x .size) ≡ wanted (y .class) (y .size)
-unfolding wanted lexed whyOf
+unfolding wanted lexed whyNot whyOf
 starts-none true g l s t u z w v h = refl
 starts-none false true l s t u z w v h = refl
 starts-none false false true s true u z w v h = refl

@@ -124,7 +124,7 @@ letter-example : DigitsDiffer (bytes "a1") (bytes "ab") → ⊥
 unfolding bytes DigitsDiffer isDigit
 letter-example d = false≢true (stays-digit (d .bytes 1 (omega arith)) refl)
 
--- Digits change in a loop's value and in the quote that is not closed behind it: the refusal stays, whole, with why the loop's list ended
+-- Digits change in a loop's value and in the open quote behind it: the refusal stays, whole, with why the loop's list ended
 
 refused-example : outlineAnswer (bytes "data_x loop_ _a 1 '2") 0 ≡ refusedAt 7 (record { offset = 18; line = 1; column = 19 }) 4
 unfolding all outlineBy outlineAnswer

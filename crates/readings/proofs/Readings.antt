@@ -14,7 +14,7 @@ use Rattle.cuts.specs.Digits.{valueFrom, value}
 use Rattle.numbers.specs.Meaning.{meaning}
 use Rattle.kinds.specs.Kinds.{kindOf, shapeOf, shapeLength, marksOf, opening, bodyLength, isContent, hasContent}
 use Rattle.values.specs.Values.{lexed, numberOr, wordOr, closed, lexValue, lexAsValue}
-use Rattle.values.specs.Answers.{whyOf, whyNot, answer, valueAnswer}
+use Rattle.values.specs.Answers.{whyOf, whyNot, wanted, meant, valueAnswer}
 use Rattle.grammar.specs.Tokens.{saveSize, lexIn, lex, after, tok, emit, step, tokensFrom, tokens}
 use Rattle.grammar.specs.Machine.{config, rec, loopEnd, closes, fails, atItem, loopEnds, atValue, noMoreNames, atName, atWant, atStart, move, follow, run, reason, inBlockOnly}
 use Rattle.sizes.specs.Sizes.{contentSize, storeSize, areaSize}
@@ -28,7 +28,7 @@ use Rattle.readings.specs.Readings.{bytes, rowOf, seen, asked, reads, me
 
 -- one name for all that a reading computes with: to unfold it is to unfold whatever its line names
 unfoldable pub opened : ℕ
-unfolding is isAscii isDigit isEol isSpace endsWord span gapByte gapThen gapIn gap scanStep scan scanAt placeAt success refusedAt refusedBare noRoom inWord word isOrdinary lower starts keyData keyGlobal keyLoop keySave keyStop reserved more quoted fieldIn field cut consGot digits sign point absent signedDigits isEmpty exponent close bracket parts isNumber within valueFrom value minus meaning kindOf shapeOf shapeLength marksOf opening bodyLength isContent hasContent lexed numberOr wordOr closed lexValue lexAsValue whyOf whyNot answer valueAnswer saveSize lexIn lex after tok emit step tokensFrom tokens reason inBlockOnly config rec loopEnd closes fails atItem loopEnds atValue noMoreNames atName atWant atStart move follow run contentSize storeSize areaSize limit decided outline contentOf areaOf refusal readRoom readBy readAnswer
+unfolding is isAscii isDigit isEol isSpace endsWord span gapByte gapThen gapIn gap scanStep scan scanAt placeAt success refusedAt refusedBare noRoom inWord word isOrdinary lower starts keyData keyGlobal keyLoop keySave keyStop reserved more quoted fieldIn field cut consGot digits sign point absent signedDigits isEmpty exponent close bracket parts isNumber within valueFrom value minus meaning kindOf shapeOf shapeLength marksOf opening bodyLength isContent hasContent lexed numberOr wordOr closed lexValue lexAsValue whyOf whyNot wanted meant valueAnswer saveSize lexIn lex after tok emit step tokensFrom tokens reason inBlockOnly config rec loopEnd closes fails atItem loopEnds atValue noMoreNames atName atWant atStart move follow run contentSize storeSize areaSize limit decided outline contentOf areaOf refusal readRoom readBy readAnswer
 opened = 0
 
 pub readings-hold : ReadingsHold

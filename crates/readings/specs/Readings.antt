@@ -1,5 +1,6 @@
--- Document 01's 'Readings to hold us to', with the details of document 02's One and readings of its own, as one list: what Read answers to each text, with room enough, by number, place and detail, or with its records as the outline
--- program prints them, the two lengths and the area; and what each word says as a value. * marks the readings that 01 stars. Assumes nothing.
+-- Document 01's 'Readings to hold us to', with the details of document 02 (One), and readings of that, as one list: what Read answers to each
+-- text, with room enough, by number, place and detail, or with its records as the outline program prints them, the two lengths and the
+-- area; and what each word says as a value. * marks the readings that 01 stars. Assumes nothing.
 use Prim.Native.Nat.{ℕ}
 use Prim.Native.Char.{code}
 use Prim.Native.String.{String, [] as []ˢ, _∷_ as _∷ˢ_}
@@ -119,7 +120,8 @@ readings =
     -- the outline program's example: 183 store bytes and the area tabcx
     ∷ reads "data_t\n_a 1.50(2)\nloop_ _b _c\nx ?\n" (done-with example 183 5 "tabcx")
     ∷ means "1.50(2)" (Number (decimal 1 50 2 true 2) 7)
-    -- document 02, One: why no value stands behind a tag: the text ends, a reserved word, a byte that starts none (`_` and form feed too), a text field that is not closed
+    -- document 02, One: why no value stands behind a tag: the text ends, a reserved word, a byte that starts none (`_` and form feed
+    -- too), a text field that is not closed
     ∷ reads "data_x _a" (no 6 7 1 8 1)
     ∷ reads "data_x _a stop_x" (no 6 7 1 8 2)
     ∷ reads "data_x _a _b 1" (no 6 7 1 8 3)

@@ -9,9 +9,10 @@ use borrow.Author.Tests.{eq-eqb}
 use native.Mathlib.Nat.{zero-mod}
 use lib.ListN.{length}
 use Rattle.values.specs.Values.{Class, loop, save, tag, value, nothing, atEnd, lexed}
-use Rattle.grammar.specs.Tokens.{inBlock, inFrame, lexIn, lex, after, Tok, tok, tokensFrom}
-use Rattle.grammar.specs.Machine.{Rec, done, State, items, names, values, wants, config, rec, loopEnd, atItem, loopEnds, atValue, noMoreNames, atName, atWant, move, follow, run}
+use Rattle.grammar.specs.Tokens.{inBlock, inFrame, lexIn, lex, after, Tok, tok, tokensFrom, headWhy}
+use Rattle.grammar.specs.Machine.{Rec, done, State, items, names, values, wants, config, rec, loopEnd, atItem, loopEnds, atValue, noMoreNames, atName, atWant, move, follow, run, reason}
 use Rattle.grammar.proofs.Advance.{Whole, advance}
+use Rattle.grammar.proofs.Descent.{behindItem, any-detail}
 use Rattle.written.proofs.Lexing.{modeOf}
 use Rattle.round_trip.proofs.Lines.{Line, line, ending, render, recsAt, Where, at-items, at-names, at-values, at-value}
 
@@ -77,46 +78,45 @@ first-token (looped {f} {es} e w r n) o = record { t = _; ts = _; reads = pass f
 first-token (opened {es} e w r n) o = record { t = _; ts = _; reads = pass false w (render es) save o r; begins = by-save e }
 first-token (shut {es} e w r n) o = record { t = _; ts = _; reads = pass true w (render es) save o r; begins = by-save e }
 
--- a loop's end has no token: the next one ends it, whatever a 7 there would say
-any-detail : {e : Bool} {c : Class} (d : ℕ) (fr : Option ℕ) (out : List Rec) (t : Tok) → Begins e c → atItem d fr out c t ≡ atItem 0 fr out c t
-unfolding atItem
-any-detail d fr out t by-tag = refl
-any-detail d fr out t (by-loop e) = refl
-any-detail d none out t (by-save e) = refl
-any-detail d (some a) out t (by-save e) = refl
-any-detail d none out t (by-end e) = refl
-any-detail d (some a) out t (by-end e) = refl
+-- a loop's end has no token: the next one ends it
+ends-loop : (a n j : ℕ) (fr : Option ℕ) (out held : List Rec) (t : Tok) (ts : List Tok) → j % n ≡ 0
+    → loopEnds a n j fr out held t ≡ atItem (behindItem fr true (t ∷ ts)) fr (out ++ held ++ (loopEnd ∷ [])) (t .class) t
+unfolding loopEnds behindItem headWhy reason
+ends-loop a n j fr out held t ts z = rw (eq-eqb (j % n) 0 z)
 
-ends-loop : (e : Bool) (a n j : ℕ) (fr : Option ℕ) (out held : List Rec) (t : Tok) → Begins e (t .class) → j % n ≡ 0 → loopEnds a n j fr out held t ≡ atItem 0 fr (out ++ held ++ (loopEnd ∷ [])) (t .class) t
-unfolding loopEnds
-ends-loop e a n j fr out held t b z = rw (eq-eqb (j % n) 0 z) (any-detail _ fr (out ++ held ++ (loopEnd ∷ [])) t b)
-
-values-end : {e : Bool} {c : Class} (a n j : ℕ) (fr : Option ℕ) (out held : List Rec) (t : Tok) → Begins e c → t .class ≡ c → j % n ≡ 0 → atValue a n j fr out held c t ≡ atItem 0 fr (out ++ held ++ (loopEnd ∷ [])) (t .class) t
+values-end : {e : Bool} {c : Class} (a n j : ℕ) (fr : Option ℕ) (out held : List Rec) (t : Tok) (ts : List Tok) → Begins e c → j % n ≡ 0
+    → atValue a n j fr out held c t ≡ atItem (behindItem fr true (t ∷ ts)) fr (out ++ held ++ (loopEnd ∷ [])) (t .class) t
 unfolding atValue
-values-end a n j fr out held t by-tag q z = ends-loop false a n j fr out held t (rw q by-tag) z
-values-end a n j fr out held t (by-loop e) q z = ends-loop e a n j fr out held t (rw q (by-loop e)) z
-values-end a n j fr out held t (by-save e) q z = ends-loop e a n j fr out held t (rw q (by-save e)) z
-values-end a n j fr out held t (by-end e) q z = ends-loop e a n j fr out held t (rw q (by-end e)) z
+values-end a n j fr out held t ts by-tag z = ends-loop a n j fr out held t ts z
+values-end a n j fr out held t ts (by-loop e) z = ends-loop a n j fr out held t ts z
+values-end a n j fr out held t ts (by-save e) z = ends-loop a n j fr out held t ts z
+values-end a n j fr out held t ts (by-end e) z = ends-loop a n j fr out held t ts z
 
-names-end : {c : Class} (a n : ℕ) (fr : Option ℕ) (out held : List Rec) (t : Tok) → Begins true c → t .class ≡ c → atName a (suc n) fr out held c t ≡ atItem 0 fr (out ++ held ++ (loopEnd ∷ [])) (t .class) t
+names-end : {c : Class} (a n : ℕ) (fr : Option ℕ) (out held : List Rec) (t : Tok) (ts : List Tok) → Begins true c → t .class ≡ c
+    → atName a (suc n) fr out held c t ≡ atItem (behindItem fr true (t ∷ ts)) fr (out ++ held ++ (loopEnd ∷ [])) (t .class) t
 unfolding atName noMoreNames
-names-end a n fr out held t (by-loop e) q = ap (λ c. atValue a (suc n) 0 fr out held c t) q ∙ values-end a (suc n) 0 fr out held t (by-loop e) q (zero-mod (suc n))
-names-end a n fr out held t (by-save e) q = ap (λ c. atValue a (suc n) 0 fr out held c t) q ∙ values-end a (suc n) 0 fr out held t (by-save e) q (zero-mod (suc n))
-names-end a n fr out held t (by-end e) q = ap (λ c. atValue a (suc n) 0 fr out held c t) q ∙ values-end a (suc n) 0 fr out held t (by-end e) q (zero-mod (suc n))
+names-end a n fr out held t ts (by-loop e) q = ap (λ c. atValue a (suc n) 0 fr out held c t) q ∙ values-end a (suc n) 0 fr out held t ts (by-loop e) (zero-mod (suc n))
+names-end a n fr out held t ts (by-save e) q = ap (λ c. atValue a (suc n) 0 fr out held c t) q ∙ values-end a (suc n) 0 fr out held t ts (by-save e) (zero-mod (suc n))
+names-end a n fr out held t ts (by-end e) q = ap (λ c. atValue a (suc n) 0 fr out held c t) q ∙ values-end a (suc n) 0 fr out held t ts (by-end e) (zero-mod (suc n))
 
-values-wait : {f e : Bool} {es : List Line} → Nested f (at-items e) es → (o a n j : ℕ) (fr : Option ℕ) (out held : List Rec) → j % n ≡ 0
-    → run (tokensFrom (render es) 0 (modeOf f) o) (config (values a n j) fr out held) ≡ run (tokensFrom (render es) 0 (modeOf f) o) (config (items 0) fr (out ++ held ++ (loopEnd ∷ [])) [])
+-- what is read behind the loop is what is read where its list has ended
+values-wait : {f e : Bool} {es : List Line} → Nested f (at-items e) es → (o a n j : ℕ) (fr : Option ℕ) (out held rs : List Rec) → j % n ≡ 0
+    → run (tokensFrom (render es) 0 (modeOf f) o) (config (items 0) fr (out ++ held ++ (loopEnd ∷ [])) []) ≡ done rs
+    → run (tokensFrom (render es) 0 (modeOf f) o) (config (values a n j) fr out held) ≡ done rs
 unfolding run move config
-values-wait d o a n j fr out held z =
+values-wait {f} {es = es} d o a n j fr out held rs z h =
     let x = first-token d o in
-    rw (x .reads) (ap (λ m. follow m (λ c. run (x .ts) c)) (values-end a n j fr out held (x .t) (x .begins) refl z))
+    let y = any-detail 0 (behindItem fr true (x .t ∷ x .ts)) fr (x .t ∷ x .ts) (out ++ held ++ (loopEnd ∷ [])) rs (rw (x .reads) at h) in
+    rw (x .reads) (ap (λ m. follow m (λ c. run (x .ts) c)) (values-end a n j fr out held (x .t) (x .ts) (x .begins) z) ∙ y)
 
-names-wait : {f : Bool} {es : List Line} → Nested f (at-items true) es → (o a n : ℕ) (fr : Option ℕ) (out held : List Rec)
-    → run (tokensFrom (render es) 0 (modeOf f) o) (config (names a (suc n)) fr out held) ≡ run (tokensFrom (render es) 0 (modeOf f) o) (config (items 0) fr (out ++ held ++ (loopEnd ∷ [])) [])
+names-wait : {f : Bool} {es : List Line} → Nested f (at-items true) es → (o a n : ℕ) (fr : Option ℕ) (out held rs : List Rec)
+    → run (tokensFrom (render es) 0 (modeOf f) o) (config (items 0) fr (out ++ held ++ (loopEnd ∷ [])) []) ≡ done rs
+    → run (tokensFrom (render es) 0 (modeOf f) o) (config (names a (suc n)) fr out held) ≡ done rs
 unfolding run move config
-names-wait d o a n fr out held =
+names-wait {f} {es} d o a n fr out held rs h =
     let x = first-token d o in
-    rw (x .reads) (ap (λ m. follow m (λ c. run (x .ts) c)) (names-end a n fr out held (x .t) (x .begins) refl))
+    let y = any-detail 0 (behindItem fr true (x .t ∷ x .ts)) fr (x .t ∷ x .ts) (out ++ held ++ (loopEnd ∷ [])) rs (rw (x .reads) at h) in
+    rw (x .reads) (ap (λ m. follow m (λ c. run (x .ts) c)) (names-end a n fr out held (x .t) (x .ts) (x .begins) refl) ∙ y)
 
 pub trip : {f : Bool} {w : Where} {es : List Line} → Nested f w es → (o a fo : ℕ) (out held : List Rec) → Held w held
     → run (tokensFrom (render es) 0 (modeOf f) o) (config (stateOf w a) (frameOf f fo) out held) ≡ done (out ++ held ++ recsAt o es)
@@ -127,8 +127,8 @@ trip (valued {f} {es} k w r n) o a fo out held h = rw (pass f w (render es) (val
 trip (looped {f} {es} e w r n) o a fo out held h = rw (pass f w (render es) loop o r, h) (trip n (suc (o + length w)) o fo out _ tt ∙ ap done (simp (append-assoc, append-nil)))
 trip (named {f} {es} n w r d) o a fo out held h = rw (pass f w (render es) tag o r) (trip d (suc (o + length w)) a fo out _ tt ∙ ap done (simp append-assoc))
 trip (first-value {f} {es} n k w r d) o a fo out held h = rw (pass f w (render es) (value k) o r) (trip d (suc (o + length w)) a fo out _ tt ∙ ap done (simp append-assoc))
-trip (no-rows {f} n d) o a fo out held h = names-wait d o a n (frameOf f fo) out held ∙ trip d o a fo _ [] refl ∙ ap done (simp (append-assoc, append-nil))
+trip (no-rows {f} n d) o a fo out held h = names-wait d o a n (frameOf f fo) out held _ (trip d o a fo _ [] refl) ∙ ap done (simp (append-assoc, append-nil))
 trip (next-value {f} {es} n j k w r d) o a fo out held h = rw (pass f w (render es) (value k) o r) (trip d (suc (o + length w)) a fo out _ tt ∙ ap done (simp append-assoc))
-trip (rows {f} n j z d) o a fo out held h = values-wait d o a n j (frameOf f fo) out held z ∙ trip d o a fo _ [] refl ∙ ap done (simp (append-assoc, append-nil))
+trip (rows {f} n j z d) o a fo out held h = values-wait d o a n j (frameOf f fo) out held _ z (trip d o a fo _ [] refl) ∙ ap done (simp (append-assoc, append-nil))
 trip (opened {es} e w r d) o a fo out held h = rw (pass false w (render es) save o r, h) (trip d (suc (o + length w)) a o _ [] refl ∙ ap done (simp (append-assoc, append-nil)))
 trip (shut {es} e w r d) o a fo out held h = rw (pass true w (render es) save o r, h) (trip d (suc (o + length w)) a fo _ [] refl ∙ ap done (simp (append-assoc, append-nil)))

@@ -9,8 +9,8 @@ use types.Run.{OneOf}
 use Rattle.values.specs.declared.Found.{Found}
 use Rattle.values.specs.declared.Found.the-variants.{Value, Over, Missing}
 use Rattle.values.specs.Values.{Class, block, loop, save, tag, value, overLimit, nothing}
-use Rattle.values.specs.Answers.{whyNot}
-use Rattle.values.specs.Finding.{wanted, whyFound}
+use Rattle.values.specs.Answers.{whyNot, wanted}
+use Rattle.values.specs.Finding.{whyFound}
 use Rattle.values.proofs.Found.{the-type as found-type}
 
 apart : _≡_ {A = ℕ} 0 1 → ⊥

@@ -26,8 +26,8 @@ use Rattle.values.specs.declared.Value.the-variants.{Token, Number, Over
 use Rattle.values.specs.declared.Found.{Found}
 use Rattle.values.specs.declared.Found.the-variants.{Value, Over, Missing}
 use Rattle.values.specs.Values.{atEnd, reservedWord, noStart, Class, block, loop, save, tag, value, overLimit, nothing, Lexed, lexed, lexValue, lexAsValue}
-use Rattle.values.specs.Answers.{answer, valueAnswer, valueAt}
-use Rattle.values.specs.Finding.{wanted, foundAt, kindOfNumber, meant}
+use Rattle.values.specs.Answers.{wanted, meant, valueAnswer, valueAt}
+use Rattle.values.specs.Finding.{foundAt, kindOfNumber}
 use Rattle.values.proofs.Views.{Read, missing, point, unknown, bare, quote, double, multi, number, over, view}
 
 -- What is found, and the token that stands there
@@ -224,20 +224,9 @@ found-number s o k n e l =
 
 -- What is found says what the value there is: a number has its meaning, other values are what they are
 
-answered : (s : List ℕ) (c : Class) (n : ℕ) (f : Found) → wanted c n ≡ f → answer s c n ≡ meant s f
-unfolding answer meant wanted
-answered s (value k) n f e = rw (← e)
-answered s overLimit n f e = rw (← e)
-answered s block n f e = rw (← e)
-answered s loop n f e = rw (← e)
-answered s save n f e = rw (← e)
-answered s tag n f e = rw (← e)
-answered s (nothing w) n f e = rw (← e)
-
--- the value with its meaning
 pub value-found : (s : List ℕ) (o : ℕ) (f : Found) → foundAt s o ≡ f → valueAt s o ≡ meant (drop o s) f
 unfolding foundAt valueAt valueAnswer
-value-found s o f e = answered (drop o s) (lexAsValue (drop o s) .class) (lexAsValue (drop o s) .size) f e
+value-found s o f e = ap (meant (drop o s)) e
 
 module _ (s : List ℕ) (o : ℕ) where
   pub value-token : (k n : ℕ) → foundAt s o ≡ Value k n → k < 14 → Token k n ≡ valueAt s o

@@ -30,8 +30,8 @@ use Rattle.values.specs.declared.Found.the-variants.{Value, Over, Missin
 use Rattle.values.specs.declared.Why.{Why}
 use Rattle.values.specs.declared.Why.the-variants.{AtEnd, Reserved, NoStart, OpenQuote, OpenField}
 use Rattle.values.specs.Values.{Reason, openQuote, openField, value, overLimit, Lexed, lexed, numberOr, wordOr, closed, lexValue, lexAsValue}
-use Rattle.values.specs.Answers.{whyOf}
-use Rattle.values.specs.Finding.{kindOfNumber, wanted, foundAt, packedOf}
+use Rattle.values.specs.Answers.{whyOf, whyNot, wanted}
+use Rattle.values.specs.Finding.{kindOfNumber, foundAt, packedOf}
 use Rattle.values.specs.Pieces.{judgedOr, numberAt, wordAt, pointAt, between, quoteAt, fieldAt}
 
 -- what a number found says
@@ -106,17 +106,17 @@ word-piece s x =
     ∙ ap (judgedOr (foundOf x) (word s)) (sym (number-judged w))
 
 closed-piece : (k : ℕ) (y : Reason) (x : Option ℕ) → foundOf (closed k y x) ≡ between k (whyOf y) x
-unfolding closed lexed between wanted
+unfolding closed lexed between wanted whyNot
 closed-piece k y none = refl
 closed-piece k y (some n) = refl
 
 -- at the end, and where a reserved word stands
 pub found-end : (s : List ℕ) (o : ℕ) → length s ≤ o → foundAt s o ≡ Missing AtEnd
-unfolding foundAt wanted lexAsValue lexed whyOf
+unfolding foundAt wanted lexAsValue lexed whyNot whyOf
 found-end s o h = rw (drop-of-length-le s h)
 
 pub found-reserved : (s : List ℕ) (o : ℕ) → o < length s → reserved (drop o s) ≡ true → foundAt s o ≡ Missing Reserved
-unfolding foundAt wanted lexAsValue lexed whyOf
+unfolding foundAt wanted lexAsValue lexed whyNot whyOf
 found-reserved s o h r =
     let e : drop o s ≡ getD s o 0 ∷ drop (suc o) s = drop-cons s o 0 h in
     rw (e, rw e at r)
@@ -179,7 +179,7 @@ module _ (s : List ℕ) (o : ℕ) (h : o < length s) (r : reserved (drop o s) �
         ∙ ap (λ (n : ℕ). numberAt (Value 10 n) s o (wordEnd s o)) (sym (word-size s o))
 
     pub found-none : isOrdinary (getD s o 0) ≡ false → foundAt s o ≡ Missing NoStart
-    unfolding lexValue lexed is whyOf wanted
+    unfolding lexValue lexed is whyNot whyOf wanted
     found-none f = by-byte ∙ rw (ne-eqb _ _ n46, ne-eqb _ _ n63, ne-eqb _ _ n39, ne-eqb _ _ n34, ne-eqb _ _ n59, f)
 
 -- a word that starts as no number does is bare text

@@ -1,4 +1,4 @@
--- The code's answer to 'which value stands here'. Assumes nothing.
+-- What stands where a value is wanted: one, by its kind and length; a number over a digit limit; or why there is none. And the same with its meaning. Assumes nothing.
 use Prim.Native.Nat.{ℕ}
 use mathlib.Core.Bool.{Bool, cond, _||_}
 use mathlib.Core.List.{List}
@@ -6,8 +6,10 @@ use lib.Dec.{eqb}
 use lib.ListN.{take, drop}
 use Rattle.numbers.specs.Parts.{parts}
 use Rattle.numbers.specs.Meaning.{meaning}
-use Rattle.values.specs.declared.Value.{Value}
-use Rattle.values.specs.declared.Value.the-variants.{Token, Number, Over, Missing}
+use Rattle.values.specs.declared.Value.{Value as Answer}
+use Rattle.values.specs.declared.Value.the-variants.{Token, Number, Over as OverAnswer, Missing as MissingAnswer}
+use Rattle.values.specs.declared.Found.{Found}
+use Rattle.values.specs.declared.Found.the-variants.{Value, Over, Missing}
 use Rattle.values.specs.declared.Why.{Why}
 use Rattle.values.specs.declared.Why.the-variants.{AtEnd, Reserved, NoStart, OpenQuote, OpenField}
 use Rattle.values.specs.Values.{Reason, atEnd, reservedWord, noStart, openQuote, openField, Class, block, loop, save, tag, value, overLimit, nothing, Lexed, lexAsValue}
@@ -29,7 +31,8 @@ whyNot save = Reserved
 whyNot (value k) = AtEnd
 whyNot overLimit = AtEnd
 
--- the reason's number (document 02, One): the text ends, a reserved word, a byte that starts no value, a quote, a text field that is not closed
+-- the reason's number (document 02, One): the text ends; a reserved word; a byte that starts no value; a quote, a text field that is not
+-- closed
 abbrev pub numberOfWhy : Why → ℕ
 numberOfWhy AtEnd = 1
 numberOfWhy Reserved = 2
@@ -37,19 +40,26 @@ numberOfWhy NoStart = 3
 numberOfWhy OpenQuote = 4
 numberOfWhy OpenField = 5
 
--- a token where a value is wanted; numbers come with their meaning
-unfoldable pub answer : List ℕ → Class → ℕ → Value
-answer s (value k) n = cond (eqb k 14 || eqb k 15) (Number (meaning (parts (take n s))) n) (Token k n)
-answer s overLimit n = Over
-answer s block n = Missing Reserved
-answer s loop n = Missing Reserved
-answer s save n = Missing Reserved
-answer s tag n = Missing NoStart
-answer s (nothing w) n = Missing (whyOf w)
+-- a token where a value is wanted
+unfoldable pub wanted : Class → ℕ → Found
+wanted (value k) n = Value k n
+wanted overLimit n = Over
+wanted block n = Missing (whyNot block)
+wanted loop n = Missing (whyNot loop)
+wanted save n = Missing (whyNot save)
+wanted tag n = Missing (whyNot tag)
+wanted (nothing w) n = Missing (whyNot (nothing w))
 
-unfoldable pub valueAnswer : List ℕ → Value
-valueAnswer s = answer s (lexAsValue s .class) (lexAsValue s .size)
+-- and as a value with its meaning: the first bytes of s are its token
+unfoldable pub meant : List ℕ → Found → Answer
+meant s (Value k n) = cond (eqb k 14 || eqb k 15) (Number (meaning (parts (take n s))) n) (Token k n)
+meant s Over = OverAnswer
+meant s (Missing w) = MissingAnswer w
+
+-- the value at the start of s
+unfoldable pub valueAnswer : List ℕ → Answer
+valueAnswer s = meant s (wanted (lexAsValue s .class) (lexAsValue s .size))
 
 -- the value at offset o
-unfoldable pub valueAt : List ℕ → ℕ → Value
+unfoldable pub valueAt : List ℕ → ℕ → Answer
 valueAt s o = valueAnswer (drop o s)

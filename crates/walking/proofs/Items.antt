@@ -33,7 +33,7 @@ use Rattle.grammar.proofs.Descent.{NoName, name-or-not, names-more, names-none}
 use Rattle.grammar.proofs.Offsets.{tokens-gap, Met, met-loop, met-tag, first, both, both-spot}
 use Rattle.items.proofs.Items.{head-at, item-none}
 use Rattle.items.proofs.Lists.{met-value}
-use Rattle.values.specs.Finding.{wanted}
+use Rattle.values.specs.Answers.{wanted}
 use Rattle.items.proofs.Wanted.{found-wanted}
 use Rattle.items.proofs.Passes.{names-alike}
 use Rattle.putting.specs.declared.Cursor.{Cursor}

@@ -29,7 +29,7 @@ use Rattle.deciding.specs.Frames.{left, modeOf, blockAt, inFrameOf}
 use Rattle.grammar.specs.Reading.{decided}
 use Rattle.grammar.proofs.Descent.{itemRun, behindItem, behind-frame}
 use Rattle.grammar.proofs.Offsets.{Met, met-open, met-close, met-data, first, both, both-spot}
-use Rattle.values.specs.Finding.{wanted}
+use Rattle.values.specs.Answers.{wanted}
 use Rattle.items.proofs.Wanted.{found-wanted}
 use Rattle.items.proofs.Passes.{AlikeItem, alike-taken, alike-ragged, alike-alone, alike-absent, alike-unnamed, alike-over, item-alike}
 use Rattle.deciding.proofs.Onward.{DroppedAt, PassedInside, item-inside, frame-item, block-item, left-from, plain, open-reads, left-gap, left-read, open-answer, close-answer, begin-reads, end-answer, failed-stops, no-data, decided-from}

@@ -30,7 +30,7 @@ unfoldable pub isDone : Answer → Bool
 isDone (done rs) = true
 isDone (refused n o d) = false
 
--- the records from an offset on, in the block or in the frame that opened at an offset. What is read does not depend on the detail that a 7 would have
+-- the records from an offset on, in the block or in the frame that opened at an offset; they don't depend on what a 7 would say
 abbrev pub recsLeft : Option ℕ → List ℕ → ℕ → List Rec
 recsLeft f s o = answerRecs (left 0 f s o [])
 
