@@ -12,7 +12,7 @@ use Rattle.text.specs.Bytes.{is, isSpace}
 use Rattle.text.proofs.Bools.{or-cases}
 use Rattle.gaps.specs.Gaps.{gap}
 use Rattle.gaps.proofs.Starts.{gap-space-first, gap-no-first}
-use Rattle.keywords.specs.Keywords.{lower}
+use Rattle.folding.specs.Folding.{lower}
 use Rattle.keywords.proofs.Starts.{no-keyword}
 use Rattle.values.specs.Values.{nothing, noStart, Lexed, lexed, lexValue}
 use Rattle.values.proofs.Tokens.{value-no-start}

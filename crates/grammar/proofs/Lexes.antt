@@ -7,7 +7,8 @@ use mathlib.Core.Logic.{_⊎_, ⊎-elim}
 use borrow.Author.Tests.{eqb-true}
 use Rattle.text.specs.Bytes.{is}
 use Rattle.words.specs.Words.{word}
-use Rattle.keywords.specs.Keywords.{lower, starts, keyData, keyGlobal, keyLoop, keySave, keyStop}
+use Rattle.folding.specs.Folding.{lower}
+use Rattle.keywords.specs.Keywords.{starts, keyData, keyGlobal, keyLoop, keySave, keyStop}
 use Rattle.keywords.proofs.Starts.{NoKeyword, no-keyword, loop-alone, save-alone, save-no-loop}
 use Rattle.values.specs.Values.{Class, block, loop, save, tag, value, overLimit, nothing, Lexed, lexed, lexValue}
 use Rattle.values.proofs.Tokens.{value-class}

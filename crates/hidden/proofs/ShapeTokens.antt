@@ -9,7 +9,8 @@ use Rattle.text.specs.Bytes.{isDigit, is, isAscii}
 use Rattle.gaps.specs.Gaps.{gap}
 use Rattle.places.specs.Places.{placeAt}
 use Rattle.words.specs.Words.{word}
-use Rattle.keywords.specs.Keywords.{lower, starts, keyData, keyGlobal, keyLoop, keySave, keyStop}
+use Rattle.folding.specs.Folding.{lower}
+use Rattle.keywords.specs.Keywords.{starts, keyData, keyGlobal, keyLoop, keySave, keyStop}
 use Rattle.numbers.specs.Parts.{parts}
 use Rattle.values.specs.Values.{Lexed, numberOr, wordOr, lexValue}
 use Rattle.grammar.specs.Tokens.{Mode, before, inBlock, inFrame, saveSize, lexIn, lex, step, tokensFrom, tokens}

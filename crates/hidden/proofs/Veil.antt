@@ -16,7 +16,8 @@ use Rattle.gaps.specs.Gaps.{gapByte, gapThen, gapIn, gap}
 use Rattle.text.proofs.Runs.{span-le}
 use Rattle.text.proofs.Bools.{and-l, and-r, or-l, or-r}
 use Rattle.words.specs.Words.{isOrdinary, inWord, word}
-use Rattle.keywords.specs.Keywords.{lower, starts, keyData, keyGlobal, keyLoop, keySave, keyStop}
+use Rattle.folding.specs.Folding.{lower}
+use Rattle.keywords.specs.Keywords.{starts, keyData, keyGlobal, keyLoop, keySave, keyStop}
 use Rattle.quotes.specs.Quotes.{more, quoted, fieldIn, field}
 use Rattle.numbers.specs.Parts.{Parts, parts, isNumber, within}
 use Rattle.numbers.proofs.Made.{all, others, number-made}

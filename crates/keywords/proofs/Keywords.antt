@@ -14,7 +14,8 @@ use Rattle.text.proofs.Bools.{and-l, and-r}
 use Rattle.text.proofs.Ranges.{allBelow, passes, fails}
 use Rattle.words.specs.Words.{inWord, word}
 use Rattle.words.proofs.Words.{word-next}
-use Rattle.keywords.specs.Keywords.{lower, starts, startsAt, keyData, keyGlobal, keyLoop, keySave, keyStop, reserved}
+use Rattle.folding.specs.Folding.{lower}
+use Rattle.keywords.specs.Keywords.{starts, startsAt, keyData, keyGlobal, keyLoop, keySave, keyStop, reserved}
 
 -- letter by letter: what is left to compare from letter i of k on and from offset o of s on
 unfoldable pub rest : List ℕ → List ℕ → ℕ → ℕ → Bool

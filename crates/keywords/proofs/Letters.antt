@@ -10,7 +10,8 @@ use lib.ListN.{length, drop, getD}
 use Rattle.text.specs.Bytes.{is}
 use Rattle.text.proofs.Bools.{and-l, and-r, or-l, or-r}
 use Rattle.text.proofs.Ranges.{allBelow, passes}
-use Rattle.keywords.specs.Keywords.{lower, reserved, isFreeLetter}
+use Rattle.folding.specs.Folding.{lower}
+use Rattle.keywords.specs.Keywords.{reserved, isFreeLetter}
 use Rattle.keywords.proofs.Keywords.{reserved-none}
 
 lower-range : (b : ℕ) → 97 ≤ lower b → lower b ≤ 122 → (65 ≤ b) × (b ≤ 122)

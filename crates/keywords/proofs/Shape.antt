@@ -6,7 +6,8 @@ use mathlib.Core.List.{List, [], _∷_, map}
 use Rattle.text.specs.Bytes.{is}
 use Rattle.text.proofs.Bools.{and-l, and-r}
 use Rattle.text.proofs.Shape.{σ, flat, blind}
-use Rattle.keywords.specs.Keywords.{lower, starts}
+use Rattle.folding.specs.Folding.{lower}
+use Rattle.keywords.specs.Keywords.{starts}
 
 -- a keyword without digits
 unfoldable pub noDigit : List ℕ → Bool

@@ -9,7 +9,8 @@ use lib.ListN.{drop}
 use Rattle.text.specs.Bytes.{is}
 use Rattle.text.proofs.Bools.{and-l, and-r}
 use Rattle.words.specs.Words.{word}
-use Rattle.keywords.specs.Keywords.{lower, starts, startsAt, keyData, keyGlobal, keyLoop, keySave, keyStop, reserved}
+use Rattle.folding.specs.Folding.{lower}
+use Rattle.keywords.specs.Keywords.{starts, startsAt, keyData, keyGlobal, keyLoop, keySave, keyStop, reserved}
 use Rattle.keywords.proofs.Keywords.{data-word, save-word}
 
 -- at an offset means at the start of the rest

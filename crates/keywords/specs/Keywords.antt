@@ -1,15 +1,12 @@
 -- Keywords (document 01): they match in any letter case, as prefixes. Assumes nothing.
-use Prim.Native.Nat.{ℕ, _+_}
-use mathlib.Core.Bool.{Bool, true, false, cond, not, _&&_, _||_}
+use Prim.Native.Nat.{ℕ}
+use mathlib.Core.Bool.{Bool, true, false, not, _&&_, _||_}
 use Prim.Native.Char.{code}
 use mathlib.Core.List.{List, [], _∷_}
 use lib.Dec.{leb}
 use lib.ListN.{drop}
 use Rattle.text.specs.Bytes.{bytes, is}
-
--- A to Z taken as a to z
-unfoldable pub lower : ℕ → ℕ
-lower b = cond (leb (code "A") b && leb b (code "Z")) (b + 32) b
+use Rattle.folding.specs.Folding.{lower}
 
 -- s starts with the keyword k, which is written in lower case, in any letter case
 unfoldable pub starts : List ℕ → List ℕ → Bool

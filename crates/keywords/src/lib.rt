@@ -2,23 +2,7 @@
 ghost use mathlib.Core.Path.{_≡_};
 ghost use Prim.Native.Nat.{_<_};
 ghost use lib.ListN.{drop};
-ghost use Rattle.keywords.specs.Keywords.{lower, startsAt, keyData, keyLoop, keySave, reserved, isFreeLetter};
-
-// From a capital letter to its small one.
-const TO_SMALL: u8 = b'a' - b'A';
-
-// A to Z as a to z.
-fn to_lower(b: u8) -> u8
-    ensures { λ r. ⌜ r ≡ lower b ⌝ }
-{
-    if b < b'A' {
-        return b;
-    }
-    if b'Z' < b {
-        return b;
-    }
-    b + TO_SMALL
-}
+ghost use Rattle.keywords.specs.Keywords.{startsAt, keyData, keyLoop, keySave, reserved, isFreeLetter};
 
 // Whether a keyword, written in lower case, stands at an offset in any letter case.
 pub fn start_with(s: &[u8], at: usize, key: &[u8]) -> bool
@@ -30,7 +14,7 @@ pub fn start_with(s: &[u8], at: usize, key: &[u8]) -> bool
         if s.len() <= here {
             return false;
         }
-        if to_lower(s[here]) != key[i] {
+        if folding::to_lower(s[here]) != key[i] {
             return false;
         }
         here += 1;
@@ -71,7 +55,7 @@ pub fn is_reserved(s: &[u8], at: usize) -> bool
     if b < b'D' {
         return false;
     }
-    let first = to_lower(b);
+    let first = folding::to_lower(b);
     if first == b'd' {
         return at_data(s, at);
     }
@@ -94,7 +78,7 @@ pub fn is_reserved(s: &[u8], at: usize) -> bool
 pub fn is_free_letter(b: u8) -> bool
     ensures { λ r. ⌜ r ≡ isFreeLetter b ⌝ }
 {
-    let letter = to_lower(b);
+    let letter = folding::to_lower(b);
     if letter < b'a' {
         return false;
     }

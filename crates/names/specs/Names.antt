@@ -1,9 +1,10 @@
 -- The names of a store: those of kinds 4 and 6, each with its record's number and its scope (the block's own tags, or one frame's). Records count from 0 over the
 -- whole store. Assumes nothing.
 use Prim.Native.Nat.{ℕ, zero, suc}
-use mathlib.Core.Bool.{Bool, true, false, cond, _&&_, _||_}
+use mathlib.Core.Bool.{Bool, cond, _&&_, _||_}
 use mathlib.Core.List.{List, [], _∷_}
 use lib.Dec.{eqb}
+use Rattle.folding.specs.Folding.{sameName}
 use Rattle.entries.specs.declared.Entry.{Entry}
 use Rattle.entries.specs.declared.Entry.the-variants.{Record, Nothing}
 use Rattle.kinds.specs.Kinds.{numberOf}
@@ -16,13 +17,7 @@ pub record Name : Type 0 where
   pub scope : ℕ
   pub bytes : List ℕ
 
--- two names are the same, byte for byte
-unfoldable pub sameName : List ℕ → List ℕ → Bool
-sameName [] [] = true
-sameName [] (c ∷ d) = false
-sameName (b ∷ c) [] = false
-sameName (b ∷ c) (b′ ∷ d) = eqb b b′ && sameName c d
-
+-- the same name in the same scope
 unfoldable pub sameBoth : Name → Name → Bool
 sameBoth x y = eqb (x .scope) (y .scope) && sameName (x .bytes) (y .bytes)
 

@@ -1,13 +1,10 @@
 -- A name as a part of the area that lies within it. Assumes nothing.
 use Prim.Native.Nat.{ℕ, _+_, _≤_}
 use mathlib.Core.List.{List}
-use lib.ListN.{length, take, drop}
+use lib.ListN.{length}
+use Rattle.text.specs.Parts.{part}
 use Rattle.names.specs.declared.Named.{Named}
 use Rattle.names.specs.Names.{Name}
-
--- a part of the area
-unfoldable pub part : List ℕ → ℕ → ℕ → List ℕ
-part ar from size = take size (drop from ar)
 
 -- the name that stands in a part of the area
 abbrev pub nameOf : List ℕ → Named → Name

@@ -2,10 +2,11 @@
 ghost use mathlib.Core.Path.{_≡_};
 ghost use Prim.Native.Nat.{ℕ, _+_, _≤_};
 ghost use lib.ListN.{length};
-ghost use Rattle.names.specs.Names.{sameName, sameBoth, scopeAfter, isNameKind};
+ghost use Rattle.text.specs.Parts.{part};
+ghost use Rattle.names.specs.Names.{sameBoth, scopeAfter, isNameKind};
 ghost use Rattle.names.specs.Order.{lessName};
 ghost use Rattle.names.specs.Numbers.{mix as mixOf, hashOf};
-ghost use Rattle.names.specs.Parts.{part, nameOf, Inside};
+ghost use Rattle.names.specs.Parts.{nameOf, Inside};
 
 // A name: its record's offset and number, its scope, and the part of the area that holds it.
 pub struct Named {
@@ -16,24 +17,6 @@ pub struct Named {
     pub size: usize,
 }
 
-// Whether two parts of the area are the same name: the one place that decides when names are equal.
-pub fn same_name(area: &[u8], a: usize, n: usize, b: usize, m: usize) -> bool
-    requires { ⌜ (a + n ≤ length (now area)) × (b + m ≤ length (now area)) ⌝ }
-    ensures { λ r. ⌜ r ≡ sameName (part (now (area .entry)) a n) (part (now (area .entry)) b m) ⌝ }
-{
-    if n != m {
-        return false;
-    }
-    let mut i = 0;
-    while i < n {
-        if area[a + i] != area[b + i] {
-            return false;
-        }
-        i += 1;
-    }
-    true
-}
-
 // Whether two names are the same in the same scope.
 pub fn same_both(area: &[u8], x: Named, y: Named) -> bool
     requires { ⌜ Inside (now area) x × Inside (now area) y ⌝ }
@@ -42,10 +25,10 @@ pub fn same_both(area: &[u8], x: Named, y: Named) -> bool
     if x.scope != y.scope {
         return false;
     }
-    same_name(area, x.from, x.size, y.from, y.size)
+    folding::same_name(area, x.from, x.size, area, y.from, y.size)
 }
 
-// Whether one part of the area comes before another: the shorter first, then by their bytes. Parts that are the same name stand alike to any other.
+// Whether one part of the area comes before another: the shorter first, then by their bytes, folded. Parts that are the same name stand alike to any other.
 pub fn is_before(area: &[u8], a: usize, n: usize, b: usize, m: usize) -> bool
     requires { ⌜ (a + n ≤ length (now area)) × (b + m ≤ length (now area)) ⌝ }
     ensures { λ r. ⌜ r ≡ lessName (part (now (area .entry)) a n) (part (now (area .entry)) b m) ⌝ }
@@ -55,8 +38,10 @@ pub fn is_before(area: &[u8], a: usize, n: usize, b: usize, m: usize) -> bool
     }
     let mut k = 0;
     while k < n {
-        if area[a + k] != area[b + k] {
-            return area[a + k] < area[b + k];
+        let x = folding::to_lower(area[a + k]);
+        let y = folding::to_lower(area[b + k]);
+        if x != y {
+            return x < y;
         }
         k += 1;
     }
@@ -103,7 +88,7 @@ pub fn hash_name(area: &[u8], x: Named) -> usize
     let mut h = x.scope;
     let mut i = 0;
     while i < size {
-        h = mix(h, area[from + i]);
+        h = mix(h, folding::to_lower(area[from + i]));
         i += 1;
     }
     mix(mix(h, 0), 0)

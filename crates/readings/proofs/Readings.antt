@@ -7,7 +7,8 @@ use Rattle.gaps.specs.Gaps.{gapByte, gapThen, gapIn, gap}
 use Rattle.places.specs.Places.{step as scanStep, scan, scanAt, placeAt}
 use Rattle.places.specs.Reports.{success, refusedAt, refusedBare, noRoom}
 use Rattle.words.specs.Words.{inWord, word, isOrdinary}
-use Rattle.keywords.specs.Keywords.{lower, starts, keyData, keyGlobal, keyLoop, keySave, keyStop, reserved}
+use Rattle.folding.specs.Folding.{lower}
+use Rattle.keywords.specs.Keywords.{starts, keyData, keyGlobal, keyLoop, keySave, keyStop, reserved}
 use Rattle.quotes.specs.Quotes.{more, quoted, fieldIn, field}
 use Rattle.numbers.specs.Parts.{cut, consGot, digits, sign, point, absent, signedDigits, isEmpty, exponent, close, bracket, parts, isNumber, within, minus}
 use Rattle.cuts.specs.Digits.{valueFrom, value}

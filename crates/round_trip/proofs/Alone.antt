@@ -12,7 +12,8 @@ use Rattle.text.specs.Bytes.{is, isAscii, isDigit, endsWord}
 use Rattle.text.specs.Runs.{span}
 use Rattle.text.proofs.Bools.{and-l, and-r, or-cases}
 use Rattle.words.specs.Words.{inWord, word}
-use Rattle.keywords.specs.Keywords.{lower, starts, keyData, keyLoop, keySave, keyGlobal, keyStop, reserved}
+use Rattle.folding.specs.Folding.{lower}
+use Rattle.keywords.specs.Keywords.{starts, keyData, keyLoop, keySave, keyGlobal, keyStop, reserved}
 use Rattle.numbers.specs.declared.Decimal.{Decimal}
 use Rattle.numbers.specs.Parts.{cut, consGot, digits, sign, point, absent, isEmpty, exponent, bracket, parts, isNumber}
 use Rattle.numbers.specs.Spelling.{renderNumber, Kept}

@@ -17,7 +17,8 @@ use Rattle.gaps.specs.Gaps.{gap, gapIn, gapByte, gapThen}
 use Rattle.text.specs.Runs.{span}
 use Rattle.places.specs.Reports.{success}
 use Rattle.text.proofs.Bools.{or-cases, and-l, and-r}
-use Rattle.keywords.specs.Keywords.{lower, starts, keyData}
+use Rattle.folding.specs.Folding.{lower}
+use Rattle.keywords.specs.Keywords.{starts, keyData}
 use Rattle.words.specs.Words.{inWord, word}
 use Rattle.values.specs.Values.{block, lexed}
 use Rattle.entries.specs.declared.Entry.{Entry}

@@ -13,7 +13,8 @@ use Rattle.names.specs.Names.{Name, names, sameBoth}
 use Rattle.names.specs.Parts.{nameOf}
 use Rattle.steps.specs.Steps.{first, Reached}
 use Rattle.names.proofs.Lists.{same-head}
-use Rattle.names.proofs.Same.{not-true, same-scope}
+use Rattle.text.proofs.Bools.{never-true}
+use Rattle.names.proofs.Same.{same-scope}
 use Rattle.steps.proofs.Steps.{Meets, reached-first, reached-next}
 use Rattle.windows.specs.Windows.{Ran}
 use Rattle.tables.proofs.Tables.{apart-at}
@@ -78,7 +79,7 @@ module _ (st ar : List ℕ) where
 
       by : (i j : ℕ) (x y : Name) (p q : List Name) → i < j → j < r .count → drop i (names st ar) ≡ x ∷ p → drop j (names st ar) ≡ y ∷ q → (x .scope ≡ 0 → ⊥) → (b : Bool) → ltb j (h .count) ≡ b → sameBoth x y ≡ false
       by i j x y p q l m d e z true o = f .apart i j x y p q l (ltb-true j (h .count) o) d e z
-      by i j x y p q l m d e z false o = not-true (sameBoth x y) (λ u. z (same-scope x y u ∙ w .all j y q (ltb-false j (h .count) o) m e))
+      by i j x y p q l m d e z false o = never-true (sameBoth x y) (λ u. z (same-scope x y u ∙ w .all j y q (ltb-false j (h .count) o) m e))
 
   -- a frame behind them
   pub framing-frame : (top s : ℕ) (h r : Spot) → Framing top h → top < s → Framed st ar s h r → Framing s r
@@ -98,7 +99,7 @@ module _ (st ar : List ℕ) where
           ltb i (h .count) ≡ a → sameBoth x y ≡ false
       by i j x y p q l m d e z true o a v = f .apart i j x y p q l (ltb-true j (h .count) o) d e z
       by i j x y p q l m d e z false o true v =
-          not-true (sameBoth x y)
+          never-true (sameBoth x y)
           (λ u. absurd (omega (arith, f .below i x p (ltb-true i (h .count) v) d, w .stretch .all j y q (ltb-false j (h .count) o) m e, same-scope x y u)))
       by i j x y p q l m d e z false o false v =
           apart-at (names st ar) s (h .count) (r .count) (r .count) (w .apart) i j x y p q (ltb-false i (h .count) v) (omega arith) l m d e (w .stretch .all i x p (ltb-false i (h .count) v) (omega arith) d)

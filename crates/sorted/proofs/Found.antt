@@ -7,10 +7,11 @@ use native.Mathlib.Omega.{arith}
 use borrow.Author.Tests.{lt-ltb, le-ltb, ltb-true}
 use lib.Dec.{ltb}
 use lib.ListN.{getD}
-use Rattle.names.specs.Names.{sameName}
+use Rattle.folding.specs.Folding.{sameName}
+use Rattle.folding.proofs.Same.{same-alike}
 use Rattle.names.specs.Order.{lessName}
 use Rattle.steps.specs.Steps.{heldAt}
-use Rattle.names.proofs.Same.{same-equal}
+use Rattle.names.proofs.Order.{less-alike}
 use Rattle.sorted.specs.Found.{passed, placeFrom, placeOf, foundAt, findIn}
 
 module _ (st ar t : List ℕ) (n : ℕ) (w : List ℕ) where
@@ -57,6 +58,17 @@ module _ (st ar t : List ℕ) (n : ℕ) (w : List ℕ) where
   unfolding findIn foundAt
   find-is at e u b r o l p q f g = rw (← o, lt-ltb at n l, ← p, ← q, ← f, g)
 
--- names that are the same are found at the same entry, or neither is found
-pub find-same : (st ar t : List ℕ) (n : ℕ) (u v : List ℕ) → sameName u v ≡ true → findIn st ar t n u ≡ findIn st ar t n v
-find-same st ar t n u v e = rw (same-equal u v e)
+-- names that are the same are found at the same entry, or neither is found: they stand alike to every entry
+module _ (st ar t : List ℕ) (n : ℕ) (u v : List ℕ) (e : sameName u v ≡ true) where
+  pass-same : (at half : ℕ) → passed st ar t n at half u ≡ passed st ar t n at half v
+  unfolding passed
+  pass-same at half = rw (less-alike (heldAt st ar (getD t (at + half) 0)) u v e)
+
+  place-same : (k at half : ℕ) → placeFrom st ar t n k at half u ≡ placeFrom st ar t n k at half v
+  unfolding placeFrom
+  place-same zero at half = refl
+  place-same (suc k) at half = place-same k (passed st ar t n at half u) (half / 2) ∙ rw (pass-same at half)
+
+  pub find-same : findIn st ar t n u ≡ findIn st ar t n v
+  unfolding findIn foundAt placeOf
+  find-same = rw (place-same 14 0 8191, same-alike (heldAt st ar (getD t (placeFrom st ar t n 14 0 8191 v) 0)) u v e)

@@ -5,7 +5,7 @@ use mathlib.Core.Bool.{Bool, cond}
 use mathlib.Core.List.{List}
 use lib.Dec.{ltb}
 use lib.ListN.{getD}
-use Rattle.names.specs.Names.{sameName}
+use Rattle.folding.specs.Folding.{sameName}
 use Rattle.names.specs.Order.{lessName}
 use Rattle.steps.specs.Steps.{heldAt}
 

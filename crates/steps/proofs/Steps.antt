@@ -22,7 +22,8 @@ use Rattle.entries.proofs.Walking.{rest-is, entries-first}
 use Rattle.contents.proofs.Kept.{content-bytes}
 use Rattle.names.specs.declared.Named.{Named}
 use Rattle.names.specs.Names.{Name, scopeAfter, isNameKind, namesFrom, names}
-use Rattle.names.specs.Parts.{part, nameOf, Inside}
+use Rattle.text.specs.Parts.{part}
+use Rattle.names.specs.Parts.{nameOf, Inside}
 use Rattle.names.proofs.Lists.{drop-next}
 use Rattle.steps.specs.declared.Spot.{Spot}
 use Rattle.steps.specs.declared.Next.{Next}

@@ -12,7 +12,8 @@ use Rattle.entries.specs.Walk.{entriesFrom}
 use Rattle.contents.specs.Contents.{contentBytes}
 use Rattle.names.specs.declared.Named.{Named}
 use Rattle.names.specs.Names.{Name, names, namesFrom}
-use Rattle.names.specs.Parts.{part, nameOf, Inside}
+use Rattle.text.specs.Parts.{part}
+use Rattle.names.specs.Parts.{nameOf, Inside}
 use Rattle.steps.specs.declared.Spot.{Spot}
 use Rattle.steps.specs.declared.Next.{Next}
 use Rattle.steps.specs.declared.Next.the-variants.{Met, End}

@@ -16,7 +16,8 @@ use Rattle.names.specs.Numbers.{hashOf}
 use Rattle.names.specs.Parts.{nameOf}
 use Rattle.steps.specs.Steps.{namesAt, Reached}
 use Rattle.names.proofs.Lists.{same-head}
-use Rattle.names.proofs.Same.{not-true, same-scope, same-bytes}
+use Rattle.text.proofs.Bools.{never-true}
+use Rattle.names.proofs.Same.{same-scope, same-bytes}
 use Rattle.names.proofs.Numbers.{same-hash}
 use Rattle.steps.proofs.Steps.{Meets, MeetsBefore, reached-next}
 use Rattle.sorted.specs.Found.{findIn}
@@ -94,7 +95,7 @@ apart-join xs s b m e met k a f g i j x y p q l o v w d c z = by (ltb j m) refl
     by : (t : Bool) → ltb j m ≡ t → sameBoth x y ≡ false
     by true h = a i j x y p q l o v (ltb-true j m h) d c z
     by false h =
-        not-true (sameBoth x y)
+        never-true (sameBoth x y)
         (λ u. true≢false (sym (f i x p l o d z) ∙ (k x y u ∙ g j y q (ltb-false j m h) w c)))
 
 -- behind the last name stands none
@@ -300,7 +301,7 @@ module _ (st ar t : List ℕ) (n s end : ℕ) (from : Spot) where
               apart =
                   rw (m .meets .count)
                   (apart-one xs s (from .count) (h .count) (nameOf ar x) _ here (w .owned .apart)
-                  (λ i y p a b d z. not-true (sameBoth y (nameOf ar x)) (λ u. absurd (omega (arith, w .behind i y p a b d z, find-same st ar t n (y .bytes) (nameOf ar x .bytes) (same-bytes y (nameOf ar x) u))))));
+                  (λ i y p a b d z. never-true (sameBoth y (nameOf ar x)) (λ u. absurd (omega (arith, w .behind i y p a b d z, find-same st ar t n (y .bytes) (nameOf ar x .bytes) (same-bytes y (nameOf ar x) u))))));
             };
         some = omega (arith, w .some);
         behind = λ i y p a b d z. by here i y p a b d z (eqb i (h .count)) refl;
@@ -328,7 +329,7 @@ module _ (st ar t : List ℕ) (n s end : ℕ) (from : Spot) where
               apart =
                   rw (m .meets .count)
                   (apart-one xs s (from .count) (h .count) (nameOf ar x) _ here (w .owned .apart)
-                  (λ i y p a b d z. not-true (sameBoth y (nameOf ar x)) (λ u. c (sym (same-scope y (nameOf ar x) u) ∙ z))));
+                  (λ i y p a b d z. never-true (sameBoth y (nameOf ar x)) (λ u. c (sym (same-scope y (nameOf ar x) u) ∙ z))));
             };
         some = w .some;
         behind = λ i y p a b d z. by here i y p a b d z (eqb i (h .count)) refl;

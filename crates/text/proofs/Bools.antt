@@ -18,6 +18,11 @@ pub and-r : (a b : Bool) → (a && b) ≡ true → b ≡ true
 and-r true b e = e
 and-r false b e = absurd (true≢false (sym e))
 
+-- a test that can't hold
+pub never-true : (t : Bool) → (t ≡ true → ⊥) → t ≡ false
+never-true true f = absurd (f refl)
+never-true false f = refl
+
 -- a test that holds in either case
 pub or-cases : (a b : Bool) {A : Type 0} → (a ≡ true → A) → (b ≡ true → A) → (a || b) ≡ true → A
 or-cases true b f g e = f refl

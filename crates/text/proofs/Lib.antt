@@ -4,3 +4,4 @@ pub mod Runs
 pub mod Blocks
 pub mod Shape
 pub mod Ended
+pub mod Parts

@@ -2,3 +2,4 @@ pub mod Bytes
 pub mod Runs
 pub mod Blocks
 pub mod Limits
+pub mod Parts

@@ -12,7 +12,8 @@ use Rattle.text.proofs.Bools.{and-l, and-r, or-l, or-r, or-cases}
 use Rattle.text.proofs.Ranges.{allBelow, digit-is}
 use Rattle.words.specs.Words.{wordEnd, isOrdinary}
 use Rattle.words.proofs.Words.{word-span}
-use Rattle.keywords.specs.Keywords.{lower, reserved, isFreeLetter}
+use Rattle.folding.specs.Folding.{lower}
+use Rattle.keywords.specs.Keywords.{reserved, isFreeLetter}
 use Rattle.keywords.proofs.Keywords.{reserved-low}
 use Rattle.keywords.proofs.Letters.{free-letter-is, free-letter}
 use Rattle.numbers.specs.Pieces.{startsNumber}

@@ -4,14 +4,16 @@ use Prim.Native.Nat.{_+_, _-_, _≤_, _<_}
 use mathlib.Core.Path.{_≡_, refl, sym, ap, _∙_}
 use native.Mathlib.Omega.{arith}
 use lib.ListN.{length}
-use Rattle.names.specs.Parts.{part, nameOf, Inside}
+use Rattle.text.specs.Parts.{part}
+use Rattle.folding.specs.Folding.{folded}
+use Rattle.names.specs.Parts.{nameOf, Inside}
 use Rattle.names.specs.Numbers.{mixAll, hashOf}
 use Rattle.names.proofs.Numbers.{mixLeft, mix-first, mix-go, mix-done}
 use Rattle.names.proofs.hash_name.Statement.{statement}
 use Rattle.names.proofs.hash_name.Tie as tie
 
 abbrev Inv-loop : tie.InvT-loop
-Inv-loop area from size h₀ i₀ h i = (from + size ≤ length area) × (mixAll h₀ (part area from size) ≡ mixLeft area from size h i)
+Inv-loop area from size h₀ i₀ h i = (from + size ≤ length area) × (mixAll h₀ (folded (part area from size)) ≡ mixLeft area from size h i)
 
 abbrev μ-loop : tie.MeasureT-loop
 μ-loop area from size h₀ i₀ h i = size - i
@@ -19,11 +21,14 @@ abbrev μ-loop : tie.MeasureT-loop
 loop-holds : tie.Need-loop-holds Inv-loop μ-loop
 loop-holds c = (c .before .pre, mix-first _ _ _ _)
 
-add-mix : tie.Need-add-mix Inv-loop μ-loop
-add-mix c = omega arith
+add-to-lower : tie.Need-add-to-lower Inv-loop μ-loop
+add-to-lower c = omega arith
 
-shared-slice-read-mix : tie.Need-shared-slice-read-mix Inv-loop μ-loop
-shared-slice-read-mix c = omega arith
+shared-slice-read-to-lower : tie.Need-shared-slice-read-to-lower Inv-loop μ-loop
+shared-slice-read-to-lower c = omega arith
+
+to-lower-requires : tie.Need-to-lower-requires Inv-loop μ-loop
+to-lower-requires c κs = search needs
 
 mix-requires : tie.Need-mix-requires Inv-loop μ-loop
 mix-requires c κs = search needs
@@ -36,8 +41,8 @@ loop-less c = omega arith
 
 loop-again : tie.Need-loop-again Inv-loop μ-loop
 loop-again c =
-    let here = c .before .before .before .loop in
-    (here .inv .0, here .inv .1 ∙ mix-go _ _ _ _ _ (here .inv .0) (c .before .before .loop-test .taken) ∙ rw (c .mix .ensures))
+    let at = c .before .before .before in
+    (at .before .loop .inv .0, at .before .loop .inv .1 ∙ mix-go _ _ _ _ _ (at .before .loop .inv .0) (at .loop-test .taken) ∙ rw (c .mix .ensures, c .before .to-lower .ensures))
 
 mix-requires-2 : tie.Need-mix-requires-2 Inv-loop μ-loop
 mix-requires-2 c κs = search needs
@@ -60,8 +65,9 @@ hash-name-spec =
     Inv-loop
     μ-loop
     loop-holds
-    add-mix
-    shared-slice-read-mix
+    add-to-lower
+    shared-slice-read-to-lower
+    to-lower-requires
     mix-requires
     add-i
     loop-less

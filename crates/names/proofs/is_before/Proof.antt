@@ -2,8 +2,9 @@
 use Prim.Native.Nat.{_-_}
 use mathlib.Core.Path.{_≡_, sym, _∙_}
 use Rattle.names.specs.Order.{lessName}
-use Rattle.names.specs.Parts.{part}
+use Rattle.text.specs.Parts.{part}
 use Rattle.names.proofs.Order.{lessLeft, less-size, less-all, less-go, less-stop, less-done}
+use borrow.Author.Needs.{needs}
 use native.Mathlib.Omega.{arith}
 use Rattle.names.proofs.is_before.Statement.{statement}
 use Rattle.names.proofs.is_before.Tie as tie
@@ -15,40 +16,36 @@ abbrev μ-loop : tie.MeasureT-loop
 μ-loop area a n b m k₀ k = n - k
 
 returns : tie.Need-returns Inv-loop μ-loop
-returns c = sym (less-size _ _ _ _ _ (c .before .pre .0) (c .before .pre .1) (c .if1 .taken))
+returns c = sym (less-size _ _ _ _ _ (c .before .before .pre .0) (c .before .before .pre .1) (c .if1 .taken))
 
 loop-holds : tie.Need-loop-holds Inv-loop μ-loop
-loop-holds c = (c .if1 .left, rw (← c .if1 .left) (less-all _ _ _ _ (c .before .pre .0) (omega arith)))
+loop-holds c = (c .if1 .left, rw (← c .if1 .left) (less-all _ _ _ _ (c .before .before .pre .0) (omega arith)))
 
-add-if2 : tie.Need-add-if2 Inv-loop μ-loop
-add-if2 c = omega arith
+add-to-lower : tie.Need-add-to-lower Inv-loop μ-loop
+add-to-lower c = omega arith
 
-shared-slice-read-if2 : tie.Need-shared-slice-read-if2 Inv-loop μ-loop
-shared-slice-read-if2 c = omega arith
+shared-slice-read-to-lower : tie.Need-shared-slice-read-to-lower Inv-loop μ-loop
+shared-slice-read-to-lower c = omega arith
 
-add-if2-2 : tie.Need-add-if2-2 Inv-loop μ-loop
-add-if2-2 c = omega arith
+to-lower-requires : tie.Need-to-lower-requires Inv-loop μ-loop
+to-lower-requires c κs = search needs
 
-shared-slice-read-if2-2 : tie.Need-shared-slice-read-if2-2 Inv-loop μ-loop
-shared-slice-read-if2-2 c = omega arith
+add-to-lower-2 : tie.Need-add-to-lower-2 Inv-loop μ-loop
+add-to-lower-2 c = omega arith
 
-add-result : tie.Need-add-result Inv-loop μ-loop
-add-result c = omega arith
+shared-slice-read-to-lower-2 : tie.Need-shared-slice-read-to-lower-2 Inv-loop μ-loop
+shared-slice-read-to-lower-2 c = omega arith
 
-shared-slice-read-result : tie.Need-shared-slice-read-result Inv-loop μ-loop
-shared-slice-read-result c = omega arith
-
-add-result-2 : tie.Need-add-result-2 Inv-loop μ-loop
-add-result-2 c = omega arith
-
-shared-slice-read-result-2 : tie.Need-shared-slice-read-result-2 Inv-loop μ-loop
-shared-slice-read-result-2 c = omega arith
+to-lower-requires-2 : tie.Need-to-lower-requires-2 Inv-loop μ-loop
+to-lower-requires-2 c κs = search needs
 
 returns-2 : tie.Need-returns-2 Inv-loop μ-loop
 returns-2 c =
-    let start = c .before .before .before .before .before .before .before .before in
-    let here = c .before .before .before .before .before .before .loop in
-    sym (here .inv .1 ∙ less-stop _ _ _ _ _ (start .pre .0) (omega arith) (c .before .before .before .before .before .loop-test .taken) (c .before .before .if2 .taken))
+    let at = c .before .before .before .before .before in
+    let start = at .before .before .before .before in
+    let first = c .before .before .before .to-lower .ensures in
+    let second = c .before .to-lower2 .ensures in
+    sym (at .before .loop .inv .1 ∙ less-stop _ _ _ _ _ (start .pre .0) (omega arith) (at .loop-test .taken) (λ e. c .if2 .taken (first ∙ e ∙ sym second)) ∙ rw (first, second))
 
 add-k : tie.Need-add-k Inv-loop μ-loop
 add-k c = omega arith
@@ -58,9 +55,10 @@ loop-less c = omega arith
 
 loop-again : tie.Need-loop-again Inv-loop μ-loop
 loop-again c =
-    let start = c .before .before .before .before .before .before in
-    let here = c .before .before .before .before .loop in
-    (here .inv .0, here .inv .1 ∙ less-go _ _ _ _ _ (start .pre .0) (omega arith) (c .before .before .before .loop-test .taken) (c .if2 .left))
+    let at = c .before .before .before .before .before in
+    let start = at .before .before .before .before in
+    let equal = sym (c .before .before .before .to-lower .ensures) ∙ c .if2 .left ∙ c .before .to-lower2 .ensures in
+    (at .before .loop .inv .0, at .before .loop .inv .1 ∙ less-go _ _ _ _ _ (start .pre .0) (omega arith) (at .loop-test .taken) equal)
 
 returns-3 : tie.Need-returns-3 Inv-loop μ-loop
 returns-3 c = sym (c .before .loop .inv .1 ∙ less-done _ _ _ _ _ (c .loop-test .left))
@@ -73,14 +71,12 @@ is-before-spec =
     μ-loop
     returns
     loop-holds
-    add-if2
-    shared-slice-read-if2
-    add-if2-2
-    shared-slice-read-if2-2
-    add-result
-    shared-slice-read-result
-    add-result-2
-    shared-slice-read-result-2
+    add-to-lower
+    shared-slice-read-to-lower
+    to-lower-requires
+    add-to-lower-2
+    shared-slice-read-to-lower-2
+    to-lower-requires-2
     returns-2
     add-k
     loop-less

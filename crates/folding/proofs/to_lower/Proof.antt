@@ -1,9 +1,9 @@
--- `keywords::to_lower`: by the two tests. Assumes nothing.
+-- `folding::to_lower`: by the two tests. Assumes nothing.
 use borrow.Author.Tests.{lt-leb, le-leb}
-use Rattle.keywords.specs.Keywords.{lower}
+use Rattle.folding.specs.Folding.{lower}
 use borrow.Author.Needs.{needs}
-use Rattle.keywords.proofs.to_lower.Statement.{statement}
-use Rattle.keywords.proofs.to_lower.Tie as tie
+use Rattle.folding.proofs.to_lower.Statement.{statement}
+use Rattle.folding.proofs.to_lower.Tie as tie
 
 returns : tie.Need-returns
 unfolding lower
