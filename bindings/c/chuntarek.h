@@ -41,7 +41,7 @@ enum chuntarek_number {
     CHUNTAREK_STORE_FULL = 10, /* the store lacks room, the lengths are those needed; 0, 0, 0 */
     CHUNTAREK_AREA_FULL = 11,  /* the area, or the rendered text, lacks room, the lengths are those needed; 0, 0, 0 */
     CHUNTAREK_UNSOUND = 12,    /* store and area are not what a reading could have written; 0, 0, 0 */
-    CHUNTAREK_NAME_TWICE = 13, /* a name stands twice in one scope; the numbers of its first and its second record, then 0 */
+    CHUNTAREK_NAME_TWICE = 13, /* a name stands twice in one scope, in any letter case; the numbers of its first and its second record, then 0 */
     CHUNTAREK_NO_CONTENT = 14  /* no such record, or it has no content; 0, 0, 0 */
 };
 
@@ -107,8 +107,9 @@ chuntarek_answer chuntarek_outline(const uint8_t *text, size_t text_len, uint8_t
  * length written, or 12, 1, 11, in this order. A refusal writes nothing, success only the bytes counted. */
 chuntarek_answer chuntarek_render(const uint8_t *store, size_t store_len, const uint8_t *area, size_t area_len, uint8_t *out, size_t out_len);
 
-/* Whether names stand once: no two tags of the block's own, and no two of one frame, are equal byte for byte. Answers 0; 12; or 13 with
- * two record numbers in the place of offset and line: the first record of that name, and the earliest record that repeats a name. */
+/* Whether names stand once: no two tags of the block's own, and no two of one frame, are the same. Letter case makes no difference: A to Z
+ * are taken as a to z, and every other byte as it is. Answers 0; 12; or 13 with two record numbers in the place of offset and line: the
+ * first record of that name, and the earliest record that repeats a name. Their contents have each spelling as it stands in the text. */
 chuntarek_answer chuntarek_names(const uint8_t *store, size_t store_len, const uint8_t *area, size_t area_len);
 
 /* Whether the record of this number, counted from 0, has content: 0; 12; or 14, where there is no such record or its kind has none.

@@ -148,12 +148,17 @@ impl File<'_> {
         self.name();
     }
 
-    /// A name: any bytes that end no word, perhaps none.
+    /// A name: any bytes that end no word, perhaps none. Some differ in letter case alone, and some
+    /// look as if they did.
     fn name(&mut self) {
-        const NAMES: [&str; 12] = [
+        const NAMES: [&str; 16] = [
             "a",
+            "A",
             "b",
+            "[",
+            "{",
             "cell.length_a",
+            "Cell.length_A",
             "atom_site.id",
             "",
             "#",

@@ -1,4 +1,4 @@
-//! What document 01 says of records that were read: their rendering, names that stand twice, and
+//! What the documents say of records that were read: their rendering, names that stand twice, and
 //! each record in the numbers of the header. A test aid, as the model is.
 
 use std::collections::HashMap;
@@ -55,7 +55,8 @@ fn number(decimal: &Decimal) -> String {
     out
 }
 
-/// The earliest record that repeats a name of its scope, behind the first record of that name.
+/// The earliest record that repeats a name of its scope, behind the first record of that name. Letter
+/// case makes no difference.
 pub fn repeated_name(records: &[Record]) -> Option<(usize, usize)> {
     let mut block = HashMap::new();
     let mut frame = HashMap::new();
@@ -69,7 +70,7 @@ pub fn repeated_name(records: &[Record]) -> Option<(usize, usize)> {
             (3, _) => in_frame = false,
             (4 | 6, Body::Content(name)) => {
                 let scope = if in_frame { &mut frame } else { &mut block };
-                if let Some(first) = scope.insert(name, number) {
+                if let Some(first) = scope.insert(name.to_ascii_lowercase(), number) {
                     return Some((first, number));
                 }
             }
@@ -100,7 +101,7 @@ mod tests {
     fn names_are_found_twice() {
         let found = |text| repeated_name(&records(text));
         assert_eq!(
-            found(b"data_x _a 1 _A 2 save_f _a 3 save_ save_g _a 4 save_"),
+            found(b"data_x _a 1 _[ 2 _{ 3 save_f _A 4 save_ save_g _a 5 save_"),
             None
         );
         assert_eq!(
@@ -111,5 +112,6 @@ mod tests {
             found(b"data_x _a 1 save_f _a 2 save_ loop_ _a 3"),
             Some((1, 8))
         );
+        assert_eq!(found(b"data_x _Ab.1 1 _b 2 _aB.1 3"), Some((1, 5)));
     }
 }

@@ -88,9 +88,10 @@ pub fn plain_tags(n: usize) -> String {
     tags((0..n).map(|number| format!("t{number}")))
 }
 
-/// A block of so many tags, each another and as short as can be: two millions are a text of 16 MB.
+/// A block of so many tags, each another in any letter case and as short as can be: two millions are a
+/// text of 16 MB.
 pub fn short_tags(n: usize) -> String {
-    const DIGITS: &[u8; 62] = b"0123456789abcdefghijklmnopqrstuvwxyzABCDEFGHIJKLMNOPQRSTUVWXYZ";
+    const DIGITS: &[u8; 62] = b"0123456789abcdefghijklmnopqrstuvwxyz!$%&()*+,-./:;<=>?@[]^_{|}";
     tags((0..n).map(|number| {
         let mut name = String::new();
         let mut left = number;

@@ -69,7 +69,8 @@ impl Document {
         Ok(text)
     }
 
-    /// Refuses by 13 where a name stands twice in one scope.
+    /// Refuses by 13 where a name stands twice in one scope: `_Cell.length_a` and `_cell.length_a` are
+    /// one name. The refusal's `records` are the first of that name and the earliest that repeats one.
     pub fn check_names(&self) -> Result<(), Refusal> {
         names(&self.store, &self.area).result().map(|_| ())
     }

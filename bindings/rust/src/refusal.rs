@@ -36,7 +36,7 @@ pub mod number {
     pub const AREA_FULL: u64 = 11;
     /// The store isn't sound.
     pub const UNSOUND: u64 = 12;
-    /// A name stands twice.
+    /// A name stands twice, in any letter case.
     pub const NAME_TWICE: u64 = 13;
     /// No such record, or it has no content.
     pub const NO_CONTENT: u64 = 14;

@@ -29,7 +29,8 @@ pub fn render(store: &[u8], area: &[u8], out: &mut [u8]) -> Answer {
     foreign::render(store, area, out)
 }
 
-/// Whether names stand once among the block's own tags, and among those of each frame.
+/// Whether names stand once among the block's own tags, and among those of each frame. Letter case
+/// makes no difference: A to Z are taken as a to z, and every other byte as it is.
 ///
 /// Refuses by 12 and 13.
 pub fn names(store: &[u8], area: &[u8]) -> Answer {

@@ -300,6 +300,17 @@ fn check_shows_both_places_of_a_repeated_tag() {
 }
 
 #[test]
+fn check_says_that_a_repeated_tag_is_spelt_otherwise() {
+    let file = "examples/refused/13-letter-case.cif";
+    let message = format!(
+        "{file}:5:3: refused 13: the tag _cell.length_a stands here again\n      _cell.length_a\n      ^\n\
+         {file}:2:1: it stands here before as _Cell.length_a: small and capital letters count as the same\n    \
+         _Cell.length_a 5.661\n    ^\n"
+    );
+    assert_eq!(run(&["check", file]), refused("", &message));
+}
+
+#[test]
 fn values_are_shown_as_tables() {
     let table = "\
 data_words

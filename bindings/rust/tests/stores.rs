@@ -275,7 +275,7 @@ fn a_kept_store_is_taken_up_again() {
 #[test]
 fn names_stand_once_in_each_scope() {
     let checked = |text: &[u8]| document(text).check_names();
-    assert_eq!(checked(b"data_x _a 1 _A 2 loop_ _b _c"), Ok(()));
+    assert_eq!(checked(b"data_x _a 1 _aA 2 loop_ _b _c"), Ok(()));
     assert_eq!(
         checked(b"data_x _a 1 save_f _a 2 save_ save_f _a 3 save_"),
         Ok(())
@@ -295,4 +295,62 @@ fn names_stand_once_in_each_scope() {
     assert_eq!(twice(b"data_x _a 1 save_f _a 2 save_ _a 3"), Some((1, 7)));
     assert_eq!(twice(b"data_x _b 1 _a 2 _a 3 _b 4"), Some((3, 5)));
     assert_eq!(twice(b"data_x _a 1 _a 2 _a 3"), Some((1, 3)));
+    assert_eq!(
+        twice(b"data_x _Cell.length_a 1 _cell.length_a 2"),
+        Some((1, 3))
+    );
+}
+
+/// What the name check says of a text whose tags have these names, in their order.
+fn checked_names(names: impl Iterator<Item = String>) -> Result<(), Option<(u64, u64)>> {
+    let items = names.map(|name| format!("_{name} 1\n"));
+    let text = String::from("data_x\n") + &items.collect::<String>();
+    let checked = document(text.as_bytes()).check_names();
+    checked.map_err(|refusal| refusal.records)
+}
+
+/// The record number of a tag: each has a value behind it, and the block stands before all.
+fn tag_record(at: usize) -> u64 {
+    2 * at as u64 + 1
+}
+
+/// Two names of one byte are the same if the bytes are, or are one letter in both cases.
+#[test]
+fn letters_alone_are_folded() {
+    let cases = |capital: char, small: char| {
+        capital.is_ascii_uppercase() && capital as u32 + 32 == small as u32
+    };
+    for first in '!'..='~' {
+        for second in '!'..='~' {
+            let same = first == second || cases(first, second) || cases(second, first);
+            let expected = if same { Err(Some((1, 3))) } else { Ok(()) };
+            let names = [first, second].map(String::from);
+            assert_eq!(
+                checked_names(names.into_iter()),
+                expected,
+                "{first} {second}"
+            );
+        }
+    }
+}
+
+/// More names than the check's table holds at a time.
+#[test]
+fn letter_case_makes_no_difference_among_many_names() {
+    let many = 40_000;
+    let name = |at: usize| format!("Name{at}x");
+    assert_eq!(checked_names((0..many).map(name)), Ok(()));
+    for first in [0, 1, 8_191, 20_000, many - 1] {
+        let names = (0..many).map(name).chain([format!("nAME{first}X")]);
+        let repeated = Err(Some((tag_record(first), tag_record(many))));
+        assert_eq!(checked_names(names), repeated);
+    }
+    // All names twice, the second time with another case at the end: half the text later, and at once.
+    let half = many / 2;
+    let small = |at: usize| format!("name{at}x");
+    let capital = |at: usize| format!("name{at}X");
+    let later = (0..half).map(small).chain((0..half).map(capital));
+    assert_eq!(checked_names(later), Err(Some((1, tag_record(half)))));
+    let at_once = (0..half).flat_map(|at| [small(at), capital(at)]);
+    assert_eq!(checked_names(at_once), Err(Some((1, 3))));
 }

@@ -62,21 +62,28 @@ pub fn not_rendered(input: &Input, refusal: &Refusal) -> String {
     }
 }
 
-/// A tag that stands twice, with both places.
+/// A tag that stands twice, with both places, and with both spellings if they differ.
 pub fn named_twice(input: &Input, document: &Document, refusal: &Refusal) -> String {
     let (first, second) = refusal.records.unwrap_or_default();
     let (first, second) = (record(document, first), record(document, second));
+    let (before, again) = (spelling(&first), spelling(&second));
+    let again_here = format!("refused 13: the tag {again} stands here again");
+    let mut before_here = String::from("it stands here before");
+    if before != again {
+        before_here += &format!(" as {before}: small and capital letters count as the same");
+    }
+    let again_here = at_record(input, second, &again_here);
+    let before_here = at_record(input, first, &before_here);
+    format!("{again_here}\n{before_here}")
+}
+
+/// A tag as it is written in the file.
+fn spelling(record: &Option<Record>) -> String {
     let mut tag = String::new();
-    if let Some(record) = &second {
+    if let Some(record) = record {
         cell::write(record, &mut tag);
     }
-    let again = at_record(
-        input,
-        second,
-        &format!("refused 13: the tag {tag} stands here again"),
-    );
-    let before = at_record(input, first, "it stands here before");
-    format!("{again}\n{before}")
+    tag
 }
 
 /// The record of this number.
