@@ -6,6 +6,7 @@ use harness::lines;
 use harness::parts;
 use harness::say;
 use libc::STDIN_FILENO;
+use rules::Reading;
 
 fn leaves_of_text(leaf: u8, s: &[u8]) {
     match leaf {
@@ -21,7 +22,7 @@ fn leaves_of_text(leaf: u8, s: &[u8]) {
 fn leaves_of_words(leaf: u8, s: &[u8]) {
     match leaf {
         b'w' => say::size(words::parse_identifier(s, 0)),
-        b'r' => say::flag(keywords::is_reserved(s, 0)),
+        b'r' => say::flag(keywords::is_reserved(Reading::First, s, 0)),
         b'q' => leaves::closing(quotes::parse_enclosed(s, 1, b'\'')),
         b'd' => leaves::closing(quotes::parse_enclosed(s, 1, b'"')),
         b'f' => leaves::closing(quotes::parse_multiline_string(s, 1)),

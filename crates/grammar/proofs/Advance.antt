@@ -8,6 +8,7 @@ use native.Mathlib.Omega.{arith}
 use borrow.Author.Tests.{eqb-true}
 use lib.Dec.{eqb}
 use lib.ListN.{length}
+use Rattle.rules.specs.declared.Reading.the-variants.{First}
 use Rattle.text.specs.Bytes.{is, isSpace}
 use Rattle.text.proofs.Bools.{or-cases}
 use Rattle.gaps.specs.Gaps.{gap}
@@ -37,15 +38,15 @@ lf-skip t m o = rw (gap-space-first 10 t refl) (gap-skip t m (suc o))
 -- where space or a comment starts, no token does
 gap-no-token : (m : Mode) (b : ℕ) (s : List ℕ) → (isSpace b || is 35 b) ≡ true → lexIn m (b ∷ s) ≡ lexed (nothing noStart) 0
 unfolding isSpace is lower
-gap-no-token m b s h = by h ∙ value-no-start b s h
+gap-no-token m b s h = by h ∙ value-no-start First 10 b s h
   where
-    at : (c : ℕ) → lexIn m (c ∷ s) ≡ lexValue c s → eqb b c ≡ true → lexIn m (b ∷ s) ≡ lexValue b s
+    at : (c : ℕ) → lexIn m (c ∷ s) ≡ lexValue First 10 c s → eqb b c ≡ true → lexIn m (b ∷ s) ≡ lexValue First 10 b s
     at c h e = rw (eqb-true b c e) h
 
-    bare : (c : ℕ) → is 100 (lower c) ≡ false → is 103 (lower c) ≡ false → is 108 (lower c) ≡ false → is 115 (lower c) ≡ false → is 95 c ≡ false → lexIn m (c ∷ s) ≡ lexValue c s
+    bare : (c : ℕ) → is 100 (lower c) ≡ false → is 103 (lower c) ≡ false → is 108 (lower c) ≡ false → is 115 (lower c) ≡ false → is 95 c ≡ false → lexIn m (c ∷ s) ≡ lexValue First 10 c s
     bare c d g l p u = lex-no-key m c s (no-keyword c s d g l p) u
 
-    by : (isSpace b || is 35 b) ≡ true → lexIn m (b ∷ s) ≡ lexValue b s
+    by : (isSpace b || is 35 b) ≡ true → lexIn m (b ∷ s) ≡ lexValue First 10 b s
     by =
         or-cases _ _
         (or-cases _ _
@@ -69,13 +70,13 @@ gap-none : (m : Mode) (b : ℕ) (s t : List ℕ) (n : ℕ) → (lexIn m (b ∷ s
 gap-none m b s t n h = gap-no-first b t (gap-go m b s n (isSpace b || is 35 b) refl h)
 
 -- where `;` stands a value is read
-semicolon-value : (m : Mode) (b : ℕ) (s : List ℕ) → is 59 b ≡ true → lexIn m (b ∷ s) ≡ lexValue b s
+semicolon-value : (m : Mode) (b : ℕ) (s : List ℕ) → is 59 b ≡ true → lexIn m (b ∷ s) ≡ lexValue First 10 b s
 unfolding is lower
 semicolon-value m b s e = rw (eqb-true b 59 e) (lex-no-key m 59 s (no-keyword 59 s refl refl refl refl) refl)
 
 -- a token that is whole has its field closed
 shut : (m : Mode) (b : ℕ) (s : List ℕ) (n : ℕ) → (lexIn m (b ∷ s)) .size ≡ suc n → Shut b s
-shut m b s n h = value-shut b s n (λ e. ap (λ x. x .size) (sym (semicolon-value m b s e)) ∙ h)
+shut m b s n h = value-shut 10 b s n (λ e. ap (λ x. x .size) (sym (semicolon-value m b s e)) ∙ h)
 
 behind : {a : Tok} {r r′ : List Tok} → r ≡ r′ → a ∷ r ≡ a ∷ r′
 behind {a} e = ap {B = List Tok} (λ r. a ∷ r) e

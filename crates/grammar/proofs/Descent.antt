@@ -10,7 +10,7 @@ use native.Mathlib.Nat.{zero-add, add-zero}
 use native.Mathlib.Omega.{arith}
 use lib.Dec.{eqb}
 use lib.ListN.{length}
-use Rattle.values.specs.Values.{Class, Reason, block, loop, save, tag, value, overLimit, nothing, atEnd, reservedWord, noStart, openQuote, openField}
+use Rattle.values.specs.Values.{Class, Reason, block, loop, save, tag, value, overLimit, nothing, atEnd, reservedWord, noStart, openQuote, openField, joined}
 use Rattle.values.specs.Answers.{numberOfWhy}
 use Rattle.grammar.specs.Tokens.{Tok, headAt, headWhy}
 use Rattle.grammar.specs.Machine.{Rec, Answer, refused, done, items, names, values, wants, config, rec, loopEnd, follow, run, move, atItem, atName, atValue, atWant, noMoreNames, loopEnds, fails, closes, stop, reason, inBlockOnly}
@@ -275,6 +275,7 @@ item-in-frame d t ts a out h = by (t .class) refl
     by (nothing noStart) e = rw e
     by (nothing openQuote) e = rw e
     by (nothing openField) e = rw e
+    by (nothing joined) e = rw e
 
 -- in the block `save_` opens a frame and the end is the end; anything else starts an item or fails as one
 unfoldable pub isPlain : Class → Bool
@@ -284,6 +285,7 @@ isPlain (nothing reservedWord) = true
 isPlain (nothing noStart) = true
 isPlain (nothing openQuote) = true
 isPlain (nothing openField) = true
+isPlain (nothing joined) = true
 isPlain block = true
 isPlain loop = true
 isPlain tag = true
@@ -307,6 +309,7 @@ item-in-block d t ts out h = by (t .class) refl
     by (nothing noStart) q e = refl
     by (nothing openQuote) q e = refl
     by (nothing openField) q e = refl
+    by (nothing joined) q e = refl
 
 -- WHAT IS READ DOES NOT DEPEND ON THE DETAIL that a 7 would have
 pub any-detail : (c d : ℕ) (f : Option ℕ) (ts : List Tok) (out rs : List Rec) → run ts (config (items c) f out []) ≡ done rs → run ts (config (items d) f out []) ≡ done rs
@@ -329,6 +332,7 @@ any-detail c d f (t ∷ ts) out rs e = by f (t .class) e
     by f (nothing noStart) e = other f e
     by f (nothing openQuote) e = other f e
     by f (nothing openField) e = other f e
+    by f (nothing joined) e = other f e
     by f block e = other f e
     by f (value k) e = other f e
     by f overLimit e = other f e

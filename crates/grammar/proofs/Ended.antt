@@ -29,5 +29,5 @@ lexIn-ended m b s t h =
       save-ended (b ∷ s) t,
       saveSize-ended m (b ∷ s) t,
       word-ended (b ∷ s) t,
-      value-ended b s t h,
+      value-ended 10 b s t h,
     )

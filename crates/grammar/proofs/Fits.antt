@@ -8,6 +8,7 @@ use mathlib.Core.Logic.{_⊎_, inl, inr}
 use native.Mathlib.Omega.{arith}
 use borrow.Author.Tests.{eqb-true}
 use lib.ListN.{length}
+use Rattle.rules.specs.declared.Reading.the-variants.{First}
 use Rattle.text.specs.Bytes.{is, endsWord}
 use Rattle.words.specs.Words.{word}
 use Rattle.words.proofs.Words.{word-fits, word-pos}
@@ -41,7 +42,7 @@ lexIn-fits m (b ∷ s) =
     fit (starts keyData (b ∷ s) || starts keyGlobal (b ∷ s) || starts keyStop (b ∷ s)) _ _ (suc (length s)) (λ e. omega arith)
     (λ e. fit (starts keyLoop (b ∷ s)) _ _ (suc (length s)) (λ f. loop-fits (b ∷ s) f)
     (λ f. fit (starts keySave (b ∷ s)) _ _ (suc (length s)) (λ g. save-fits m (b ∷ s) g)
-    (λ g. fit (is 95 b) _ _ (suc (length s)) (λ h. word-fits (b ∷ s)) (λ h. value-fits b s))))
+    (λ g. fit (is 95 b) _ _ (suc (length s)) (λ h. word-fits (b ∷ s)) (λ h. value-fits First 10 b s))))
 
 -- a token lies in the text
 pub lex-fits : (m : Mode) (s : List ℕ) → (lex m s) .size ≤ length s
@@ -77,7 +78,7 @@ lexIn-sized m (b ∷ s) =
     pick Sized (starts keyData (b ∷ s) || starts keyGlobal (b ∷ s) || starts keyStop (b ∷ s)) _ _ (λ e. inr (reservedWord, refl))
     (λ e. pick Sized (starts keyLoop (b ∷ s)) _ _ (λ f. inl (omega arith))
     (λ f. pick Sized (starts keySave (b ∷ s)) _ _ (λ g. inl (save-pos m (b ∷ s) g))
-    (λ g. pick Sized (is 95 b) _ _ (λ h. inl (tag-word b s h)) (λ h. value-bytes b s))))
+    (λ g. pick Sized (is 95 b) _ _ (λ h. inl (tag-word b s h)) (λ h. value-bytes First 10 b s))))
 
 pub lex-sized : (m : Mode) (s : List ℕ) → (0 < lexIn m s .size) ⊎ ((w : Reason) × (lexIn m s .class ≡ nothing w))
 unfolding Sized

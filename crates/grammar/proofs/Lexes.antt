@@ -5,6 +5,7 @@ use mathlib.Core.Bool.{Bool, true, false, _||_, true≢false}
 use mathlib.Core.List.{List, [], _∷_}
 use mathlib.Core.Logic.{_⊎_, ⊎-elim}
 use borrow.Author.Tests.{eqb-true}
+use Rattle.rules.specs.declared.Reading.the-variants.{First}
 use Rattle.text.specs.Bytes.{is}
 use Rattle.words.specs.Words.{word}
 use Rattle.folding.specs.Folding.{lower}
@@ -27,7 +28,7 @@ module _ (m : Mode) (b : ℕ) (s : List ℕ) where
   lex-save e = rw (save-alone (b ∷ s) e, save-no-loop (b ∷ s) e, e)
 
   -- where none does, a tag or a value
-  pub lex-no-key : NoKeyword (b ∷ s) → is 95 b ≡ false → lexIn m (b ∷ s) ≡ lexValue b s
+  pub lex-no-key : NoKeyword (b ∷ s) → is 95 b ≡ false → lexIn m (b ∷ s) ≡ lexValue First 10 b s
   unfolding lexIn
   lex-no-key k e = rw (k .no-data, k .no-global, k .no-stop, k .no-loop, k .no-save, e)
 
@@ -54,7 +55,7 @@ unfolding lexIn startsItem lexed
 lex-other m b s l u =
     pick (λ y. startsItem (y .class) ≡ false) (starts keyData (b ∷ s) || starts keyGlobal (b ∷ s) || starts keyStop (b ∷ s)) _ _ (λ e. refl)
     (λ e. rw (l, u) (pick (λ y. startsItem (y .class) ≡ false) (starts keySave (b ∷ s)) _ _ (λ f. refl)
-    (λ f. value-class (λ c. startsItem c ≡ false) (λ k. refl) refl refl refl refl b s)))
+    (λ f. value-class (λ c. startsItem c ≡ false) (λ k. refl) refl refl refl refl First 10 b s)))
 
 -- where bytes stand but no `save_`, an item starts or fails
 pub lex-plain : (m : Mode) (b : ℕ) (s : List ℕ) → starts keySave (b ∷ s) ≡ false → isPlain (lexIn m (b ∷ s) .class) ≡ true
@@ -63,7 +64,7 @@ lex-plain m b s u =
     pick (λ y. isPlain (y .class) ≡ true) (starts keyData (b ∷ s) || starts keyGlobal (b ∷ s) || starts keyStop (b ∷ s)) _ _ (λ e. refl)
     (λ e. pick (λ y. isPlain (y .class) ≡ true) (starts keyLoop (b ∷ s)) _ _ (λ f. refl)
     (λ f. rw u (pick (λ y. isPlain (y .class) ≡ true) (is 95 b) _ _ (λ g. refl)
-    (λ g. value-class (λ c. isPlain c ≡ true) (λ k. refl) refl refl refl refl b s))))
+    (λ g. value-class (λ c. isPlain c ≡ true) (λ k. refl) refl refl refl refl First 10 b s))))
 
 -- in the block and in a frame the same token stands, unless it is `save_`
 pub lex-same : (b : ℕ) (s : List ℕ) → starts keySave (b ∷ s) ≡ false → lexIn inBlock (b ∷ s) ≡ lexIn inFrame (b ∷ s)
@@ -76,7 +77,7 @@ lex-stays m b s u =
     pick (λ y. after (y .class) m ≡ m) (starts keyData (b ∷ s) || starts keyGlobal (b ∷ s) || starts keyStop (b ∷ s)) _ _ (λ e. refl)
     (λ e. pick (λ y. after (y .class) m ≡ m) (starts keyLoop (b ∷ s)) _ _ (λ f. refl)
     (λ f. rw u (pick (λ y. after (y .class) m ≡ m) (is 95 b) _ _ (λ g. refl)
-    (λ g. value-class (λ c. after c m ≡ m) (λ k. refl) refl refl refl refl b s))))
+    (λ g. value-class (λ c. after c m ≡ m) (λ k. refl) refl refl refl refl First 10 b s))))
 
 -- where no `_` stands, no name does
 isTag : Class → Bool
@@ -98,4 +99,4 @@ no-name m u h = ⊎-elim (λ e. absurd (true≢false (sym (rw e refl) ∙ not-ta
         pick (λ y. isTag (y .class) ≡ false) (starts keyData (b ∷ s) || starts keyGlobal (b ∷ s) || starts keyStop (b ∷ s)) _ _ (λ e. refl)
         (λ e. pick (λ y. isTag (y .class) ≡ false) (starts keyLoop (b ∷ s)) _ _ (λ f. refl)
         (λ f. pick (λ y. isTag (y .class) ≡ false) (starts keySave (b ∷ s)) _ _ (λ g. refl)
-        (λ g. rw h (value-class (λ c. isTag c ≡ false) (λ k. refl) refl refl refl refl b s))))
+        (λ g. rw h (value-class (λ c. isTag c ≡ false) (λ k. refl) refl refl refl refl First 10 b s))))

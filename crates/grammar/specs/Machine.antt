@@ -4,7 +4,7 @@ use mathlib.Core.Bool.{Bool, true, false, not, cond, _&&_, _||_}
 use mathlib.Core.List.{List, [], _∷_, _++_}
 use mathlib.Core.Option.{Option, none, some}
 use lib.Dec.{eqb}
-use Rattle.values.specs.Values.{Class, Reason, block, loop, save, tag, value, overLimit, nothing, atEnd, reservedWord, noStart, openQuote, openField}
+use Rattle.values.specs.Values.{Class, Reason, block, loop, save, tag, value, overLimit, nothing, atEnd, reservedWord, noStart, openQuote, openField, joined}
 use Rattle.values.specs.Answers.{whyNot, numberOfWhy}
 use Rattle.grammar.specs.Tokens.{Tok}
 
@@ -82,6 +82,7 @@ atItem d f out (nothing reservedWord) t = fails (refused 7 (t .at) d) f out t
 atItem d f out (nothing noStart) t = fails (refused 7 (t .at) d) f out t
 atItem d f out (nothing openQuote) t = fails (refused 7 (t .at) d) f out t
 atItem d f out (nothing openField) t = fails (refused 7 (t .at) d) f out t
+atItem d f out (nothing joined) t = fails (refused 7 (t .at) d) f out t
 atItem d f out block t = fails (refused 7 (t .at) d) f out t
 atItem d f out (value k) t = fails (refused 7 (t .at) d) f out t
 atItem d f out overLimit t = fails (refused 7 (t .at) d) f out t

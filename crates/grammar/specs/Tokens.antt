@@ -3,7 +3,8 @@ use Prim.Native.Nat.{ℕ, zero, suc}
 use mathlib.Core.Bool.{Bool, false, cond, _||_}
 use mathlib.Core.List.{List, [], _∷_}
 use lib.ListN.{drop}
-use Rattle.text.specs.Bytes.{is, underscore}
+use Rattle.rules.specs.declared.Reading.the-variants.{First}
+use Rattle.text.specs.Bytes.{is, lineFeed, underscore}
 use Rattle.gaps.specs.Gaps.{gap}
 use Rattle.words.specs.Words.{word}
 use Rattle.keywords.specs.Keywords.{starts, keyData, keyGlobal, keyLoop, keySave, keyStop}
@@ -25,7 +26,7 @@ saveSize inFrame s = 5
 unfoldable pub lexIn : Mode → List ℕ → Lexed
 lexIn m [] = lexed (nothing atEnd) 0
 lexIn m (b ∷ s) =
-    let v = lexValue b s in
+    let v = lexValue First lineFeed b s in
     let rest = cond (is underscore b) (lexed tag (word (b ∷ s))) v in
     cond (starts keyData (b ∷ s) || starts keyGlobal (b ∷ s) || starts keyStop (b ∷ s)) (lexed (nothing reservedWord) 0)
     (cond (starts keyLoop (b ∷ s)) (lexed loop 5)

@@ -7,7 +7,7 @@ use mathlib.Core.List.{List, [], _∷_, _++_}
 use mathlib.Core.Option.{Option, none, some}
 use native.Mathlib.Omega.{arith}
 use lib.Dec.{leb, ltb, eqb}
-use Rattle.values.specs.Values.{Class, block, loop, save, tag, value, overLimit, nothing, atEnd, reservedWord, noStart, openQuote, openField}
+use Rattle.values.specs.Values.{Class, block, loop, save, tag, value, overLimit, nothing, atEnd, reservedWord, noStart, openQuote, openField, joined}
 use Rattle.grammar.specs.Tokens.{Tok}
 use Rattle.grammar.specs.Machine.{Rec, refused, done, State, start, items, names, values, wants, Config, config, Outcome, go, stop, rec, loopEnd, closes, fails, atItem, loopEnds, atValue, noMoreNames, atName, atWant, atStart, move, follow, run, reason, inBlockOnly}
 use Rattle.hidden.specs.Differences.{isQuoted, insideRec, insideRecs}
@@ -84,6 +84,7 @@ module _ (i : ℕ) (t : Tok) where
   item-kept d f out (nothing noStart) = fails-kept 7 (t .at) d f out
   item-kept d f out (nothing openQuote) = fails-kept 7 (t .at) d f out
   item-kept d f out (nothing openField) = fails-kept 7 (t .at) d f out
+  item-kept d f out (nothing joined) = fails-kept 7 (t .at) d f out
   item-kept d f out block = fails-kept 7 (t .at) d f out
   item-kept d f out (value k) = fails-kept 7 (t .at) d f out
   item-kept d f out overLimit = fails-kept 7 (t .at) d f out

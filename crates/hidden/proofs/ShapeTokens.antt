@@ -5,6 +5,7 @@ use mathlib.Core.Bool.{true}
 use mathlib.Core.Path.{_≡_, refl, sym, ap, _∙_, fun-ext}
 use mathlib.Core.List.{List, [], _∷_, map}
 use lib.ListN.{take, length-map}
+use Rattle.rules.specs.declared.Reading.the-variants.{First}
 use Rattle.text.specs.Bytes.{isDigit, is, isAscii}
 use Rattle.gaps.specs.Gaps.{gap}
 use Rattle.places.specs.Places.{placeAt}
@@ -23,15 +24,15 @@ use Rattle.keywords.proofs.Shape.{starts-σ, noDigit}
 use Rattle.quotes.proofs.Shape.{quoted-σ, field-σ}
 use Rattle.numbers.proofs.Shape.{isNumber-σ, within-σ, here-σ}
 
-pub numberOr-σ : (x : Lexed) (w : List ℕ) (n : ℕ) → numberOr x (parts (map σ w)) n ≡ numberOr x (parts w) n
+pub numberOr-σ : (x : Lexed) (w : List ℕ) (n : ℕ) → numberOr First x (parts (map σ w)) n ≡ numberOr First x (parts w) n
 unfolding numberOr
 numberOr-σ x w n = rw (isNumber-σ w, within-σ w, here-σ w)
 
-wordOr-σ : (x : Lexed) (s : List ℕ) → wordOr x (map σ s) ≡ wordOr x s
+wordOr-σ : (x : Lexed) (s : List ℕ) → wordOr First x (map σ s) ≡ wordOr First x s
 unfolding wordOr
 wordOr-σ x s = rw (word-σ s, take-map σ (word s) s, numberOr-σ x (take (word s) s) (word s))
 
-lexValue-σ : (b : ℕ) (s : List ℕ) → lexValue (σ b) (map σ s) ≡ lexValue b s
+lexValue-σ : (b : ℕ) (s : List ℕ) → lexValue First 10 (σ b) (map σ s) ≡ lexValue First 10 b s
 unfolding lexValue is
 lexValue-σ b s =
     rw (word-σ (b ∷ s), wordOr-σ _ (b ∷ s), wordOr-σ _ (b ∷ s), quoted-σ 39 refl s, quoted-σ 34 refl s, field-σ s)

@@ -10,6 +10,7 @@ use borrow.Author.Tests.{eqb-true, not-true}
 use lib.Dec.{eqb}
 use lib.ListN.{length, take, length-map}
 use lib.Seq.{length-take-le, take-take}
+use Rattle.rules.specs.declared.Reading.the-variants.{First}
 use Rattle.text.specs.Bytes.{isDigit, is, isEol, endsWord}
 use Rattle.text.specs.Runs.{span}
 use Rattle.gaps.specs.Gaps.{gapByte, gapThen, gapIn, gap}
@@ -154,7 +155,7 @@ number-bare p n = go (within p) (p .unc .here)
     go true false = refl
     go false b = refl
 
-word-bare : (x : Lexed) (s : List ℕ) → isVeiled x ≡ false → isVeiled (wordOr x s) ≡ false
+word-bare : (x : Lexed) (s : List ℕ) → isVeiled x ≡ false → isVeiled (wordOr First x s) ≡ false
 unfolding wordOr numberOr
 word-bare x s h = neither isVeiled (isNumber (parts (take (word s) s))) _ x (number-bare (parts (take (word s) s)) (word s)) h
 
@@ -166,7 +167,7 @@ cond-same : (t x : Bool) → cond t x x ≡ x
 cond-same true x = refl
 cond-same false x = refl
 
-value-bare : (b : ℕ) (s : List ℕ) → opens b ≡ false → isVeiled (lexValue b s) ≡ false
+value-bare : (b : ℕ) (s : List ℕ) → opens b ≡ false → isVeiled (lexValue First 10 b s) ≡ false
 unfolding lexValue opens veiled isQuoted
 value-bare b s h =
     rw (or-l (is 39 b) (is 34 b) (or-l (is 39 b || is 34 b) (is 59 b) h), or-r (is 39 b) (is 34 b) (or-l (is 39 b || is 34 b) (is 59 b) h), or-r (is 39 b || is 34 b) (is 59 b) h)
@@ -320,19 +321,19 @@ alike-length s s′ e =
     sym (length-theWord s) ∙ sym (length-map (theWord s) σ) ∙ ap length e ∙ length-map (theWord s′) σ ∙ length-theWord s′
 
 -- words alike are read alike
-wordOr-alike : (x x′ : Lexed) (s s′ : List ℕ) → map σ (theWord s) ≡ map σ (theWord s′) → x ≡ x′ → wordOr x s ≡ wordOr x′ s′
+wordOr-alike : (x x′ : Lexed) (s s′ : List ℕ) → map σ (theWord s) ≡ map σ (theWord s′) → x ≡ x′ → wordOr First x s ≡ wordOr First x′ s′
 unfolding wordOr theWord
 wordOr-alike x x′ s s′ e q =
     sym (numberOr-σ x (take (word s) s) (word s)) ∙ rw (e, alike-length s s′ e, q) (numberOr-σ x′ (take (word s′) s′) (word s′))
 
-no-number : (x : Lexed) (s : List ℕ) → hasMark (theWord s) ≡ true → wordOr x s ≡ x
+no-number : (x : Lexed) (s : List ℕ) → hasMark (theWord s) ≡ true → wordOr First x s ≡ x
 unfolding wordOr numberOr theWord
 no-number x s h = rw (mark-no-number (take (word s) s) h)
 
-wordOr-near : (x : Lexed) {s s′ : List ℕ} → Near s s′ → wordOr x s ≡ wordOr x s′
+wordOr-near : (x : Lexed) {s s′ : List ℕ} → Near s s′ → wordOr First x s ≡ wordOr First x s′
 wordOr-near x {s} {s′} n = go (word-near n)
   where
-    go : Words (theWord s) (theWord s′) → wordOr x s ≡ wordOr x s′
+    go : Words (theWord s) (theWord s′) → wordOr First x s ≡ wordOr First x s′
     go (alike e) = wordOr-alike x x s s′ e refl
     go (marked p q) = no-number x s p ∙ sym (no-number x s′ q)
 
@@ -461,7 +462,7 @@ alike-pre x y h =
     ∙ sym (take-take (word x) (suc (word x)) (map σ x) (omega arith)) ∙ ap (take (word x)) h ∙ take-take (word x) (suc (word x)) (map σ y) (omega arith)
     ∙ rw (word-pre x y h) (take-map σ (word y) y)
 
-wordOr-size : (c : Class) (s : List ℕ) → (wordOr (lexed c (word s)) s) .size ≡ word s
+wordOr-size : (c : Class) (s : List ℕ) → (wordOr First (lexed c (word s)) s) .size ≡ word s
 unfolding wordOr numberOr lexed
 wordOr-size c s = go (isNumber (parts (take (word s) s))) _
   where
@@ -479,12 +480,12 @@ isOrdinary₂ : (b b′ : ℕ) → σ b ≡ σ b′ → isOrdinary b′ ≡ isOr
 unfolding isOrdinary
 isOrdinary₂ b b′ h = sym (blind₂ isOrdinary refl b b′ h)
 
-bare-same : (s s′ : List ℕ) (x : Lexed) → x ≡ wordOr (lexed (value 10) (word s)) s → Pre (x .size) s s′ → wordOr (lexed (value 10) (word s)) s ≡ wordOr (lexed (value 10) (word s′)) s′
+bare-same : (s s′ : List ℕ) (x : Lexed) → x ≡ wordOr First (lexed (value 10) (word s)) s → Pre (x .size) s s′ → wordOr First (lexed (value 10) (word s)) s ≡ wordOr First (lexed (value 10) (word s′)) s′
 bare-same s s′ x e p =
     let p′ : Pre (word s) s s′ = subst (λ k. Pre k s s′) (ap (λ y. y .size) e ∙ wordOr-size (value 10) s) p in
     wordOr-alike _ _ s s′ (alike-pre s s′ p′) (ap (lexed (value 10)) (word-pre s s′ p′))
 
-value-same : (b b′ : ℕ) (s s′ : List ℕ) → σ b ≡ σ b′ → opens b ≡ false → Near (b ∷ s) (b′ ∷ s′) → Pre ((lexValue b s) .size) (b ∷ s) (b′ ∷ s′) → lexValue b s ≡ lexValue b′ s′
+value-same : (b b′ : ℕ) (s s′ : List ℕ) → σ b ≡ σ b′ → opens b ≡ false → Near (b ∷ s) (b′ ∷ s′) → Pre ((lexValue First 10 b s) .size) (b ∷ s) (b′ ∷ s′) → lexValue First 10 b s ≡ lexValue First 10 b′ s′
 unfolding lexValue is opens
 value-same b b′ s s′ h o n p =
     let a = or-l (is 39 b) (is 34 b) (or-l (is 39 b || is 34 b) (is 59 b) o) in
@@ -493,7 +494,7 @@ value-same b b′ s s′ h o n p =
     rw (byte₂ 46 refl b b′ h, byte₂ 63 refl b b′ h, byte₂ 39 refl b b′ h, byte₂ 34 refl b b′ h, byte₂ 59 refl b b′ h, isOrdinary₂ b b′ h, a, c, d)
     (cond-ext (is 46 b) (λ e. wordOr-near (lexed (value 8) 1) n)
     (λ e. cond-ext (is 63 b) (λ f. refl)
-    (λ f. cond-ext (isOrdinary b) (λ g. bare-same (b ∷ s) (b′ ∷ s′) (lexValue b s) (rw (e, f, a, c, d, g)) p) (λ g. refl))))
+    (λ f. cond-ext (isOrdinary b) (λ g. bare-same (b ∷ s) (b′ ∷ s′) (lexValue First 10 b s) (rw (e, f, a, c, d, g)) p) (λ g. refl))))
 
 key₂ : (s s′ : List ℕ) → Near s s′ → (starts keyData s′ || starts keyGlobal s′ || starts keyStop s′) ≡ (starts keyData s || starts keyGlobal s || starts keyStop s)
 unfolding keyData keyGlobal keyStop keyBytes keyByte is lower
@@ -526,7 +527,7 @@ sized : (s s′ : List ℕ) (x : Lexed) (c : Class) (n : ℕ) → x ≡ lexed c 
 unfolding lexed
 sized s s′ x c n e p = subst (λ k. Pre k s s′) (ap (λ y. y .size) e) p
 
-branch : (m : Mode) (b : ℕ) (s : List ℕ) → (starts keyData (b ∷ s) || starts keyGlobal (b ∷ s) || starts keyStop (b ∷ s)) ≡ false → starts keyLoop (b ∷ s) ≡ false → starts keySave (b ∷ s) ≡ false → is 95 b ≡ false → lexIn m (b ∷ s) ≡ lexValue b s
+branch : (m : Mode) (b : ℕ) (s : List ℕ) → (starts keyData (b ∷ s) || starts keyGlobal (b ∷ s) || starts keyStop (b ∷ s)) ≡ false → starts keyLoop (b ∷ s) ≡ false → starts keySave (b ∷ s) ≡ false → is 95 b ≡ false → lexIn m (b ∷ s) ≡ lexValue First 10 b s
 unfolding lexIn
 branch m b s r l v u = rw (r, l, v, u)
 

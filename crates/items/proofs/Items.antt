@@ -7,6 +7,7 @@ use native.Mathlib.Omega.{arith}
 use borrow.Author.Tests.{ne-eqb}
 use lib.Dec.{eqb, eqb·suc-zero}
 use lib.ListN.{length, drop}
+use Rattle.rules.specs.declared.Reading.the-variants.{First}
 use Rattle.gaps.specs.Gaps.{gap, gapEnd}
 use Rattle.gaps.proofs.Gaps.{gap-none}
 use Rattle.words.specs.Words.{word, wordEnd}
@@ -173,32 +174,32 @@ value-answer : (t : Tok) (s : List ℕ) (p k w : ℕ) → Met inBlock s p (lexed
 unfolding tagItem single itemAnswer lexed tok after
 value-answer t s p k w m = rw (m .next, head-at inBlock s (p + w), single-size t (tok (lexed (value k) w) p) k)
 
-pub item-value : (s : List ℕ) (o k w : ℕ) → gap (drop o s) ≡ 0 → tagAt s o ≡ true → foundAt s (gapEnd s (wordEnd s o)) ≡ Value k w
+pub item-value : (s : List ℕ) (o k w : ℕ) → gap (drop o s) ≡ 0 → tagAt s o ≡ true → foundAt First s (gapEnd s (wordEnd s o)) ≡ Value k w
     → itemAt s o ≡ Single (gapEnd s (gapEnd s (wordEnd s o) + w)) (added (added noSizes 4 (wordEnd s o - o)) k w)
 unfolding lexed tok
 item-value s o k w g e f =
     let n = word (drop o s) in
     let p = gapEnd s (o + n) in
     let d : o + n - o ≡ n = omega arith in
-    let f′ : foundAt s p ≡ Value k w = rw (word-end s o) at f in
+    let f′ : foundAt First s p ≡ Value k w = rw (word-end s o) at f in
     rw (word-end s o)
     (tag-item s o n (met-tag s o g e) ∙ value-answer (tok (lexed tag n) o) s p k w (met-value s p k w (gap-none s (o + n)) f′) ∙ rw d)
 
-alone-answer : (t : Tok) (s : List ℕ) (p : ℕ) → gap (drop p s) ≡ 0 → ((k w : ℕ) → foundAt s p ≡ Value k w → ⊥)
-    → itemAnswer (tagItem t (tokensAt inBlock s p)) ≡ cond (isOverFound (foundAt s p)) (Broken OverLimit p) (Failed (NoValue (numberOfWhy (whyFound (foundAt s p)))) (t .at) p)
+alone-answer : (t : Tok) (s : List ℕ) (p : ℕ) → gap (drop p s) ≡ 0 → ((k w : ℕ) → foundAt First s p ≡ Value k w → ⊥)
+    → itemAnswer (tagItem t (tokensAt inBlock s p)) ≡ cond (isOverFound (foundAt First s p)) (Broken OverLimit p) (Failed (NoValue (numberOfWhy (whyFound (foundAt First s p)))) (t .at) p)
 unfolding tagItem tok lex
 alone-answer t s p g h =
     let x = lexIn inBlock (drop p s) in
-    let q : foundAt s p ≡ wanted (x .class) (x .size) = found-wanted inBlock s p in
+    let q : foundAt First s p ≡ wanted (x .class) (x .size) = found-wanted inBlock s p in
     let f = first s p g inBlock in
     rw (f .1, q) (single-answer t (tok x p) (f .0) (x .class) (x .size) (λ k w e. h k w (q ∙ e)))
 
-pub item-alone : (s : List ℕ) (o : ℕ) → gap (drop o s) ≡ 0 → tagAt s o ≡ true → ((k w : ℕ) → foundAt s (gapEnd s (wordEnd s o)) ≡ Value k w → ⊥)
-    → let p = gapEnd s (wordEnd s o) in itemAt s o ≡ cond (isOverFound (foundAt s p)) (Broken OverLimit p) (Failed (NoValue (numberOfWhy (whyFound (foundAt s p)))) o p)
+pub item-alone : (s : List ℕ) (o : ℕ) → gap (drop o s) ≡ 0 → tagAt s o ≡ true → ((k w : ℕ) → foundAt First s (gapEnd s (wordEnd s o)) ≡ Value k w → ⊥)
+    → let p = gapEnd s (wordEnd s o) in itemAt s o ≡ cond (isOverFound (foundAt First s p)) (Broken OverLimit p) (Failed (NoValue (numberOfWhy (whyFound (foundAt First s p)))) o p)
 unfolding lexed tok
 item-alone s o g e h =
     let n = word (drop o s) in
-    let h′ : (k w : ℕ) → foundAt s (gapEnd s (o + n)) ≡ Value k w → ⊥ = λ k w q. h k w (rw (word-end s o) q) in
+    let h′ : (k w : ℕ) → foundAt First s (gapEnd s (o + n)) ≡ Value k w → ⊥ = λ k w q. h k w (rw (word-end s o) q) in
     rw (word-end s o)
     (tag-item s o n (met-tag s o g e) ∙ alone-answer (tok (lexed tag n) o) s (gapEnd s (o + n)) (gap-none s (o + n)) h′)
 
@@ -241,7 +242,7 @@ pub record TagRead (s : List ℕ) (o end stop : ℕ) (f : Found) : Type 0 where
   pub tagged : tagAt s o ≡ true
   pub ends : end ≡ wordEnd s o
   pub stops : stop ≡ gapEnd s end
-  pub finds : f ≡ foundAt s stop
+  pub finds : f ≡ foundAt First s stop
 
 module _ {s : List ℕ} {o end stop : ℕ} {f : Found} (r : TagRead s o end stop f) where
   pub tag-onward : (o < end) × (end ≤ length s)

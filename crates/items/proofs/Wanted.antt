@@ -1,9 +1,11 @@
 -- Where a value is wanted: what the value reader finds is what the token there says, in the block and in a frame. Assumes nothing.
 use Prim.Native.Nat.{ℕ}
-use mathlib.Core.Path.{_≡_, refl, _∙_}
+use mathlib.Core.Path.{_≡_, refl, ap, _∙_}
 use mathlib.Core.Bool.{Bool, true, false, cond, _||_}
 use mathlib.Core.List.{List, [], _∷_}
 use lib.ListN.{drop}
+use Rattle.columns.specs.Before.{byteBefore}
+use Rattle.rules.specs.declared.Reading.the-variants.{First}
 use Rattle.text.specs.Bytes.{is}
 use Rattle.words.specs.Words.{word}
 use Rattle.keywords.specs.Keywords.{starts, keyData, keyGlobal, keyLoop, keySave, keyStop}
@@ -11,7 +13,7 @@ use Rattle.values.specs.Values.{loop, save, tag, nothing, reservedWord, noStart
 use Rattle.values.specs.Answers.{whyOf, whyNot, wanted}
 use Rattle.values.specs.Finding.{foundAt}
 use Rattle.keywords.proofs.Keywords.{reserved-words}
-use Rattle.values.proofs.Laws.{found-as-value, as-value-end, as-value, tag-none}
+use Rattle.values.proofs.Laws.{found-as-value, as-value-end, as-value, first-as-value, tag-none}
 use Rattle.grammar.specs.Tokens.{Mode, saveSize, lexIn}
 
 -- no value starts with a keyword or `_`
@@ -28,13 +30,14 @@ starts-none false false false false true u z w v h = refl
 starts-none false false false false false true z w v h = rw (h refl)
 starts-none false false false false false false z w v h = refl
 
-lexes-alike : (m : Mode) (s : List ℕ) → wanted (lexAsValue s .class) (lexAsValue s .size) ≡ wanted (lexIn m s .class) (lexIn m s .size)
+lexes-alike : (m : Mode) (s : List ℕ) → wanted (lexAsValue First 10 s .class) (lexAsValue First 10 s .size) ≡ wanted (lexIn m s .class) (lexIn m s .size)
 unfolding lexIn
-lexes-alike m [] = rw as-value-end
+lexes-alike m [] = rw (as-value-end First 10)
 lexes-alike m (b ∷ s) =
-    rw (as-value b s, reserved-words (b ∷ s))
-    (starts-none (starts keyData (b ∷ s)) (starts keyGlobal (b ∷ s)) (starts keyLoop (b ∷ s)) (starts keySave (b ∷ s)) (starts keyStop (b ∷ s)) (is 95 b) (saveSize m (b ∷ s)) (word (b ∷ s)) (lexValue b s) (tag-none b s))
+    rw (as-value First 10 b s, reserved-words (b ∷ s))
+    (starts-none (starts keyData (b ∷ s)) (starts keyGlobal (b ∷ s)) (starts keyLoop (b ∷ s)) (starts keySave (b ∷ s)) (starts keyStop (b ∷ s)) (is 95 b) (saveSize m (b ∷ s)) (word (b ∷ s)) (lexValue First 10 b s) (tag-none First 10 b s))
 
 -- THE VALUE READER FINDS WHAT THE TOKEN SAYS
-pub found-wanted : (m : Mode) (s : List ℕ) (o : ℕ) → foundAt s o ≡ wanted (lexIn m (drop o s) .class) (lexIn m (drop o s) .size)
-found-wanted m s o = found-as-value s o ∙ lexes-alike m (drop o s)
+pub found-wanted : (m : Mode) (s : List ℕ) (o : ℕ) → foundAt First s o ≡ wanted (lexIn m (drop o s) .class) (lexIn m (drop o s) .size)
+found-wanted m s o =
+    found-as-value First s o ∙ ap (λ (x : Lexed). wanted (x .class) (x .size)) (first-as-value (byteBefore s o) 10 (drop o s)) ∙ lexes-alike m (drop o s)

@@ -6,11 +6,12 @@ use mathlib.Core.List.{List, [], _∷_}
 use borrow.Author.Tests.{eqb-true}
 use lib.Dec.{eqb}
 use lib.ListN.{drop}
+use Rattle.rules.specs.declared.Reading.the-variants.{First}
 use Rattle.text.specs.Bytes.{is}
 use Rattle.text.proofs.Bools.{and-l, and-r}
 use Rattle.words.specs.Words.{word}
 use Rattle.folding.specs.Folding.{lower}
-use Rattle.keywords.specs.Keywords.{starts, startsAt, keyData, keyGlobal, keyLoop, keySave, keyStop, reserved}
+use Rattle.keywords.specs.Keywords.{starts, startsAt, keyData, keyGlobal, keyLoop, keySave, keyStop, stands, reserved}
 use Rattle.keywords.proofs.Keywords.{data-word, save-word}
 
 -- at an offset means at the start of the rest
@@ -26,8 +27,8 @@ pub record NoKeyword (s : List ℕ) : Type 0 where
   pub no-save : starts keySave s ≡ false
   pub no-stop : starts keyStop s ≡ false
 
--- where no reserved word stands, none of the five does
-pub not-reserved : (s : List ℕ) → reserved s ≡ false → NoKeyword s
+-- where no reserved word of the first reading stands, none of the five does
+pub not-reserved : (s : List ℕ) → reserved First s ≡ false → NoKeyword s
 unfolding reserved
 not-reserved s e = by (starts keyData s) (starts keyGlobal s) (starts keyLoop s) (starts keySave s) (starts keyStop s) refl refl refl refl refl e
   where

@@ -8,6 +8,7 @@ use native.Mathlib.Omega.{arith}
 use borrow.Author.Tests.{eqb-true, ltb-true, leb-true, leb-false, ltb-false}
 use lib.Dec.{eqb, leb, ltb}
 use lib.ListN.{length, take, drop, length-append, length-take, length-drop}
+use Rattle.rules.specs.declared.Reading.the-variants.{First}
 use Rattle.text.specs.Bytes.{is, isAscii, isDigit, endsWord}
 use Rattle.text.specs.Runs.{span}
 use Rattle.text.proofs.Bools.{and-l, and-r, or-cases}
@@ -131,10 +132,10 @@ reads-open c e =
 pub alone-reads : (f : Bool) (k : ℕ) (w : List ℕ) → isAlone k w ≡ true → Reads f w (value k)
 unfolding Reads lexed isAlone
 alone-reads f k w e =
-    let c = kind-class (lexAsValue w .class) (and-l (isKind k (lexAsValue w .class)) _ e) in
-    let n : lexAsValue w .size ≡ length w = eqb-true (lexAsValue w .size) (length w) (and-r (isKind k (lexAsValue w .class)) _ e) in
-    let x : lexAsValue w ≡ lexed (value k) (length w) = λ i. record { class = c i; size = n i } in
-    let l : Lies w k (length w) = value-lies w k (length w) x in
+    let c = kind-class (lexAsValue First 10 w .class) (and-l (isKind k (lexAsValue First 10 w .class)) _ e) in
+    let n : lexAsValue First 10 w .size ≡ length w = eqb-true (lexAsValue First 10 w .size) (length w) (and-r (isKind k (lexAsValue First 10 w .class)) _ e) in
+    let x : lexAsValue First 10 w ≡ lexed (value k) (length w) = λ i. record { class = c i; size = n i } in
+    let l : Lies First w k (length w) = value-lies First 10 w k (length w) x in
     record { reads = in-any-mode (modeOf f) w k (length w) x; fills = refl; some-bytes = l .pos }
   where
     kind-class : (c : Class) → isKind k c ≡ true → c ≡ value k

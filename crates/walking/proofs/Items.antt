@@ -8,6 +8,7 @@ use native.Mathlib.Omega.{arith}
 use borrow.Author.Tests.{ne-eqb}
 use lib.Dec.{eqb}
 use lib.ListN.{length, drop}
+use Rattle.rules.specs.declared.Reading.the-variants.{First}
 use Rattle.gaps.specs.Gaps.{gap, gapEnd}
 use Rattle.places.specs.Places.{placeAt}
 use Rattle.gaps.proofs.Gaps.{gap-none}
@@ -65,12 +66,12 @@ unfolding tagsOf
 tags-value k o n rs h = let e : eqb k 6 ≡ false = ne-eqb k 6 (λ q. omega arith) in rw e
 
 pub values-tags : (s : List ℕ) (o : ℕ) → tagsOf (valuesFrom s o ++ (loopEnd ∷ [])) ≡ 0
-values-tags s o = by (foundAt s (gapEnd s o)) refl
+values-tags s o = by (foundAt First s (gapEnd s o)) refl
   where
     none : valuesFrom s o ≡ [] → tagsOf (valuesFrom s o ++ (loopEnd ∷ [])) ≡ 0
     none e = rw e (unfold tagsOf loopEnd in refl)
 
-    by : (f : Found) → foundAt s (gapEnd s o) ≡ f → tagsOf (valuesFrom s o ++ (loopEnd ∷ [])) ≡ 0
+    by : (f : Found) → foundAt First s (gapEnd s o) ≡ f → tagsOf (valuesFrom s o ++ (loopEnd ∷ [])) ≡ 0
     by (Value k n) e = let t = value-turn s o (gapEnd s o) k n refl e in rw (t .recs) (tags-value k (gapEnd s o) n _ (t .least))
     by Over e = none (value-none s o (gapEnd s o) refl (λ k n q. let z : _≡_ {A = ℕ} 0 1 = cc in omega arith) .0)
     by (Missing w) e = none (value-none s o (gapEnd s o) refl (λ k n q. let z : _≡_ {A = ℕ} 0 1 = cc in omega arith) .0)
@@ -272,12 +273,12 @@ pub record TagParts (s : List ℕ) (o w j : ℕ) : Type 0 where
   pub token : IsToken s 4 o w
   pub kind : ℕ
   pub size : ℕ
-  pub found : foundAt s j ≡ Value kind size
+  pub found : foundAt First s j ≡ Value kind size
   pub recs : itemRecs (itemOf s o) ≡ recAt 4 o w ∷ (recAt kind j size ∷ [])
   pub rest : headAt (itemRest (itemOf s o)) ≡ gapEnd s (j + size)
 
 -- a tag that is read with its value has one
-tag-found : (s : List ℕ) (o w j : ℕ) → Met inBlock s o (lexed tag w) → j ≡ gapEnd s (o + w) → isTaken (itemOf s o) ≡ true → (k : ℕ) × (n : ℕ) × (foundAt s j ≡ Value k n)
+tag-found : (s : List ℕ) (o w j : ℕ) → Met inBlock s o (lexed tag w) → j ≡ gapEnd s (o + w) → isTaken (itemOf s o) ≡ true → (k : ℕ) × (n : ℕ) × (foundAt First s j ≡ Value k n)
 unfolding item itemBy tagItem lexed tok after lex
 tag-found s o w j m z r =
     let b : gap (drop j s) ≡ 0 = rw z (gap-none s (o + w)) in
@@ -288,7 +289,7 @@ tag-found s o w j m z r =
     let k = single-read (tok (lexed tag w) o) (y .class) (tok y j) (f .0) (rw i at r) in
     (k .0, y .size, found-wanted inBlock s j ∙ wanted-value (y .class) (k .0) (y .size) (k .1))
 
-tag-with : (s : List ℕ) (o w j k n : ℕ) → o ≤ length s → Met inBlock s o (lexed tag w) → w ≤ word (drop o s) → j ≡ gapEnd s (o + w) → foundAt s j ≡ Value k n → TagParts s o w j
+tag-with : (s : List ℕ) (o w j k n : ℕ) → o ≤ length s → Met inBlock s o (lexed tag w) → w ≤ word (drop o s) → j ≡ gapEnd s (o + w) → foundAt First s j ≡ Value k n → TagParts s o w j
 unfolding item itemBy tagItem single itemRecs itemRest lexed tok after rec kindOf marksOf
 tag-with s o w j k n h m l z v =
     let b : gap (drop j s) ≡ 0 = rw z (gap-none s (o + w)) in

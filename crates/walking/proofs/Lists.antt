@@ -5,6 +5,7 @@ use mathlib.Core.Bool.{Bool, true, false}
 use mathlib.Core.List.{List, [], _∷_}
 use native.Mathlib.Omega.{arith}
 use lib.ListN.{length, drop}
+use Rattle.rules.specs.declared.Reading.the-variants.{First}
 use Rattle.gaps.specs.Gaps.{gap, gapEnd}
 use Rattle.gaps.proofs.Gaps.{gap-none}
 use Rattle.gaps.proofs.Bare.{gap-bare, gap-twice}
@@ -67,7 +68,7 @@ module _ (full : Bool) (s : List ℕ) (d₀ : Desk) where
       over-gap full s (valuesFrom s) (behindValues s) d₀ c e l a h q (ap valueRecs (tokens-gap inBlock s o)) (ap afterValues (tokens-gap inBlock s o))
 
   -- the end
-  pub value-last : (d : Desk) → SoFar full s (valuesFrom s) (behindValues s) d₀ d → gap (drop (d .cursor .place .offset) s) ≡ 0 → ((k n : ℕ) → foundAt s (d .cursor .place .offset) ≡ Value k n → ⊥)
+  pub value-last : (d : Desk) → SoFar full s (valuesFrom s) (behindValues s) d₀ d → gap (drop (d .cursor .place .offset) s) ≡ 0 → ((k n : ℕ) → foundAt First s (d .cursor .place .offset) ≡ Value k n → ⊥)
       → Wrote full s (valuesFrom s (d₀ .cursor .place .offset)) (headAt (behindValues s (d₀ .cursor .place .offset))) d₀ d
   value-last d h g v =
       let o = d .cursor .place .offset in

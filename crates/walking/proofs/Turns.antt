@@ -5,6 +5,7 @@ use mathlib.Core.Bool.{true, false}
 use mathlib.Core.List.{List, [], _∷_}
 use native.Mathlib.Omega.{arith}
 use lib.ListN.{length, drop}
+use Rattle.rules.specs.declared.Reading.the-variants.{First}
 use Rattle.gaps.specs.Gaps.{gap, gapEnd}
 use Rattle.places.specs.Places.{placeAt}
 use Rattle.gaps.proofs.Gaps.{gap-from, gap-within, gap-none, is-gap-end}
@@ -80,14 +81,14 @@ pub record ValueTurn (s : List ℕ) (o j k n : ℕ) : Type 0 where
   pub recs : valueRecs (tokensAt inBlock s o) ≡ recAt k j n ∷ valueRecs (tokensAt inBlock s (j + n))
   pub rest : afterValues (tokensAt inBlock s o) ≡ afterValues (tokensAt inBlock s (j + n))
 
-pub value-turn : (s : List ℕ) (o j k n : ℕ) → j ≡ gapEnd s o → foundAt s j ≡ Value k n → ValueTurn s o j k n
+pub value-turn : (s : List ℕ) (o j k n : ℕ) → j ≡ gapEnd s o → foundAt First s j ≡ Value k n → ValueTurn s o j k n
 unfolding lexed tok after rec
 value-turn s o j k n e f =
     let g : gap (drop j s) ≡ 0 = rw e (gap-none s o) in
     let m : Met inBlock s j (lexed (value k) n) = met-value s j k n g f in
     let x : tokensAt inBlock s o ≡ tok (lexed (value k) n) j ∷ tokensAt inBlock s (j + n) = sym (tokens-gap inBlock s o) ∙ rw (← e) (m .next) in
     let y = values-more (tok (lexed (value k) n) j) (tokensAt inBlock s (j + n)) k refl in
-    let i = found-lies s j k n f in
+    let i = found-lies First s j k n f in
     record {
       token = value-token s j k n f;
       least = i .low;
@@ -96,7 +97,7 @@ value-turn s o j k n e f =
       rest = ap afterValues x ∙ y .1;
     }
 
-pub value-none : (s : List ℕ) (o j : ℕ) → j ≡ gapEnd s o → ((k n : ℕ) → foundAt s j ≡ Value k n → ⊥) → (valueRecs (tokensAt inBlock s o) ≡ []) × (afterValues (tokensAt inBlock s o) ≡ tokensAt inBlock s o)
+pub value-none : (s : List ℕ) (o j : ℕ) → j ≡ gapEnd s o → ((k n : ℕ) → foundAt First s j ≡ Value k n → ⊥) → (valueRecs (tokensAt inBlock s o) ≡ []) × (afterValues (tokensAt inBlock s o) ≡ tokensAt inBlock s o)
 unfolding tok lex
 value-none s o j e h =
     let g : gap (drop j s) ≡ 0 = rw e (gap-none s o) in
@@ -107,7 +108,7 @@ value-none s o j e h =
     (ap valueRecs z ∙ y .0, ap afterValues z ∙ y .1 ∙ sym z)
 
 -- where no space stands before it
-pub value-here : (s : List ℕ) (o k n : ℕ) → gap (drop o s) ≡ 0 → foundAt s o ≡ Value k n → ValueHere s o k n
+pub value-here : (s : List ℕ) (o k n : ℕ) → gap (drop o s) ≡ 0 → foundAt First s o ≡ Value k n → ValueHere s o k n
 value-here s o k n g f = record { bare = g; found = f }
 
 pub here-turn : (s : List ℕ) (o k n : ℕ) → ValueHere s o k n → ValueTurn s o o k n

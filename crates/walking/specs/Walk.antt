@@ -5,6 +5,7 @@ use mathlib.Core.Path.{_≡_}
 use mathlib.Core.Bool.{Bool, true, false}
 use mathlib.Core.List.{List, [], _∷_}
 use lib.ListN.{length, drop}
+use Rattle.rules.specs.declared.Reading.the-variants.{First}
 use Rattle.gaps.specs.Gaps.{gap, gapEnd}
 use Rattle.places.specs.Places.{placeAt}
 use Rattle.records.specs.Put.{put}
@@ -116,7 +117,7 @@ pub record ItemHere (full : Bool) (s : List ℕ) (d : Desk) : Type 0 where
   pub going : Going s (d .cursor)
   pub bare : gap (drop (d .cursor .place .offset) s) ≡ 0
   pub read : isTaken (itemOf s (d .cursor .place .offset)) ≡ true
-  pub alone : (k n : ℕ) → foundAt s (headAt (itemRest (itemOf s (d .cursor .place .offset)))) ≡ Value k n → ⊥
+  pub alone : (k n : ℕ) → foundAt First s (headAt (itemRest (itemOf s (d .cursor .place .offset)))) ≡ Value k n → ⊥
   pub room : Room full (itemRecs (itemOf s (d .cursor .place .offset))) d
 
 -- it is written, and the cursor stands behind it and the space there

@@ -5,7 +5,7 @@ use mathlib.Core.Bool.{Bool, true, false, cond, false≢true}
 use mathlib.Core.List.{List, [], _∷_, _++_, append-assoc}
 use mathlib.Core.Option.{Option, none, some}
 use lib.Dec.{eqb}
-use Rattle.values.specs.Values.{Class, block, loop, save, tag, value, overLimit, nothing, atEnd, reservedWord, noStart, openQuote, openField}
+use Rattle.values.specs.Values.{Class, block, loop, save, tag, value, overLimit, nothing, atEnd, reservedWord, noStart, openQuote, openField, joined}
 use Rattle.grammar.specs.Tokens.{Tok}
 use Rattle.grammar.specs.Machine.{Rec, Answer, refused, done, State, start, items, names, values, wants, config, Outcome, go, stop, loopEnd, closes, fails, atItem, loopEnds, atValue, noMoreNames, atName, atWant, move, follow, run, reason, inBlockOnly}
 
@@ -72,6 +72,7 @@ module _ (p : List Rec) where
   item-after d f out (nothing noStart) t = fails-after 7 (t .at) d f out t
   item-after d f out (nothing openQuote) t = fails-after 7 (t .at) d f out t
   item-after d f out (nothing openField) t = fails-after 7 (t .at) d f out t
+  item-after d f out (nothing joined) t = fails-after 7 (t .at) d f out t
   item-after d f out block t = fails-after 7 (t .at) d f out t
   item-after d f out (value k) t = fails-after 7 (t .at) d f out t
   item-after d f out overLimit t = fails-after 7 (t .at) d f out t

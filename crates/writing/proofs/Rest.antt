@@ -8,6 +8,7 @@ use mathlib.Core.Option.{Option, none, some}
 use native.Mathlib.Omega.{arith}
 use lib.Dec.{eqb}
 use lib.ListN.{length, drop, length-drop}
+use Rattle.rules.specs.declared.Reading.the-variants.{First}
 use Rattle.gaps.specs.Gaps.{gap, gapEnd}
 use Rattle.gaps.proofs.Gaps.{gap-none}
 use Rattle.words.specs.Words.{word}
@@ -191,7 +192,7 @@ unfolding run follow move atItem fails closes config isDone
 value-refused none j t ts e = rw e
 value-refused (some b) j t ts e = rw e
 
-pub no-value-left : (f : Option ℕ) (s : List ℕ) (p : ℕ) → gap (drop p s) ≡ 0 → isDone (left 0 f s p []) ≡ true → (k n : ℕ) → foundAt s p ≡ Value k n → ⊥
+pub no-value-left : (f : Option ℕ) (s : List ℕ) (p : ℕ) → gap (drop p s) ≡ 0 → isDone (left 0 f s p []) ≡ true → (k n : ℕ) → foundAt First s p ≡ Value k n → ⊥
 unfolding left modeOf lex tok
 no-value-left f s p g d k n e = by f d
   where

@@ -12,7 +12,7 @@ use Rattle.text.specs.Bytes.{isAscii}
 use Rattle.text.specs.Runs.{span}
 use Rattle.places.specs.Places.{placeAt}
 use Rattle.places.specs.Reports.{success, refusedAt, refusedBare, noRoom}
-use Rattle.values.specs.Values.{Class, block, loop, save, tag, value, overLimit, nothing, atEnd, reservedWord, noStart, openQuote, openField}
+use Rattle.values.specs.Values.{Class, block, loop, save, tag, value, overLimit, nothing, atEnd, reservedWord, noStart, openQuote, openField, joined}
 use Rattle.grammar.specs.Tokens.{Tok, tokens}
 use Rattle.grammar.specs.Machine.{Rec, Answer, refused, done, State, start, items, names, values, wants, Config, config, Outcome, go, stop, rec, loopEnd, closes, fails, atItem, loopEnds, atValue, noMoreNames, atName, atWant, atStart, move, follow, run, reason, inBlockOnly}
 use Rattle.grammar.specs.Reading.{decided, outline}
@@ -58,6 +58,7 @@ module _ (t : Tok) where
   item-ok d f out (nothing noStart) = fails-ok 7 (t .at) d f out (omega arith)
   item-ok d f out (nothing openQuote) = fails-ok 7 (t .at) d f out (omega arith)
   item-ok d f out (nothing openField) = fails-ok 7 (t .at) d f out (omega arith)
+  item-ok d f out (nothing joined) = fails-ok 7 (t .at) d f out (omega arith)
   item-ok d f out block = fails-ok 7 (t .at) d f out (omega arith)
   item-ok d f out (value k) = fails-ok 7 (t .at) d f out (omega arith)
   item-ok d f out overLimit = fails-ok 7 (t .at) d f out (omega arith)

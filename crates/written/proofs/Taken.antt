@@ -16,7 +16,7 @@ use Rattle.text.specs.Bytes.{isAscii}
 use Rattle.text.specs.Runs.{span}
 use Rattle.gaps.specs.Gaps.{gap}
 use Rattle.gaps.proofs.Gaps.{gap-fits}
-use Rattle.values.specs.Values.{Class, block, loop, save, tag, value, overLimit, nothing, atEnd, reservedWord, noStart, openQuote, openField, Lexed, lexed}
+use Rattle.values.specs.Values.{Class, block, loop, save, tag, value, overLimit, nothing, atEnd, reservedWord, noStart, openQuote, openField, joined, Lexed, lexed}
 use Rattle.grammar.specs.Tokens.{Mode, before, inBlock, inFrame, lex, after, Tok, tok, emit, step, tokensFrom, tokens}
 use Rattle.grammar.specs.Machine.{Rec, Answer, refused, done, State, start, items, names, values, wants, Config, config, Outcome, go, stop, rec, loopEnd, closes, fails, atItem, loopEnds, atValue, noMoreNames, atName, atWant, atStart, move, follow, run, reason, inBlockOnly}
 use Rattle.grammar.specs.Reading.{decided, outline}
@@ -159,6 +159,7 @@ module _ (s : List ℕ) (m : Mode) (t : Tok) (reads : lex m (drop (t .at) s) ≡
   item-ok o d fr out (nothing noStart) i h b p n = fails-ok o 7 (t .at) d fr out i h b
   item-ok o d fr out (nothing openQuote) i h b p n = fails-ok o 7 (t .at) d fr out i h b
   item-ok o d fr out (nothing openField) i h b p n = fails-ok o 7 (t .at) d fr out i h b
+  item-ok o d fr out (nothing joined) i h b p n = fails-ok o 7 (t .at) d fr out i h b
   item-ok o d fr out block i h b p n = fails-ok o 7 (t .at) d fr out i h b
   item-ok o d fr out (value k) i h b p n = fails-ok o 7 (t .at) d fr out i h b
   item-ok o d fr out overLimit i h b p n = fails-ok o 7 (t .at) d fr out i h b
