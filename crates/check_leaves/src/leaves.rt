@@ -63,8 +63,8 @@ fn decimal(d: Decimal) {
     say::number(d.uncertainty as u64);
 }
 
-pub fn number(w: &[u8]) {
-    let n = numbers::parse_numeric(Reading::First, w);
+pub fn number(reading: Reading, w: &[u8]) {
+    let n = numbers::parse_numeric(reading, w);
     match n {
         Number::Not => say::bytes(b" no number"),
         Number::Over => say::bytes(b" over"),
@@ -83,12 +83,12 @@ fn reason(w: Why) {
     }
 }
 
-// The value that a text starts with. Lengths of values take four bytes.
-pub fn value(s: &[u8]) {
+// The value at an offset of a text. Lengths of values take four bytes.
+pub fn value(reading: Reading, s: &[u8], at: usize) {
     if 4294967295 < s.len() {
         return;
     }
-    let v = values::parse_value(Reading::First, s, 0);
+    let v = values::parse_value(reading, s, at);
     match v {
         Value::Token { kind, size } => {
             say::number(kind as u64);

@@ -1,6 +1,6 @@
 -- Where a value is wanted: what the value reader finds is what the token there says, in the block and in a frame. Assumes nothing.
 use Prim.Native.Nat.{ℕ}
-use mathlib.Core.Path.{_≡_, refl, ap, _∙_}
+use mathlib.Core.Path.{_≡_, refl, _∙_}
 use mathlib.Core.Bool.{Bool, true, false, cond, _||_}
 use mathlib.Core.List.{List, [], _∷_}
 use lib.ListN.{drop}
@@ -13,7 +13,7 @@ use Rattle.values.specs.Values.{loop, save, tag, nothing, reservedWord, noStart
 use Rattle.values.specs.Answers.{whyOf, whyNot, wanted}
 use Rattle.values.specs.Finding.{foundAt}
 use Rattle.keywords.proofs.Keywords.{reserved-words}
-use Rattle.values.proofs.Laws.{found-as-value, as-value-end, as-value, first-as-value, tag-none}
+use Rattle.values.proofs.Laws.{found-as-value, as-value-end, as-value, tag-none}
 use Rattle.grammar.specs.Tokens.{Mode, saveSize, lexIn}
 
 -- no value starts with a keyword or `_`
@@ -30,14 +30,13 @@ starts-none false false false false true u z w v h = refl
 starts-none false false false false false true z w v h = rw (h refl)
 starts-none false false false false false false z w v h = refl
 
-lexes-alike : (m : Mode) (s : List ℕ) → wanted (lexAsValue First 10 s .class) (lexAsValue First 10 s .size) ≡ wanted (lexIn m s .class) (lexIn m s .size)
+lexes-alike : (p : ℕ) (m : Mode) (s : List ℕ) → wanted (lexAsValue First p s .class) (lexAsValue First p s .size) ≡ wanted (lexIn First p m s .class) (lexIn First p m s .size)
 unfolding lexIn
-lexes-alike m [] = rw (as-value-end First 10)
-lexes-alike m (b ∷ s) =
-    rw (as-value First 10 b s, reserved-words (b ∷ s))
-    (starts-none (starts keyData (b ∷ s)) (starts keyGlobal (b ∷ s)) (starts keyLoop (b ∷ s)) (starts keySave (b ∷ s)) (starts keyStop (b ∷ s)) (is 95 b) (saveSize m (b ∷ s)) (word (b ∷ s)) (lexValue First 10 b s) (tag-none First 10 b s))
+lexes-alike p m [] = rw (as-value-end First p)
+lexes-alike p m (b ∷ s) =
+    rw (as-value First p b s, reserved-words (b ∷ s))
+    (starts-none (starts keyData (b ∷ s)) (starts keyGlobal (b ∷ s)) (starts keyLoop (b ∷ s)) (starts keySave (b ∷ s)) (starts keyStop (b ∷ s)) (is 95 b) (saveSize m (b ∷ s)) (word (b ∷ s)) (lexValue First p b s) (tag-none First p b s))
 
 -- THE VALUE READER FINDS WHAT THE TOKEN SAYS
-pub found-wanted : (m : Mode) (s : List ℕ) (o : ℕ) → foundAt First s o ≡ wanted (lexIn m (drop o s) .class) (lexIn m (drop o s) .size)
-found-wanted m s o =
-    found-as-value First s o ∙ ap (λ (x : Lexed). wanted (x .class) (x .size)) (first-as-value (byteBefore s o) 10 (drop o s)) ∙ lexes-alike m (drop o s)
+pub found-wanted : (m : Mode) (s : List ℕ) (o : ℕ) → foundAt First s o ≡ wanted (lexIn First (byteBefore s o) m (drop o s) .class) (lexIn First (byteBefore s o) m (drop o s) .size)
+found-wanted m s o = found-as-value First s o ∙ lexes-alike (byteBefore s o) m (drop o s)

@@ -49,7 +49,7 @@ pub data Question : Type 0 where
 
 -- a text is read into a store and an area of 65,536 bytes each
 unfoldable pub asked : Question → Seen
-asked (text s) = seen (bytes s) (readAnswer (bytes s) 65536 65536) (outline (bytes s))
+asked (text s) = seen (bytes s) (readAnswer (bytes s) 65536 65536) (outline First (bytes s))
 asked (word s) = says (valueAnswer First 10 (bytes s))
 
 pub record Reading : Type 0 where

@@ -113,20 +113,20 @@ name-length c e = eqb-true (word c) (length c) e
 pub reads-tag : (f : Bool) (c : List ℕ) → isName c ≡ true → Reads f (95 ∷ c) tag
 unfolding Reads lexed word span inWord endsWord is
 reads-tag f c e =
-    record { reads = lex-tag (modeOf f) 95 c refl ∙ ap (λ (n : ℕ). lexed tag (suc n)) (name-length c e); fills = refl; some-bytes = omega arith }
+    record { reads = lex-tag 10 (modeOf f) 95 c refl ∙ ap (λ (n : ℕ). lexed tag (suc n)) (name-length c e); fills = refl; some-bytes = omega arith }
 
 pub reads-loop : (f : Bool) → Reads f keyLoop loop
 unfolding Reads lexed keyLoop starts lower is
-reads-loop f = record { reads = lex-loop (modeOf f) 108 _ refl; fills = refl; some-bytes = omega arith }
+reads-loop f = record { reads = lex-loop 10 (modeOf f) 108 _ refl; fills = refl; some-bytes = omega arith }
 
 pub reads-shut : Reads true keySave save
 unfolding Reads lexed keySave starts lower is modeOf saveSize
-reads-shut = record { reads = lex-save inFrame 115 _ refl; fills = refl; some-bytes = omega arith }
+reads-shut = record { reads = lex-save 10 inFrame 115 _ refl; fills = refl; some-bytes = omega arith }
 
 pub reads-open : (c : List ℕ) → isName c ≡ true → Reads false (keySave ++ c) save
 unfolding Reads lexed keySave starts lower is modeOf saveSize word span inWord endsWord
 reads-open c e =
-    record { reads = lex-save inBlock 115 _ refl ∙ ap (λ (n : ℕ). lexed save (suc (suc (suc (suc (suc n)))))) (name-length c e); fills = refl; some-bytes = omega arith }
+    record { reads = lex-save 10 inBlock 115 _ refl ∙ ap (λ (n : ℕ). lexed save (suc (suc (suc (suc (suc n)))))) (name-length c e); fills = refl; some-bytes = omega arith }
 
 -- w alone is a value of kind k
 pub alone-reads : (f : Bool) (k : ℕ) (w : List ℕ) → isAlone k w ≡ true → Reads f w (value k)

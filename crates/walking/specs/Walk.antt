@@ -60,16 +60,16 @@ pub record ValueAhead (full : Bool) (s : List ℕ) (k n : ℕ) (d : Desk) : Type
 
 -- the names, the values from an offset on, and what stands behind them
 abbrev pub namesFrom : List ℕ → ℕ → List Rec
-namesFrom s o = nameRecs (tokensAt inBlock s o)
+namesFrom s o = nameRecs (tokensAt First inBlock s o)
 
 abbrev pub behindNames : List ℕ → ℕ → List Tok
-behindNames s o = afterNames (tokensAt inBlock s o)
+behindNames s o = afterNames (tokensAt First inBlock s o)
 
 abbrev pub valuesFrom : List ℕ → ℕ → List Rec
-valuesFrom s o = valueRecs (tokensAt inBlock s o)
+valuesFrom s o = valueRecs (tokensAt First inBlock s o)
 
 abbrev pub behindValues : List ℕ → ℕ → List Tok
-behindValues s o = afterValues (tokensAt inBlock s o)
+behindValues s o = afterValues (tokensAt First inBlock s o)
 
 -- there is room for the names, for the values from the cursor on
 pub record NamesAhead (full : Bool) (s : List ℕ) (d : Desk) : Type 0 where
@@ -110,7 +110,7 @@ isTaken (broken n o) = false
 
 -- the item at an offset
 abbrev pub itemOf : List ℕ → ℕ → Item
-itemOf s o = item (tokensAt inBlock s o)
+itemOf s o = item (tokensAt First inBlock s o)
 
 -- an item that is read stands at the cursor, where no space does, no value stands behind it, and there is room for it
 pub record ItemHere (full : Bool) (s : List ℕ) (d : Desk) : Type 0 where

@@ -113,7 +113,8 @@ fn write_values(s: &[u8], full: bool, store: &mut [u8], area: &mut [u8], c: Curs
         let here = trimmed(s, last);
         let place = here.place;
         let offset = place.offset;
-        let Found::Value { kind, size } = Found::of(values::pack_value(Reading::First, s, offset)) else {
+        let Found::Value { kind, size } = Found::of(values::pack_value(Reading::First, s, offset))
+        else {
             return here;
         };
         last = write_found(s, full, store, area, here, kind, size);

@@ -77,8 +77,8 @@ module _ {s : List ℕ} {r : Rec} where
   took-within : {m : Mode} {k : ℕ} (c : Class) → Took s m c k r → r .at + r .size ≤ length s
   unfolding lexed
   took-within {m} c t =
-      let n : (lex m (drop (r .at) s)) .size ≡ r .size = ap (λ (x : Lexed). x .size) (t .reads) in
-      omega (arith, lex-fits m (drop (r .at) s), length-drop (r .at) s, t .within)
+      let n : (lex First 10 m (drop (r .at) s)) .size ≡ r .size = ap (λ (x : Lexed). x .size) (t .reads) in
+      omega (arith, lex-fits First 10 m (drop (r .at) s), length-drop (r .at) s, t .within)
 
   took-facts : {m : Mode} (c : Class) (k : ℕ) → 1 ≤ k → k < 14 → (k ≡ 6 → 0 < r .size) → Took s m c k r → Facts s r
   took-facts c k l h g t =

@@ -17,7 +17,7 @@ starts-number-requires : tie.Need-starts-number-requires
 starts-number-requires c κs = search needs
 
 returns : tie.Need-returns
-returns c = 
+returns c =
     sym
     (not-number _ _
     (no-number-by-first-byte _
