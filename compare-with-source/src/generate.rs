@@ -148,17 +148,12 @@ impl File<'_> {
         self.name();
     }
 
-    /// A name: any bytes that end no word, perhaps none. Some differ in letter case alone, and some
-    /// look as if they did.
+    /// A name: any bytes that end no word, perhaps none.
     fn name(&mut self) {
-        const NAMES: [&str; 16] = [
+        const NAMES: [&str; 12] = [
             "a",
-            "A",
             "b",
-            "[",
-            "{",
             "cell.length_a",
-            "Cell.length_A",
             "atom_site.id",
             "",
             "#",

@@ -141,16 +141,43 @@ fn content_is(
     )
 }
 
+/// The name check, of the names as they are and of some spelt otherwise.
 fn names(records: &[Record], kept: Kept) -> Result<(), String> {
-    let answer = match model_stores::repeated_name(records) {
+    must(kept.names() == named(records), "names: the answer differs")?;
+    let records = respelt(records);
+    let (store, area) = stores::encode(&records);
+    let kept = Kept {
+        store: &store,
+        area: &area,
+    };
+    must(
+        kept.names() == named(&records),
+        "names: the answer differs where some are spelt otherwise",
+    )
+}
+
+fn named(records: &[Record]) -> Called {
+    match model_stores::repeated_name(records) {
         None => refused(0),
         Some((first, second)) => Called {
             offset: first as u64,
             line: second as u64,
             ..refused(13)
         },
-    };
-    must(kept.names() == answer, "names: the answer differs")
+    }
+}
+
+/// The same records, but that in every fourth, where it has a name, the bit is turned that parts small
+/// letters from capitals; it parts `[` from `{` as well, and those stay two names.
+fn respelt(records: &[Record]) -> Vec<Record> {
+    let mut records = records.to_vec();
+    for record in records.iter_mut().skip(1).step_by(4) {
+        if let (4 | 6, Body::Content(name)) = (record.kind, &mut record.body) {
+            let turned = name.iter_mut().filter(|byte| **byte >= b'@');
+            turned.for_each(|byte| *byte ^= 0x20);
+        }
+    }
+    records
 }
 
 /// The rendering is document 01's, in exact room and in no less, and reads as the same records.
