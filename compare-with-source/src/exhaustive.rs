@@ -1,7 +1,16 @@
 //! Every short text over telling pieces: fragments of a file, letters of a number, pairs of bytes.
 
-/// Pieces of a text that the rules tell apart.
-pub const FRAGMENTS: [&str; 25] = [
+use crate::reading::Reading;
+
+/// Pieces of a text that the rules of a reading tell apart.
+pub fn fragments(mix: Reading) -> &'static [&'static str] {
+    match mix {
+        Reading::First => &FRAGMENTS,
+        Reading::Strict => &STRICT_FRAGMENTS,
+    }
+}
+
+const FRAGMENTS: [&str; 25] = [
     "data_x",
     " ",
     "\n",
@@ -27,6 +36,35 @@ pub const FRAGMENTS: [&str; 25] = [
     "_",
     "[",
     "12345678901x",
+];
+
+const STRICT_FRAGMENTS: [&str; 26] = [
+    "data_x",
+    "data_",
+    " ",
+    "\n",
+    "\r",
+    "loop_",
+    "loop_x",
+    "_a",
+    "_",
+    "save_",
+    "save_f",
+    "stop_",
+    "1",
+    "1e+",
+    "1234567890",
+    ".x",
+    "?",
+    ".",
+    "'",
+    "\"",
+    ";",
+    "\n;",
+    "#",
+    "b",
+    "[",
+    "\t",
 ];
 
 /// What stands before and behind the pieces.
@@ -74,8 +112,8 @@ impl Depth {
 }
 
 /// Gives every exhaustive text to `use_text` until that answers false.
-pub fn each(depth: &Depth, use_text: &mut dyn FnMut(&[u8]) -> bool) -> bool {
-    sequences(&AROUND_FRAGMENTS, &FRAGMENTS, depth.fragments, use_text)
+pub fn each(mix: Reading, depth: &Depth, use_text: &mut dyn FnMut(&[u8]) -> bool) -> bool {
+    sequences(&AROUND_FRAGMENTS, fragments(mix), depth.fragments, use_text)
         && sequences(&AROUND_WORDS, &LETTERS, depth.letters, use_text)
         && byte_pairs(use_text)
 }
@@ -162,7 +200,7 @@ mod tests {
     fn a_full_run_stops() {
         let mut left = 10;
         let depth = Depth::for_texts(10);
-        let all = each(&depth, &mut |_| {
+        let all = each(Reading::First, &depth, &mut |_| {
             left -= 1;
             left > 0
         });

@@ -4,6 +4,7 @@
 
 use crate::answer::{Answer, Refusal};
 use crate::calls::{self, Called, Kept};
+use crate::reading::Reading;
 use crate::{model, over_stores, stores};
 
 /// Outline has no area; the one given is left alone.
@@ -15,7 +16,7 @@ fn outline(text: &[u8], store: &mut [u8], _area: &mut [u8]) -> Called {
 pub fn read(text: &[u8]) -> Result<Answer, String> {
     let service = |name, call| Service { name, call, text };
     let (read, outline) = (service("read", calls::read), service("outline", outline));
-    match model::read(text) {
+    match model::read(Reading::First, text) {
         Err(refusal) => {
             outline.refuses(&refusal)?;
             read.refuses(&refusal)?;
@@ -179,8 +180,11 @@ mod tests {
 
     #[test]
     fn the_library_answers() {
-        assert_eq!(read(b"data_x _a 1"), Ok(model::read(b"data_x _a 1")));
-        assert_eq!(read(b""), Ok(model::read(b"")));
+        assert_eq!(
+            read(b"data_x _a 1"),
+            Ok(model::read(Reading::First, b"data_x _a 1"))
+        );
+        assert_eq!(read(b""), Ok(model::read(Reading::First, b"")));
     }
 
     #[test]
@@ -201,7 +205,7 @@ mod tests {
             "data_x loop_ _a 1 _b 2 $",
         ] {
             let text = text.as_bytes();
-            assert_eq!(read(text), Ok(model::read(text)));
+            assert_eq!(read(text), Ok(model::read(Reading::First, text)));
         }
     }
 }

@@ -4,6 +4,7 @@
 use crate::answer::{mark_bytes, Body, Decimal, Record};
 use crate::calls::{self, Called, Kept, Part, Walked};
 use crate::model::TEXT_LIMIT;
+use crate::reading::Reading;
 use crate::{model_stores, stores};
 
 /// Of a longer store not every content is asked for: each question walks all of it.
@@ -182,7 +183,7 @@ fn respelt(records: &[Record]) -> Vec<Record> {
 
 /// The rendering is document 01's, in exact room and in no less, and reads as the same records.
 fn rendering(records: &[Record], kept: Kept) -> Result<(), String> {
-    let text = model_stores::rendering(records);
+    let text = model_stores::rendering(Reading::First, records);
     if text.len() > TEXT_LIMIT {
         return must(
             kept.render(&mut []) == refused(1),

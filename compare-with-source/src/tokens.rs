@@ -92,6 +92,7 @@ fn suits(record: &Record, token: &str) -> bool {
         (11, Body::Content(content)) => is_between(token, '\'', content),
         (12, Body::Content(content)) => is_between(token, '"', content),
         (13, Body::Content(content)) => is_between(token, ';', content),
+        (21, Body::Content(content)) => is_closed_by_its_first(token, content),
         (14 | 15, Body::Number(decimal)) => {
             let number = Parts::of(token).and_then(|parts| parts.decimal());
             number == Some(*decimal) && (record.kind == 15) == decimal.uncertainty.is_some()
@@ -111,6 +112,16 @@ fn is_between(token: &str, mark: char, content: &[u8]) -> bool {
         .strip_prefix(mark)
         .and_then(|rest| rest.strip_suffix(mark))
         .is_some_and(|inside| inside.as_bytes() == content)
+}
+
+/// Whether a token is this content, which begins with a quote mark, and the same mark once more.
+fn is_closed_by_its_first(token: &str, content: &[u8]) -> bool {
+    token.starts_with(['\'', '"'])
+        && token
+            .split_at_checked(content.len())
+            .is_some_and(|(front, mark)| {
+                front.as_bytes() == content && token.starts_with(mark) && mark.len() == 1
+            })
 }
 
 /// Whether a word that is a number breaks a digit limit.
@@ -191,18 +202,19 @@ fn amount(digits: &str) -> Option<u64> {
 mod tests {
     use super::*;
     use crate::model;
+    use crate::reading::Reading;
 
     const TEXT: &str = "data_x\r\nsave_f _a 'b'\n\rSAVE_ loop_ _c -1.025e-3(4) ? .\n;x\n;\"\" z";
 
     #[test]
     fn good_records_have_no_fault() {
-        let records = model::read(TEXT.as_bytes()).expect("the text is read");
+        let records = model::read(Reading::First, TEXT.as_bytes()).expect("the text is read");
         assert_eq!(fault(TEXT, &records), None);
     }
 
     #[test]
     fn each_wrong_field_is_a_fault() {
-        let records = model::read(TEXT.as_bytes()).expect("the text is read");
+        let records = model::read(Reading::First, TEXT.as_bytes()).expect("the text is read");
         for number in (0..records.len()).filter(|number| records[*number].kind != 7) {
             let changes: [fn(&mut Record); 5] = [
                 |record| record.place.offset += 1,

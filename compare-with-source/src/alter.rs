@@ -1,0 +1,82 @@
+//! Stores near those that Read writes: records with a change or two, some still sound, some not.
+
+use crate::answer::{mark_bytes, Body, Record};
+use crate::random::Random;
+
+/// Contents that tell the kinds and the readings apart.
+const CONTENTS: [&str; 26] = [
+    "", "a", "1", ".", "?", ".5", ".x", "?x", "1e+", "1()", "loop_", "loop_x", "stop_", "data_",
+    "save_x", "'", "'a", "'a'", "'a' ", "\"b c", ";", ";b", "_", "b\n", "b\n;\n", "#",
+];
+
+/// The records after one to three changes.
+pub fn altered(records: &[Record], random: &mut Random) -> Vec<Record> {
+    let mut records = records.to_vec();
+    for _ in 0..1 + random.below(3) {
+        if !records.is_empty() {
+            alter(&mut records, random);
+        }
+    }
+    records
+}
+
+/// Changes one record, takes it out or puts it in once more.
+fn alter(records: &mut Vec<Record>, random: &mut Random) {
+    let at = random.below(records.len());
+    let other = random.below(records.len());
+    match random.below(8) {
+        0 => drop(records.remove(at)),
+        1 => records.insert(at, records[other].clone()),
+        2 => records.swap(at, other),
+        3 => set_kind(&mut records[at], random),
+        4 => lengthen(&mut records[at], random),
+        5 => set_tags(&mut records[at], random),
+        _ => set_content(&mut records[at], random),
+    }
+}
+
+fn set_kind(record: &mut Record, random: &mut Random) {
+    const NAMES: [u8; 4] = [1, 2, 4, 6];
+    const TEXTS: [u8; 5] = [10, 11, 12, 13, 21];
+    let kinds: &[u8] = match record.kind {
+        1 | 2 | 4 | 6 => &NAMES,
+        10..=13 | 21 => &TEXTS,
+        _ => return,
+    };
+    record.kind = kinds[random.below(kinds.len())];
+    fit_length(record);
+}
+
+fn set_content(record: &mut Record, random: &mut Random) {
+    if let Body::Content(content) = &mut record.body {
+        *content = random.pick(&CONTENTS).as_bytes().to_vec();
+        fit_length(record);
+    }
+}
+
+/// Puts letters behind a content, up to the length at which a name or a line is full.
+fn lengthen(record: &mut Record, random: &mut Random) {
+    if let Body::Content(content) = &mut record.body {
+        let full = if record.kind < 10 { 75 } else { 2048 };
+        let end = match content.last() {
+            Some(b'\n') => content.pop(),
+            _ => None,
+        };
+        content.resize(content.len().max(full - 2 + random.below(4)), b'x');
+        content.extend(end);
+        fit_length(record);
+    }
+}
+
+fn set_tags(record: &mut Record, random: &mut Random) {
+    if let Body::Tags(tags) = &mut record.body {
+        *tags = random.below(4) as u32;
+    }
+}
+
+/// The length of a token is its content's and its marks'.
+fn fit_length(record: &mut Record) {
+    if let Body::Content(content) = &record.body {
+        record.length = content.len() + mark_bytes(record.kind);
+    }
+}

@@ -1,0 +1,99 @@
+//! What the documents claim of every text, tried on one: digits don't show, each record's token stands at
+//! its place, what is read is sound, its rendering is read as the same, and both readings agree where
+//! they are owed to. And of every store: one that is sound comes back from its rendering.
+
+use crate::alike;
+use crate::alter::altered;
+use crate::answer::{Answer, Record};
+use crate::compare::Verdict;
+use crate::random::Random;
+use crate::reading::Reading;
+use crate::{model, model_sound, model_stores, stores, tokens};
+
+/// What comes of holding the model's answer to a text to these laws.
+pub fn judge(reading: Reading, text: &[u8], answer: &Answer) -> Verdict {
+    match fault(reading, text, answer) {
+        Some(fault) => Verdict::Different(String::from(fault)),
+        None => Verdict::Same(answer.as_ref().map_or_else(|refusal| refusal.number, |_| 0)),
+    }
+}
+
+/// The law that an answer breaks, if any.
+fn fault(reading: Reading, text: &[u8], answer: &Answer) -> Option<&'static str> {
+    if !hides_digits(reading, text, answer) {
+        return Some("digits show in an outline or a refusal");
+    }
+    let records = answer.as_ref().ok()?;
+    let words = std::str::from_utf8(text).expect("a text that is read is ASCII");
+    let (store, area) = stores::encode(records);
+    if tokens::fault(words, records).is_some() {
+        Some("a record and its token differ")
+    } else if !model_sound::is_sound(reading, &store, &area) {
+        Some("what was read is not sound")
+    } else if !comes_back(reading, records) {
+        Some("the rendering is read otherwise")
+    } else if reading == Reading::Strict && !reads_alike(text, records) {
+        Some("the first reading has other records")
+    } else {
+        altered_fault(reading, text, records)
+    }
+}
+
+/// Whether other digits in the same places give the same outline or the same refusal.
+fn hides_digits(reading: Reading, text: &[u8], answer: &Answer) -> bool {
+    [zeros(text), other_digits(text)].iter().all(|other| {
+        match (answer, model::read(reading, other)) {
+            (Ok(one), Ok(other)) => stores::encode_outline(one) == stores::encode_outline(&other),
+            (Err(one), Err(other)) => *one == other,
+            _ => false,
+        }
+    })
+}
+
+fn zeros(text: &[u8]) -> Vec<u8> {
+    let zero = |byte: &u8| if byte.is_ascii_digit() { b'0' } else { *byte };
+    text.iter().map(zero).collect()
+}
+
+/// Each digit moved on, by one more at each place.
+fn other_digits(text: &[u8]) -> Vec<u8> {
+    let mut other = text.to_vec();
+    for (offset, byte) in other.iter_mut().enumerate() {
+        if byte.is_ascii_digit() {
+            *byte = b'0' + ((usize::from(*byte - b'0') + offset % 9 + 1) % 10) as u8;
+        }
+    }
+    other
+}
+
+/// Whether the rendering is read as the same kinds, contents and decimals.
+pub fn comes_back(reading: Reading, records: &[Record]) -> bool {
+    match model::read(reading, &model_stores::rendering(reading, records)) {
+        Ok(again) => are_same(records, &again),
+        Err(_) => false,
+    }
+}
+
+/// Whether records are the same but for their places.
+fn are_same(records: &[Record], others: &[Record]) -> bool {
+    let pairs = || records.iter().zip(others);
+    records.len() == others.len()
+        && pairs().all(|(one, other)| one.kind == other.kind && one.body == other.body)
+}
+
+/// Whether the first reading has the strict one's records, places included, where both are owed that.
+fn reads_alike(text: &[u8], records: &[Record]) -> bool {
+    let owed = alike::is_owed_alike(text, records) || alike::is_found_alike(records);
+    !owed || model::read(Reading::First, text).is_ok_and(|first| first == records)
+}
+
+/// Stores made from the records by a change or two: each is unsound, or comes back.
+fn altered_fault(reading: Reading, text: &[u8], records: &[Record]) -> Option<&'static str> {
+    // The same text makes the same stores, so that a finding can be made smaller.
+    let sum = text.iter().map(|byte| u64::from(*byte)).sum();
+    let mut random = Random::new(text.len() as u64, sum);
+    let altered = altered(records, &mut random);
+    let (store, area) = stores::encode(&altered);
+    let holds = !model_sound::is_sound(reading, &store, &area) || comes_back(reading, &altered);
+    (!holds).then_some("a sound store is rendered, and read otherwise")
+}
