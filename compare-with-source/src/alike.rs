@@ -55,3 +55,86 @@ fn bare_word(value: &Record) -> &[u8] {
         _ => b"",
     }
 }
+
+#[cfg(test)]
+mod tests {
+    use super::*;
+    use crate::{generate, model};
+
+    fn strict(text: &str) -> Vec<Record> {
+        model::read(Reading::Strict, text.as_bytes()).expect(text)
+    }
+
+    fn first_is_same(text: &str, records: &[Record]) -> bool {
+        model::read(Reading::First, text.as_bytes()).is_ok_and(|first| first == records)
+    }
+
+    #[test]
+    fn texts_that_are_owed_the_same_records() {
+        for text in [
+            "data_x",
+            "#c\ndata_x _a 1.5(2) loop_ _b _c . ? .5 x[1] # 1e+ .x loop_x\n",
+            "data_x save_f loop_ _a -1e5 save_ _1e+ (1) _.x loo",
+        ] {
+            let records = strict(text);
+            assert!(is_owed_alike(text.as_bytes(), &records), "{text:?}");
+            assert!(first_is_same(text, &records), "{text:?}");
+        }
+    }
+
+    #[test]
+    fn each_exclusion_has_a_text_that_needs_it() {
+        for text in [
+            "data_x data_y",
+            "data_x _a 'b'",
+            "data_x _a \"b\"",
+            "data_x _a ;b",
+            "data_x _a 1e+",
+            "data_x _a 1e(5)",
+            "data_x _a 1()",
+            "data_x _a 1234567890e+",
+            "data_x _a .x",
+            "data_x loop_ _a ..",
+            "data_x _a ?x",
+            "data_x _a loop_x",
+            "data_x _a Global_x",
+            "data_x _a stop_1",
+        ] {
+            let records = strict(text);
+            assert!(!is_owed_alike(text.as_bytes(), &records), "{text:?}");
+            assert!(!is_found_alike(&records), "{text:?}");
+            assert!(!first_is_same(text, &records), "{text:?}");
+        }
+    }
+
+    #[test]
+    fn the_wider_class_has_more_texts() {
+        for text in [
+            "data_x _a 1 # it's",
+            "data_x _a b;c _d' 1",
+            "data_x _a\n;b\n;",
+            "data_x;# _a 1",
+        ] {
+            let records = strict(text);
+            assert!(!is_owed_alike(text.as_bytes(), &records), "{text:?}");
+            assert!(is_found_alike(&records), "{text:?}");
+            assert!(first_is_same(text, &records), "{text:?}");
+        }
+    }
+
+    #[test]
+    fn the_classes_lie_in_one_another_and_are_not_rare() {
+        let mut owed = 0;
+        for number in 0..4000 {
+            let text = generate::text(Reading::Strict, 18, number);
+            let Ok(records) = model::read(Reading::Strict, &text) else {
+                continue;
+            };
+            if is_owed_alike(&text, &records) {
+                assert!(is_found_alike(&records));
+                owed += 1;
+            }
+        }
+        assert!(owed > 200, "{owed}");
+    }
+}

@@ -80,3 +80,26 @@ fn fit_length(record: &mut Record) {
         record.length = content.len() + mark_bytes(record.kind);
     }
 }
+
+#[cfg(test)]
+mod tests {
+    use super::*;
+    use crate::reading::Reading;
+    use crate::{generate, model, model_sound, stores};
+
+    #[test]
+    fn some_are_sound_and_some_are_not() {
+        for reading in [Reading::First, Reading::Strict] {
+            let mut counts = [0; 2];
+            for number in 0..2000 {
+                let Ok(records) = model::read(reading, &generate::text(reading, 19, number)) else {
+                    continue;
+                };
+                let altered = altered(&records, &mut Random::new(19, number));
+                let (store, area) = stores::encode(&altered);
+                counts[usize::from(model_sound::is_sound(reading, &store, &area))] += 1;
+            }
+            assert!(counts.iter().all(|count| *count > 100), "{counts:?}");
+        }
+    }
+}

@@ -97,3 +97,99 @@ fn altered_fault(reading: Reading, text: &[u8], records: &[Record]) -> Option<&'
     let holds = !model_sound::is_sound(reading, &store, &area) || comes_back(reading, &altered);
     (!holds).then_some("a sound store is rendered, and read otherwise")
 }
+
+#[cfg(test)]
+mod tests {
+    use super::*;
+    use crate::answer::Body;
+    use crate::exhaustive::{self, Depth};
+    use crate::generate;
+    use crate::report::escaped;
+
+    const READINGS: [Reading; 2] = [Reading::First, Reading::Strict];
+
+    /// Holds the model's answer to a text to the laws; answers its number.
+    fn held(reading: Reading, text: &[u8]) -> u8 {
+        match judge(reading, text, &model::read(reading, text)) {
+            Verdict::Same(number) => number,
+            verdict => panic!("{reading:?} {}: {verdict:?}", escaped(text)),
+        }
+    }
+
+    #[test]
+    fn the_laws_hold_of_random_texts() {
+        let mut answers = [[0; 19]; 2];
+        for (reading, answers) in READINGS.iter().zip(&mut answers) {
+            for mix in READINGS {
+                for number in 0..25_000 {
+                    let text = generate::text(mix, 16, number);
+                    answers[usize::from(held(*reading, &text))] += 1;
+                }
+            }
+        }
+        for number in [0, 2, 3, 4, 5, 6, 7, 8, 9] {
+            assert!(answers[0][number] > 0, "{number} in the first reading");
+        }
+        for number in [0, 2, 3, 4, 5, 6, 7, 8, 9, 15, 16, 17, 18] {
+            assert!(answers[1][number] > 0, "{number} in the strict reading");
+        }
+    }
+
+    #[test]
+    fn the_laws_hold_of_every_short_text() {
+        let depth = Depth {
+            fragments: 2,
+            letters: 3,
+        };
+        for reading in READINGS {
+            exhaustive::each(Reading::Strict, &depth, &mut |text| {
+                held(reading, text);
+                true
+            });
+        }
+    }
+
+    /// The fault of an answer that is not the model's own.
+    fn seen(text: &str, answer: Answer) -> Option<&'static str> {
+        fault(Reading::Strict, text.as_bytes(), &answer)
+    }
+
+    #[test]
+    fn a_wrong_answer_breaks_a_law() {
+        let text = "data_x _a 'b' _c 1";
+        let records = model::read(Reading::Strict, text.as_bytes()).expect(text);
+        let mut moved = records.clone();
+        moved[1].place.offset += 1;
+        let shows = Some("digits show in an outline or a refusal");
+        assert_eq!(seen(text, Ok(moved)), shows);
+        let over = model::read(Reading::Strict, b"data_x _a 1234567890");
+        assert_eq!(seen("data_x _a 123456789", over), shows);
+        let mut other = records;
+        other[2].body = Body::Content(b"'c".to_vec());
+        assert_eq!(seen(text, Ok(other)), Some("a record and its token differ"));
+    }
+
+    #[test]
+    fn other_records_do_not_come_back() {
+        for text in [
+            "data_x _a 1e+",
+            "data_x _a 'b'",
+            "data_x _a ;b",
+            "data_x data_y",
+        ] {
+            let records = model::read(Reading::Strict, text.as_bytes()).expect(text);
+            assert!(comes_back(Reading::Strict, &records), "{text}");
+            assert!(!comes_back(Reading::First, &records), "{text}");
+        }
+    }
+
+    #[test]
+    fn other_digits_stand_in_the_same_places() {
+        let text = b"0123456789x0123456789";
+        let other = other_digits(text);
+        let moved = |(one, other): (&u8, &u8)| one.is_ascii_digit() == (one != other);
+        assert!(text.iter().zip(&other).all(moved));
+        assert!(other.iter().filter(|byte| byte.is_ascii_digit()).count() == 20);
+        assert_eq!(zeros(b"a1_29"), b"a0_00");
+    }
+}

@@ -187,3 +187,332 @@ fn may_be_empty(reading: Reading, behind: &[Record]) -> bool {
 fn is_value(record: &Record) -> bool {
     matches!(record.kind, 8..=15 | 21)
 }
+
+#[cfg(test)]
+mod tests {
+    use super::*;
+    use crate::answer::{mark_bytes, Place};
+    use crate::laws::comes_back;
+    use crate::random::Random;
+
+    const READINGS: [Reading; 2] = [Reading::First, Reading::Strict];
+
+    fn record(kind: u8, body: Body) -> Record {
+        let content = match &body {
+            Body::Content(content) => content.len(),
+            _ => 0,
+        };
+        Record {
+            kind,
+            place: Place::NONE,
+            length: content + mark_bytes(kind),
+            body,
+        }
+    }
+
+    fn plain(kind: u8) -> Record {
+        record(kind, Body::Nothing)
+    }
+
+    fn text(kind: u8, content: &[u8]) -> Record {
+        record(kind, Body::Content(content.to_vec()))
+    }
+
+    fn opening(tags: u32) -> Record {
+        record(5, Body::Tags(tags))
+    }
+
+    /// The least store in which this record may stand.
+    fn around(middle: Record) -> Vec<Record> {
+        let block = text(1, b"x");
+        match middle.kind {
+            1 => vec![middle],
+            2 => vec![block, middle, plain(3)],
+            4 => vec![block, middle, plain(8)],
+            6 => vec![block, opening(1), middle, plain(8), Record::LOOP_END],
+            _ => vec![block, text(4, b"a"), middle],
+        }
+    }
+
+    fn sound(reading: Reading, records: &[Record]) -> bool {
+        let (store, area) = stores::encode(records);
+        is_sound(reading, &store, &area)
+    }
+
+    /// Whether a record of this kind and content is sound where it may stand: in the first reading, and
+    /// in the strict one.
+    fn by_reading(kind: u8, content: &[u8]) -> [bool; 2] {
+        READINGS.map(|reading| sound(reading, &around(text(kind, content))))
+    }
+
+    const BOTH: [bool; 2] = [true, true];
+    const FIRST: [bool; 2] = [true, false];
+    const STRICT: [bool; 2] = [false, true];
+    const NEITHER: [bool; 2] = [false, false];
+
+    #[test]
+    fn quoted_kinds_belong_to_one_reading() {
+        for (kind, content, expected) in [
+            (11, "a b", FIRST),
+            (12, "", FIRST),
+            (11, "a'", NEITHER),
+            (12, "a\n", NEITHER),
+            (21, "'", STRICT),
+            (21, "'a'b", STRICT),
+            (21, "'a'", STRICT),
+            (21, "\"a' b\tc", STRICT),
+            (21, "' a", STRICT),
+            (21, "'a' b", NEITHER),
+            (21, "'a'\tb", NEITHER),
+            (21, "'a\nb", NEITHER),
+            (21, "'a\x0c", NEITHER),
+            (21, "'a\x7f", NEITHER),
+            (21, "", NEITHER),
+            (21, "a", NEITHER),
+            (21, ";a", NEITHER),
+        ] {
+            assert_eq!(
+                by_reading(kind, content.as_bytes()),
+                expected,
+                "{content:?}"
+            );
+        }
+    }
+
+    #[test]
+    fn bare_contents() {
+        for (word, expected) in [
+            ("a", BOTH),
+            ("a'b", BOTH),
+            ("a;", BOTH),
+            ("1e", BOTH),
+            ("1234567890x", BOTH),
+            (".x", STRICT),
+            ("?x", STRICT),
+            (";", STRICT),
+            (";b", STRICT),
+            ("1e+", STRICT),
+            ("1()", STRICT),
+            ("1234567890e+", STRICT),
+            ("loop_x", STRICT),
+            ("Stop_x", STRICT),
+            ("a\x01", FIRST),
+            ("a\x7f", FIRST),
+            ("a\x0c", NEITHER),
+            ("", NEITHER),
+            (".", NEITHER),
+            ("?", NEITHER),
+            ("1", NEITHER),
+            ("1234567890", NEITHER),
+            ("loop_", NEITHER),
+            ("data_x", NEITHER),
+            ("save_", NEITHER),
+            ("'a", NEITHER),
+            ("_a", NEITHER),
+            ("#", NEITHER),
+            ("a b", NEITHER),
+            ("a\n", NEITHER),
+        ] {
+            assert_eq!(by_reading(10, word.as_bytes()), expected, "{word:?}");
+        }
+        assert_eq!(by_reading(10, b"a\x80"), NEITHER);
+    }
+
+    #[test]
+    fn fields() {
+        for (lines, expected) in [
+            ("\n", BOTH),
+            ("a\r", BOTH),
+            (";a\r\n", BOTH),
+            ("a\n ;\n", BOTH),
+            ("a\x0c\n", FIRST),
+            ("", NEITHER),
+            ("a", NEITHER),
+            ("a\n;\n", NEITHER),
+            ("\r;\n", NEITHER),
+        ] {
+            assert_eq!(by_reading(13, lines.as_bytes()), expected, "{lines:?}");
+        }
+    }
+
+    #[test]
+    fn tokens_fit_a_line_as_rendered() {
+        let long = |before: &str, letters: usize, behind: &str| {
+            format!("{before}{}{behind}", "x".repeat(letters))
+        };
+        for (kind, before, longest, behind) in [
+            (10, "", 2048, ""),
+            (10, ";", 2046, ""),
+            (13, "", 2047, "\n"),
+            (13, "\n", 2048, "\n"),
+            (13, "\r\n", 2048, "\r\n"),
+        ] {
+            let sized = |letters| by_reading(kind, long(before, letters, behind).as_bytes());
+            assert!(sized(longest)[1], "{kind} {before:?}");
+            assert!(!sized(longest + 1)[1], "{kind} {before:?}");
+            assert_eq!(sized(longest + 1)[0], before != ";", "{kind} {before:?}");
+        }
+        assert_eq!(by_reading(21, long("'", 2046, "").as_bytes()), STRICT);
+        assert_eq!(by_reading(21, long("'", 2047, "").as_bytes()), NEITHER);
+    }
+
+    #[test]
+    fn names() {
+        for (kind, longest) in [(1, 75), (2, 75), (4, 74), (6, 74)] {
+            let sized = |length: usize| by_reading(kind, &vec![b'n'; length]);
+            assert_eq!(sized(0), FIRST);
+            assert_eq!(sized(1), BOTH);
+            assert_eq!(sized(longest), BOTH);
+            assert_eq!(sized(longest + 1), FIRST);
+            for byte in 0..=255 {
+                let expected = match byte {
+                    33..=126 => BOTH,
+                    9 | 10 | 12 | 13 | 32 | 128.. => NEITHER,
+                    _ => FIRST,
+                };
+                assert_eq!(by_reading(kind, &[byte]), expected, "{kind} {byte}");
+            }
+        }
+    }
+
+    #[test]
+    fn records_are_nested_as_read() {
+        let block = || text(1, b"x");
+        let frame = || text(2, b"f");
+        let close = || plain(3);
+        let single = || vec![text(4, b"a"), plain(9)];
+        let loops = |counted: u32, names: usize, values: usize| {
+            let mut records = vec![opening(counted)];
+            records.extend(vec![text(6, b"a"); names]);
+            records.extend(vec![plain(9); values]);
+            records.push(Record::LOOP_END);
+            records
+        };
+        let with = |parts: &[&[Record]]| [&[block()], parts.concat().as_slice()].concat();
+        for (records, expected) in [
+            (vec![], NEITHER),
+            (single(), NEITHER),
+            (with(&[]), BOTH),
+            (with(&[&single(), &single()]), BOTH),
+            (with(&[&[text(4, b"a")]]), NEITHER),
+            (with(&[&[plain(9)]]), NEITHER),
+            (with(&[&single(), &[plain(9)]]), NEITHER),
+            (with(&[&[text(6, b"a"), plain(9)]]), NEITHER),
+            (with(&[&[block()]]), STRICT),
+            (with(&[&single(), &[block()], &single()]), STRICT),
+            (with(&[&[text(4, b"a"), block()]]), NEITHER),
+            (with(&[&[frame(), close()]]), BOTH),
+            (with(&[&[frame()], &single(), &[close(), block()]]), STRICT),
+            (with(&[&[frame(), block(), close()]]), NEITHER),
+            (with(&[&[frame()], &single()]), NEITHER),
+            (with(&[&[close()]]), NEITHER),
+            (with(&[&[frame(), frame(), close(), close()]]), NEITHER),
+            (with(&[&loops(2, 2, 4)]), BOTH),
+            (with(&[&[frame()], &loops(1, 1, 1), &[close()]]), BOTH),
+            (with(&[&loops(2, 2, 3)]), NEITHER),
+            (with(&[&loops(1, 2, 2)]), NEITHER),
+            (with(&[&loops(0, 0, 0)]), NEITHER),
+            (with(&[&loops(1, 1, 1)[..3]]), NEITHER),
+            (with(&[&[Record::LOOP_END]]), NEITHER),
+            (with(&[&loops(1, 1, 0)]), FIRST),
+            (with(&[&loops(1, 1, 0), &loops(1, 1, 0)]), FIRST),
+            (with(&[&loops(1, 1, 0), &single()]), NEITHER),
+            (with(&[&loops(1, 1, 1), &single()]), BOTH),
+        ] {
+            let found = READINGS.map(|reading| sound(reading, &records));
+            let kinds: Vec<_> = records.iter().map(|record| record.kind).collect();
+            assert_eq!(found, expected, "{kinds:?}");
+        }
+    }
+
+    #[test]
+    fn bytes_are_whole_and_exact() {
+        let (store, area) = stores::encode(&around(text(10, b"b")));
+        let damaged = |change: fn(&mut Vec<u8>, &mut Vec<u8>)| {
+            let (mut store, mut area) = (store.clone(), area.clone());
+            change(&mut store, &mut area);
+            READINGS.map(|reading| is_sound(reading, &store, &area))
+        };
+        assert_eq!(damaged(|_, _| {}), BOTH);
+        assert_eq!(damaged(|store, _| store[1] ^= 255), BOTH); // a place is not judged,
+        assert_eq!(damaged(|store, _| store[5] += 1), NEITHER); // but a length is,
+        assert_eq!(damaged(|store, _| store[5] = 4), NEITHER); // and is not below the marks
+        assert_eq!(damaged(|store, _| store[21 + 17] += 1), NEITHER); // the area's offset
+        assert_eq!(damaged(|store, _| store[42] = 16), NEITHER); // no kind
+        assert_eq!(damaged(|store, _| store.push(7)), NEITHER);
+        assert_eq!(damaged(|store, _| store.truncate(62)), NEITHER);
+        assert_eq!(damaged(|_, area| area.push(b'b')), NEITHER);
+        assert_eq!(damaged(|_, area| area.truncate(2)), NEITHER);
+    }
+
+    #[test]
+    fn decimals_keep_the_limits() {
+        let largest = Decimal {
+            minus: true,
+            integer: 999_999_999,
+            fraction: 99,
+            fraction_digits: 2,
+            exponent: -999_999_999,
+            uncertainty: Some(999_999_999),
+        };
+        let changed = |change: fn(&mut Decimal)| {
+            let mut decimal = largest;
+            change(&mut decimal);
+            let kind = 14 + u8::from(decimal.uncertainty.is_some());
+            let records = around(record(kind, Body::Number(decimal)));
+            READINGS.map(|reading| sound(reading, &records))
+        };
+        assert_eq!(changed(|_| {}), BOTH);
+        assert_eq!(changed(|decimal| decimal.uncertainty = None), BOTH);
+        assert_eq!(changed(|decimal| decimal.fraction_digits = 18), BOTH);
+        assert_eq!(changed(|decimal| decimal.fraction_digits = 19), NEITHER);
+        assert_eq!(changed(|decimal| decimal.integer += 1), NEITHER);
+        assert_eq!(changed(|decimal| decimal.fraction += 1), NEITHER);
+        assert_eq!(changed(|decimal| decimal.exponent -= 1), NEITHER);
+        assert_eq!(changed(|decimal| decimal.exponent = i32::MIN), NEITHER);
+        assert_eq!(
+            changed(|decimal| decimal.uncertainty = Some(1_000_000_000)),
+            NEITHER
+        );
+        let (mut store, area) = stores::encode(&around(record(15, Body::Number(largest))));
+        store[42 + 17] = 2; // the sign
+        assert!(!is_sound(Reading::First, &store, &area));
+    }
+
+    /// Bytes that the rules tell apart, in a row; seldom many letters more.
+    fn some_content(random: &mut Random) -> Vec<u8> {
+        const TELLING: &[u8] = b"ab1.?'\";_#[ \t\n\re+()\x00\x0c\x7f\x80";
+        const STARTS: [&str; 10] = ["", "", "", "", "loop_", "stop_", "data_", "save_", "'", ";"];
+        let mut content = random.pick(&STARTS).as_bytes().to_vec();
+        for _ in 0..random.below(6) {
+            content.push(TELLING[random.below(TELLING.len())]);
+        }
+        match random.below(40) {
+            0 => content.resize(72 + random.below(5), b'x'),
+            1 => content.resize(2045 + random.below(5), b'x'),
+            _ => {}
+        }
+        if random.once_in(4) {
+            content.push(b'\n');
+        }
+        content
+    }
+
+    #[test]
+    fn a_content_is_sound_exactly_if_it_is_read_back() {
+        const KINDS: [u8; 9] = [1, 2, 4, 6, 10, 11, 12, 13, 21];
+        let mut counts = [0; 2];
+        for number in 0..20_000 {
+            let mut random = Random::new(17, number);
+            let kind = KINDS[random.below(KINDS.len())];
+            let middle = text(kind, &some_content(&mut random));
+            for reading in READINGS {
+                let readable = could_be_read(reading, &middle);
+                let read_back = comes_back(reading, &around(middle.clone()));
+                assert_eq!(readable, read_back, "{reading:?} {middle:?}");
+                counts[usize::from(readable)] += 1;
+            }
+        }
+        assert!(counts.iter().all(|count| *count > 2000), "{counts:?}");
+    }
+}

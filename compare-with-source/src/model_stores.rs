@@ -120,6 +120,49 @@ mod tests {
         );
     }
 
+    fn strict(text: &[u8]) -> Vec<Record> {
+        model::read(Reading::Strict, text).expect("the text is read")
+    }
+
+    #[test]
+    fn strict_records_are_rendered() {
+        let text = b"data_x _a ;b loop_ _c 'd' \"e' f\" '' ''' . ?x data_y _a\n;g\n;";
+        let rendered =
+            "data_x\n_a\n ;b\nloop_\n_c\n'd'\n\"e' f\"\n''\n'''\n.\n?x\ndata_y\n_a\n;g\n;\n";
+        assert_eq!(
+            rendering(Reading::Strict, &strict(text)),
+            rendered.as_bytes()
+        );
+    }
+
+    #[test]
+    fn the_space_before_a_semicolon_is_the_strict_readings_alone() {
+        let records = strict(b"data_x _a ;b _c d;");
+        assert_eq!(
+            rendering(Reading::Strict, &records),
+            b"data_x\n_a\n ;b\n_c\nd;\n"
+        );
+        assert_eq!(
+            rendering(Reading::First, &records),
+            b"data_x\n_a\n;b\n_c\nd;\n"
+        );
+    }
+
+    #[test]
+    fn each_block_has_its_own_names() {
+        let found = |text| repeated_name(&strict(text));
+        assert_eq!(found(b"data_x _a 1 data_x _A 2"), None);
+        assert_eq!(
+            found(b"data_x save_f _a 1 save_ data_x save_f _a 1 save_"),
+            None
+        );
+        assert_eq!(
+            found(b"data_x _a 1 data_y _b 2 save_f _B 3 save_ _B 4"),
+            Some((4, 10))
+        );
+        assert_eq!(found(b"data_x data_y loop_ _a _A 1 2"), Some((3, 4)));
+    }
+
     #[test]
     fn names_are_found_twice() {
         let found = |text| repeated_name(&records(text));
