@@ -1,7 +1,9 @@
-//! Stores near those that Read writes: records with a change or two, some still sound, some not.
+//! Stores near those that Read writes: records and bytes with a change or two, some still sound, some
+//! not.
 
-use crate::answer::{mark_bytes, Body, Record};
+use crate::answer::{mark_bytes, Body, Decimal, Record};
 use crate::random::Random;
+use crate::stores;
 
 /// Contents that tell the kinds and the readings apart.
 const CONTENTS: [&str; 26] = [
@@ -9,15 +11,32 @@ const CONTENTS: [&str; 26] = [
     "save_x", "'", "'a", "'a'", "'a' ", "\"b c", ";", ";b", "_", "b\n", "b\n;\n", "#",
 ];
 
-/// The records after one to three changes.
-pub fn altered(records: &[Record], random: &mut Random) -> Vec<Record> {
+/// The store and the area of these records after one to three changes, most often of whole records.
+pub fn near(records: &[Record], random: &mut Random) -> (Vec<u8>, Vec<u8>) {
+    if random.once_in(3) {
+        let (mut store, mut area) = stores::encode(records);
+        damage(&mut store, &mut area, random);
+        return (store, area);
+    }
     let mut records = records.to_vec();
     for _ in 0..1 + random.below(3) {
         if !records.is_empty() {
             alter(&mut records, random);
         }
     }
-    records
+    stores::encode(&records)
+}
+
+/// Changes one byte of the store or the area, or its length.
+fn damage(store: &mut Vec<u8>, area: &mut Vec<u8>, random: &mut Random) {
+    let bytes = if random.once_in(4) { area } else { store };
+    let at = random.below(bytes.len() + 1);
+    match bytes.get_mut(at) {
+        None => bytes.push(random.below(256) as u8),
+        Some(_) if random.once_in(20) => bytes.truncate(at),
+        Some(byte) if random.once_in(2) => *byte ^= 1 << random.below(8),
+        Some(byte) => *byte = random.below(256) as u8,
+    }
 }
 
 /// Changes one record, takes it out or puts it in once more.
@@ -30,7 +49,7 @@ fn alter(records: &mut Vec<Record>, random: &mut Random) {
         2 => records.swap(at, other),
         3 => set_kind(&mut records[at], random),
         4 => lengthen(&mut records[at], random),
-        5 => set_tags(&mut records[at], random),
+        5 => set_number(&mut records[at], random),
         _ => set_content(&mut records[at], random),
     }
 }
@@ -68,9 +87,24 @@ fn lengthen(record: &mut Record, random: &mut Random) {
     }
 }
 
-fn set_tags(record: &mut Record, random: &mut Random) {
-    if let Body::Tags(tags) = &mut record.body {
-        *tags = random.below(4) as u32;
+/// Another number of tags, or a decimal with one part at its limit or over it.
+fn set_number(record: &mut Record, random: &mut Random) {
+    match &mut record.body {
+        Body::Tags(tags) => *tags = random.below(4) as u32,
+        Body::Number(decimal) => set_part(decimal, random),
+        Body::Nothing | Body::Content(_) => {}
+    }
+}
+
+fn set_part(decimal: &mut Decimal, random: &mut Random) {
+    let edge = 999_999_999 + random.below(2) as u32;
+    match random.below(6) {
+        0 => decimal.integer = edge,
+        1 => decimal.fraction_digits = random.below(20) as u8,
+        2 => decimal.fraction = 10u64.pow(random.below(20) as u32) - random.below(2) as u64,
+        3 => decimal.exponent = edge as i32,
+        4 => decimal.exponent = -(edge as i32),
+        _ => decimal.uncertainty = decimal.uncertainty.map(|_| edge),
     }
 }
 
@@ -85,7 +119,7 @@ fn fit_length(record: &mut Record) {
 mod tests {
     use super::*;
     use crate::reading::Reading;
-    use crate::{generate, model, model_sound, stores};
+    use crate::{generate, model, model_sound};
 
     #[test]
     fn some_are_sound_and_some_are_not() {
@@ -95,8 +129,7 @@ mod tests {
                 let Ok(records) = model::read(reading, &generate::text(reading, 19, number)) else {
                     continue;
                 };
-                let altered = altered(&records, &mut Random::new(19, number));
-                let (store, area) = stores::encode(&altered);
+                let (store, area) = near(&records, &mut Random::new(19, number));
                 counts[usize::from(model_sound::is_sound(reading, &store, &area))] += 1;
             }
             assert!(counts.iter().all(|count| *count > 100), "{counts:?}");

@@ -3,7 +3,7 @@
 //! they are owed to. And of every store: one that is sound comes back from its rendering.
 
 use crate::alike;
-use crate::alter::altered;
+use crate::alter::near;
 use crate::answer::{Answer, Record};
 use crate::compare::Verdict;
 use crate::random::Random;
@@ -35,7 +35,7 @@ fn fault(reading: Reading, text: &[u8], answer: &Answer) -> Option<&'static str>
     } else if reading == Reading::Strict && !reads_alike(text, records) {
         Some("the first reading has other records")
     } else {
-        altered_fault(reading, text, records)
+        near_fault(reading, text, records)
     }
 }
 
@@ -87,15 +87,16 @@ fn reads_alike(text: &[u8], records: &[Record]) -> bool {
     !owed || model::read(Reading::First, text).is_ok_and(|first| first == records)
 }
 
-/// Stores made from the records by a change or two: each is unsound, or comes back.
-fn altered_fault(reading: Reading, text: &[u8], records: &[Record]) -> Option<&'static str> {
-    // The same text makes the same stores, so that a finding can be made smaller.
+/// A store near that of the records: it is unsound, or comes back.
+fn near_fault(reading: Reading, text: &[u8], records: &[Record]) -> Option<&'static str> {
+    // The same text makes the same store, so that a finding can be made smaller.
     let sum = text.iter().map(|byte| u64::from(*byte)).sum();
-    let mut random = Random::new(text.len() as u64, sum);
-    let altered = altered(records, &mut random);
-    let (store, area) = stores::encode(&altered);
-    let holds = !model_sound::is_sound(reading, &store, &area) || comes_back(reading, &altered);
-    (!holds).then_some("a sound store is rendered, and read otherwise")
+    let (store, area) = near(records, &mut Random::new(text.len() as u64, sum));
+    if !model_sound::is_sound(reading, &store, &area) {
+        return None;
+    }
+    let back = stores::decode(&store, &area).is_some_and(|near| comes_back(reading, &near));
+    (!back).then_some("a sound store is rendered, and read otherwise")
 }
 
 #[cfg(test)]

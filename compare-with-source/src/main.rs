@@ -72,13 +72,12 @@ fn main() -> ExitCode {
     }
 }
 
-/// The backend's answer to a text, or what is wrong with it. The library is asked in the first reading
-/// alone: it has no other yet.
+/// The backend's answer to a text, or what is wrong with it.
 fn answer(options: &Options, text: &[u8]) -> Result<Answer, String> {
     match options.backend {
         Backend::Model => model_answer(options.reading, text),
         #[cfg(feature = "library")]
-        Backend::Library => library::read(text),
+        Backend::Library => library::read(options.reading, text),
     }
 }
 

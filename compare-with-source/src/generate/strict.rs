@@ -150,8 +150,9 @@ impl File<'_> {
         match self.random.below(600) {
             0..=5 => {}
             6 => {
+                let ending = self.random.pick(&["\n", "\n", "\r\n", "\x0c\n"]);
                 self.put(" #");
-                self.fill_line("\n");
+                self.fill_line(ending);
             }
             _ => {
                 let gap = self.random.pick(&GAPS);

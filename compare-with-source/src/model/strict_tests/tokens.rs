@@ -146,6 +146,7 @@ fn longer_words_are_no_items() {
 #[test]
 fn comments_start_where_a_token_may() {
     assert_eq!(kinds("#c\ndata_x#c\n#c\n_a#c 1#c #c"), [1, 4, 10]);
+    assert_eq!(kinds("#c\rdata_x #c\r_a 1"), [1, 4, 14]);
     assert_eq!(content(&read("data_x#c")[0]), "x#c");
     assert_eq!(kinds("data_x _a '#' _b\t#'\n1"), [1, 4, 21, 4, 14]);
 }
