@@ -152,7 +152,7 @@ fn compare_generated(options: &Options, report: &mut Report, judge: &impl Fn(&[u
         text.resize(length, b' ');
         report.add(&text, judge(&text), judge);
     }
-    let depth = exhaustive::Depth::for_texts(options.texts);
+    let depth = exhaustive::Depth::for_texts(options.mix(), options.texts);
     exhaustive::each(options.mix(), &depth, &mut |text| {
         report.add(text, judge(text), judge);
         report.texts() < last

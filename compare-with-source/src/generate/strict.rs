@@ -166,7 +166,7 @@ impl File<'_> {
         let back = self.text.iter().rev();
         let on_line = back.take_while(|byte| !is_line_end(**byte)).count();
         let visible = ending.trim_end_matches(['\n', '\r']).len();
-        let full = LONGEST_LINE - 1 + self.random.below(5) / 2;
+        let full = LONGEST_LINE - 1 + self.random.below(7) / 2;
         let letters = full.saturating_sub(on_line + visible);
         self.put(&"w".repeat(letters));
         self.put(ending);
