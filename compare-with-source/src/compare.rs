@@ -7,7 +7,7 @@ use crate::{source, tokens};
 /// What comes of comparing one text.
 #[derive(Debug, Clone, PartialEq, Eq)]
 pub enum Verdict {
-    /// Both give the same answer: 0 for read, else the refusal's number.
+    /// Both give the same answer, or it keeps every law: 0 for read, else the refusal's number.
     Same(u8),
     /// The two cannot be held together here, for the reason named.
     SetApart(&'static str),

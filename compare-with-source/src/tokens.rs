@@ -116,12 +116,10 @@ fn is_between(token: &str, mark: char, content: &[u8]) -> bool {
 
 /// Whether a token is this content, which begins with a quote mark, and the same mark once more.
 fn is_closed_by_its_first(token: &str, content: &[u8]) -> bool {
-    token.starts_with(['\'', '"'])
-        && token
-            .split_at_checked(content.len())
-            .is_some_and(|(front, mark)| {
-                front.as_bytes() == content && token.starts_with(mark) && mark.len() == 1
-            })
+    ['\'', '"'].into_iter().any(|mark| {
+        let opened = token.strip_suffix(mark);
+        opened.is_some_and(|opened| opened.starts_with(mark) && opened.as_bytes() == content)
+    })
 }
 
 /// Whether a word that is a number breaks a digit limit.
@@ -229,6 +227,20 @@ mod tests {
                 assert!(fault(TEXT, &wrong).is_some(), "record {number}");
             }
         }
+    }
+
+    #[test]
+    fn a_strict_quote_is_its_content_and_one_mark_more() {
+        let text = "data_x _a 'b'c' _d \"\"";
+        let records = model::read(Reading::Strict, text.as_bytes()).expect("the text is read");
+        assert_eq!(fault(text, &records), None);
+        for content in ["b'c", "'b'", "'b'c'", "", "'"] {
+            let mut wrong = records.clone();
+            wrong[2].body = Body::Content(content.as_bytes().to_vec());
+            assert!(fault(text, &wrong).is_some(), "{content}");
+        }
+        assert!(!is_closed_by_its_first("abca", b"abc"));
+        assert!(!is_closed_by_its_first("'b\"", b"'b"));
     }
 
     #[test]
