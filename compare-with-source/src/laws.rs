@@ -76,9 +76,9 @@ pub fn comes_back(reading: Reading, records: &[Record]) -> bool {
 
 /// Whether records are the same but for their places.
 fn are_same(records: &[Record], others: &[Record]) -> bool {
-    let pairs = || records.iter().zip(others);
+    let mut pairs = records.iter().zip(others);
     records.len() == others.len()
-        && pairs().all(|(one, other)| one.kind == other.kind && one.body == other.body)
+        && pairs.all(|(one, other)| one.kind == other.kind && one.body == other.body)
 }
 
 /// Whether the first reading has the strict one's records, places included, where both are owed that.

@@ -25,7 +25,7 @@ fn is_exact(records: &[Record], store: &[u8], area: &[u8]) -> bool {
 }
 
 /// Whether a record's content, or its decimal, could have been read as its kind.
-pub fn could_be_read(reading: Reading, record: &Record) -> bool {
+fn could_be_read(reading: Reading, record: &Record) -> bool {
     match (record.kind, &record.body, reading) {
         (1 | 2 | 4 | 6, Body::Content(name), _) => is_name(reading, record.kind, name),
         (10, Body::Content(word), _) => is_bare(reading, word),
