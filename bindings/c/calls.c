@@ -242,9 +242,12 @@ static void names_are_checked(void)
     answer = read_text("data_x _a 1 _b 2 loop_ _a 3", &lent, sizeof lent.store, sizeof lent.area);
     answer = chuntarek_names(lent.store, answer.first_length, lent.area, answer.second_length);
     CHECK(is(answer, 13, 1, 6, 0, 0) && has_lengths(answer, 0, 0));
-    answer = read_text("data_x _Cell.length_a 1 _[ 2 _{ 3 loop_ _cell.length_A 4", &lent, sizeof lent.store, sizeof lent.area);
+    answer = read_text("data_x _Cell.length_a 1 loop_ _cell.length_A 2", &lent, sizeof lent.store, sizeof lent.area);
     answer = chuntarek_names(lent.store, answer.first_length, lent.area, answer.second_length);
-    CHECK(is(answer, 13, 1, 8, 0, 0) && has_lengths(answer, 0, 0));
+    CHECK(is(answer, 13, 1, 4, 0, 0) && has_lengths(answer, 0, 0));
+    answer = read_text("data_x _[ 1 _{ 2", &lent, sizeof lent.store, sizeof lent.area);
+    answer = chuntarek_names(lent.store, answer.first_length, lent.area, answer.second_length);
+    CHECK(is(answer, 0, 0, 0, 0, 0) && has_lengths(answer, 0, 0));
 }
 
 static void records_are_walked(void)

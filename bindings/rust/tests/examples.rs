@@ -79,7 +79,7 @@ fn by_outline(text: &[u8]) -> String {
 #[test]
 fn examples_have_the_outlines_beside_them() {
     let outlined = outlined();
-    assert_eq!(outlined.len(), 22);
+    assert_eq!(outlined.len(), 23);
     for (file, lines) in outlined {
         let text = fs::read(&file).expect("the example is there");
         assert_eq!(by_records(&text), lines, "{}", file.display());

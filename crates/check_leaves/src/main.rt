@@ -53,24 +53,26 @@ fn leaves_of_records(leaf: u8, s: &[u8]) {
     }
 }
 
-// A line: written back, and behind it what its leaf answers.
-fn run_line(s: &[u8]) {
-    say::bytes(s);
-    let from = lines::text_start(s);
-    if from == 0 {
-        say::bytes(b"\n");
-        return;
-    }
-    say::bytes(b" ->");
-    let leaf = s[0];
+// What the leaf answers to the text that a line has.
+fn answer(leaf: u8, s: &[u8]) {
     let mut buffer = io::buffer();
-    let end = lines::unfold(&s[from..], &mut buffer, 0);
+    let end = lines::unfold(s, &mut buffer, 0);
     let text = parts::part(&buffer, 0, end);
     leaves_of_text(leaf, text);
     leaves_of_words(leaf, text);
     strict_leaves(leaf, text);
     leaves_of_records(leaf, text);
-    say::bytes(b"\n");
+}
+
+// A line: written back, and behind it what its leaf answers.
+fn run_line(s: &[u8]) {
+    say::bytes(s);
+    let from = lines::text_start(s);
+    if 0 < from {
+        say::arrow();
+        answer(s[0], &s[from..]);
+    }
+    say::byte(b'\n');
 }
 
 fn run(s: &[u8]) {

@@ -42,9 +42,9 @@ fn say_read(report: Report, store: &[u8], area: &[u8]) {
         return;
     }
     shown::records(parts::part(store, 0, m), false);
-    say::bytes(b"   area [");
-    say::text(parts::part(area, 0, k));
-    say::bytes(b"]\n");
+    say::bytes(b"   area");
+    say::bracketed(parts::part(area, 0, k));
+    say::byte(b'\n');
 }
 
 fn say_outline(report: Report, store: &[u8]) {
@@ -78,38 +78,47 @@ fn try_outline(text: &[u8], m: usize) {
     say_outline(report, &store);
 }
 
+// A vector's text, unfolded, with so much room for the store and the area.
+fn read_vector(s: &[u8], m: usize, k: usize) {
+    let mut buffer = io::buffer();
+    let end = lines::unfold(s, &mut buffer, 0);
+    try_read(parts::part(&buffer, 0, end), m, k);
+}
+
+fn outline_vector(s: &[u8], m: usize) {
+    let mut buffer = io::buffer();
+    let end = lines::unfold(s, &mut buffer, 0);
+    try_outline(parts::part(&buffer, 0, end), m);
+}
+
+// The rooms stand before the text.
+fn read_in_rooms(s: &[u8]) {
+    let store = lines::number(s, 0);
+    let area = lines::number(s, store.next);
+    let from = area.next;
+    read_vector(&s[from..], store.number, area.number);
+}
+
+fn outline_in_room(s: &[u8]) {
+    let store = lines::number(s, 0);
+    let from = store.next;
+    outline_vector(&s[from..], store.number);
+}
+
 // r: Read. o: Outline. R and O: the same, with so much room for the store, and for Read the area.
 fn run_vector(letter: u8, s: &[u8]) {
-    let mut buffer = io::buffer();
     match letter {
-        b'r' => {
-            let end = lines::unfold(s, &mut buffer, 0);
-            try_read(parts::part(&buffer, 0, end), ROOM, ROOM);
-        }
-        b'o' => {
-            let end = lines::unfold(s, &mut buffer, 0);
-            try_outline(parts::part(&buffer, 0, end), ROOM);
-        }
-        b'R' => {
-            let store = lines::number(s, 0);
-            let area = lines::number(s, store.next);
-            let from = area.next;
-            let end = lines::unfold(&s[from..], &mut buffer, 0);
-            try_read(parts::part(&buffer, 0, end), store.number, area.number);
-        }
-        b'O' => {
-            let store = lines::number(s, 0);
-            let from = store.next;
-            let end = lines::unfold(&s[from..], &mut buffer, 0);
-            try_outline(parts::part(&buffer, 0, end), store.number);
-        }
+        b'r' => read_vector(s, ROOM, ROOM),
+        b'o' => outline_vector(s, ROOM),
+        b'R' => read_in_rooms(s),
+        b'O' => outline_in_room(s),
         _ => (),
     }
 }
 
 fn run_line(s: &[u8]) {
     say::bytes(s);
-    say::bytes(b"\n");
+    say::byte(b'\n');
     let from = lines::text_start(s);
     if from == 0 {
         return;

@@ -3,17 +3,16 @@ use harness::fields;
 use harness::say;
 
 fn one_record(kind: u8, body: &[u8]) {
-    say::bytes(b"   ");
-    say::hex(kind);
+    say::kind(kind);
     let mut at = 0;
     while at < body.len() {
         if fields::starts_field(kind, at) {
-            say::bytes(b" ");
+            say::byte(b' ');
         }
         say::hex(body[at]);
         at += 1;
     }
-    say::bytes(b"\n");
+    say::byte(b'\n');
 }
 
 // The bytes of a body, in a store or in an outline.

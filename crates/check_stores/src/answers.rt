@@ -13,31 +13,34 @@ use stores::Walked;
 
 pub fn judged(store: &[u8], area: &[u8]) {
     let judged = services::judge(store, area, true);
+    say::arrow();
     match judged {
-        Judged::Sound => say::bytes(b" -> sound"),
-        Judged::NotSound => say::bytes(b" -> not sound"),
-        Judged::Disagree => say::bytes(b" -> THE SERVICES DISAGREE"),
+        Judged::Sound => say::bytes(b" sound"),
+        Judged::NotSound => say::bytes(b" not sound"),
+        Judged::Disagree => say::bytes(b" THE SERVICES DISAGREE"),
     }
 }
 
 pub fn names(store: &[u8], area: &[u8]) {
-    say::bytes(b" ->");
+    say::arrow();
     say::report(naming::check_names(store, area).report());
 }
 
-// Content: the answer, where the part starts and how long it is, and its bytes.
-pub fn content(store: &[u8], area: &[u8], number: usize) {
-    let found = stores::find_content(store, area, number);
-    let answer = found.report();
-    say::bytes(b" ->");
+// The answer, and of a part where it starts and how long it is.
+fn found(content: Content) {
+    let answer = content.report();
     say::size(answer.number);
-    if let Content::Part { from, size } = found {
+    if let Content::Part { from, size } = content {
         say::size(from);
         say::size(size);
     }
-    say::bytes(b" [");
-    say::text(stores::content_part(store, area, number));
-    say::bytes(b"]");
+}
+
+// Content: the answer, and the part's bytes.
+pub fn content(store: &[u8], area: &[u8], number: usize) {
+    say::arrow();
+    found(stores::find_content(store, area, number));
+    say::bracketed(stores::content_part(store, area, number));
 }
 
 fn decimal(p: Parts) {
@@ -62,7 +65,7 @@ fn fields(f: Fields) {
 // The record at an offset: kind, place, area offset or number of tags, decimal parts; the part of the area; where the next one starts.
 pub fn walked(store: &[u8], area: &[u8], at: usize) {
     let walked = stores::record_at(store, area, at);
-    say::bytes(b" ->");
+    say::arrow();
     match walked {
         Walked::Record {
             number,
@@ -77,7 +80,7 @@ pub fn walked(store: &[u8], area: &[u8], at: usize) {
             say::size(size);
             say::size(next);
         }
-        Walked::NoRecord => say::bytes(b" 14"),
+        Walked::NoRecord => say::number(14),
     }
 }
 
@@ -102,12 +105,10 @@ pub fn rendered(store: &[u8], area: &[u8], room: usize) {
     let mut text = [BEFORE; 512];
     let answer = render(store, area, &mut text, room);
     let length = counted(answer);
-    say::bytes(b" ->");
+    say::arrow();
     say::report(answer);
     if !is_all(&text, length, BEFORE) {
         say::bytes(b", THE REST CHANGED");
     }
-    say::bytes(b" [");
-    say::text(part(&text, 0, length));
-    say::bytes(b"]");
+    say::bracketed(part(&text, 0, length));
 }

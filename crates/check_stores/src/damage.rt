@@ -81,24 +81,28 @@ fn try_byte(damaged: &mut [u8], at: usize, other: &[u8], is_store: bool) -> Tall
     tally
 }
 
+// A mark before the first byte of a field.
+fn say_mark(kind: u8, at: usize) {
+    if fields::starts_field(kind, at) {
+        say::bytes(b" |");
+    }
+}
+
 // A record, a line: its kind, and the counts of its bytes, field by field.
 fn try_record(store: &mut [u8], area: &[u8], at: usize, end: usize) -> Tally
     requires { ⌜ (at < end) × (end ≤ length (now store)) ⌝ }
 {
     let kind = store[at];
-    say::bytes(b"   ");
-    say::hex(kind);
+    say::kind(kind);
     let mut tally = try_byte(store, at, area, true);
     let body = at + 1;
     let mut i = body;
     while i < end {
-        if fields::starts_field(kind, i - body) {
-            say::bytes(b" |");
-        }
+        say_mark(kind, i - body);
         tally = sum(tally, try_byte(store, i, area, true));
         i += 1;
     }
-    say::bytes(b"\n");
+    say::byte(b'\n');
     tally
 }
 
@@ -116,23 +120,27 @@ fn try_store(store: &mut [u8], area: &[u8]) -> Tally {
 fn try_area(area: &mut [u8], store: &[u8]) -> Tally {
     let mut tally = nothing();
     let mut at = 0;
-    say::bytes(b"   area");
     while at < area.len() {
         tally = sum(tally, try_byte(area, at, store, false));
         at += 1;
     }
-    say::bytes(b"\n");
     tally
 }
 
-pub fn run(store: &mut [u8], area: &mut [u8]) {
-    let stores = try_store(store, area);
-    let all = sum(stores, try_area(area, store));
+fn say_all(all: Tally) {
     say::bytes(b"   sound");
     say_count(all.sound);
     say::bytes(b", not sound");
     say_count(all.not_sound);
     say::bytes(b", disagreed on");
     say_count(all.disagree);
-    say::bytes(b"\n");
+    say::byte(b'\n');
+}
+
+pub fn run(store: &mut [u8], area: &mut [u8]) {
+    let stores = try_store(store, area);
+    say::bytes(b"   area");
+    let areas = try_area(area, store);
+    say::byte(b'\n');
+    say_all(sum(stores, areas));
 }

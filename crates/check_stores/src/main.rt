@@ -30,7 +30,7 @@ fn read(s: &[u8], store: &mut [u8; ROOM], area: &mut [u8; ROOM]) -> Lengths {
     let mut buffer = [0u8; ROOM];
     let end = lines::unfold(s, &mut buffer, 0);
     let read = reading::read(part(&buffer, 0, end), store, area).report();
-    say::bytes(b" ->");
+    say::arrow();
     say::report(read);
     Lengths {
         store: read.first,
@@ -133,25 +133,39 @@ fn damage_all(letter: u8, store: &mut [u8], area: &mut [u8], have: Lengths) {
     damage::run(&mut store[..stores], &mut area[..areas]);
 }
 
+// What a line asks for: whether the store is sound, or another answer.
+fn answer(letter: u8, s: &[u8], store: &[u8; ROOM], area: &[u8; ROOM], have: Lengths) {
+    judge(letter, s, store, area, have);
+    ask(
+        letter,
+        s,
+        part(store, 0, have.store),
+        part(area, 0, have.area),
+    );
+    say::byte(b'\n');
+}
+
+fn run_vector(
+    letter: u8,
+    s: &[u8],
+    store: &mut [u8; ROOM],
+    area: &mut [u8; ROOM],
+    have: Lengths,
+) -> Lengths {
+    let then = build(letter, s, store, area, have);
+    answer(letter, s, store, area, then);
+    damage_all(letter, store, area, then);
+    then
+}
+
 fn run_line(s: &[u8], store: &mut [u8; ROOM], area: &mut [u8; ROOM], have: Lengths) -> Lengths {
     say::bytes(s);
     let from = lines::text_start(s);
     if from == 0 {
-        say::bytes(b"\n");
+        say::byte(b'\n');
         return have;
     }
-    let letter = s[0];
-    let then = build(letter, &s[from..], store, area, have);
-    judge(letter, &s[from..], store, area, then);
-    ask(
-        letter,
-        &s[from..],
-        part(store, 0, then.store),
-        part(area, 0, then.area),
-    );
-    say::bytes(b"\n");
-    damage_all(letter, store, area, then);
-    then
+    run_vector(s[0], &s[from..], store, area, have)
 }
 
 fn run(s: &[u8]) {

@@ -63,6 +63,11 @@ fn walks(store: &[u8], area: &[u8]) -> bool {
     at == store.len()
 }
 
+// Whether two stores have the same bytes in a part.
+fn same_part(a: &[u8], b: &[u8], from: usize, size: usize) -> bool {
+    check::same(part(a, from, size), part(b, from, size))
+}
+
 // Whether two stores have the same kinds and the same bytes behind each place.
 fn same_but_places(a: &[u8], b: &[u8]) -> bool {
     let mut at = 0;
@@ -74,10 +79,10 @@ fn same_but_places(a: &[u8], b: &[u8]) -> bool {
         if end < behind {
             return false;
         }
-        if !check::same(part(a, at, 1), part(b, at, 1)) {
+        if !same_part(a, b, at, 1) {
             return false;
         }
-        if !check::same(part(a, behind, end - behind), part(b, behind, end - behind)) {
+        if !same_part(a, b, behind, end - behind) {
             return false;
         }
         at = end;

@@ -96,6 +96,13 @@ fn digit(b: u8) -> u8
     }
 }
 
+// The byte that the two hexadecimal digits at an offset give.
+fn pair(s: &[u8], at: usize) -> u8
+    requires { ⌜ at + 1 < length (now s) ⌝ }
+{
+    digit(s[at]) * 16 + digit(s[at + 1])
+}
+
 // How many bytes of a line stand for one of the text: `\` and two digits, or the byte itself.
 fn width(s: &[u8], at: usize) -> usize
     requires { ⌜ at < length (now s) ⌝ }
@@ -115,7 +122,7 @@ fn meant(s: &[u8], at: usize) -> u8
 {
     let n = width(s, at);
     if n == 3 {
-        return digit(s[at + 1]) * 16 + digit(s[at + 2]);
+        return pair(s, at + 1);
     }
     s[at]
 }
@@ -160,7 +167,7 @@ fn put_hex(s: &[u8], at: usize, out: &mut [u8], end: usize) -> usize
 {
     let n = hex_width(s, at);
     if n == 2 {
-        return put(out, end, digit(s[at]) * 16 + digit(s[at + 1]));
+        return put(out, end, pair(s, at));
     }
     end
 }

@@ -6,6 +6,16 @@ pub fn bytes(s: &[u8]) {
     io::write_all(STDOUT_FILENO, s);
 }
 
+// One byte. A text of one byte is written by this rather than by `bytes`, since each literal is an array that is laid down and lent, and proved to be.
+pub fn byte(b: u8) {
+    bytes(&[b]);
+}
+
+// What stands between a vector and its answer.
+pub fn arrow() {
+    bytes(b" ->");
+}
+
 // A number, with nothing around it.
 pub fn plain(n: u64) {
     io::print_decimal(STDOUT_FILENO, n);
@@ -13,7 +23,7 @@ pub fn plain(n: u64) {
 
 // A number behind a space.
 pub fn number(n: u64) {
-    bytes(b" ");
+    byte(b' ');
     plain(n);
 }
 
@@ -34,11 +44,17 @@ pub fn hex(b: u8) {
     io::print_hex(STDOUT_FILENO, b as u64, 2);
 }
 
+// The kind that a record's line starts with.
+pub fn kind(kind: u8) {
+    bytes(b"   ");
+    hex(kind);
+}
+
 // Each byte of a slice, behind a space.
 pub fn each_byte(s: &[u8]) {
     let mut at = 0;
     while at < s.len() {
-        bytes(b" ");
+        byte(b' ');
         hex(s[at]);
         at += 1;
     }
@@ -55,10 +71,10 @@ fn is_plain(b: u8) -> bool {
 
 fn letter(b: u8) {
     if is_plain(b) {
-        bytes(&[b]);
+        byte(b);
         return;
     }
-    bytes(b"\\");
+    byte(b'\\');
     hex(b);
 }
 
@@ -69,6 +85,13 @@ pub fn text(s: &[u8]) {
         letter(s[at]);
         at += 1;
     }
+}
+
+// The same in brackets, behind a space.
+pub fn bracketed(s: &[u8]) {
+    bytes(b" [");
+    text(s);
+    byte(b']');
 }
 
 // An answer in document 01's numbers: refusal number, place, detail, both lengths.

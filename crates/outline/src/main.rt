@@ -88,7 +88,7 @@ fn say_outline(text: &[u8]) {
         say(b"input over 65536 bytes\n");
         return;
     }
-    let mut store = [0u8; LIMIT];
+    let mut store = io::large_buffer();
     let report = outlining::outline(text, &mut store).report();
     if report.number != 0 {
         say_refusal(report);
@@ -97,8 +97,13 @@ fn say_outline(text: &[u8]) {
     say_written(&store, report.first);
 }
 
+// Room for a text and one byte more. It stands in a function of its own since its caller's proof then knows its length, and need not count it.
+fn room() -> [u8; LIMIT + 1] {
+    [0u8; LIMIT + 1]
+}
+
 fn main() {
-    let mut input = [0u8; LIMIT + 1];
+    let mut input = room();
     let n = io::read_full(STDIN_FILENO, &mut input);
     say_outline(&input[..n]);
 }

@@ -62,9 +62,16 @@ fn entry_end(s: &[u8], at: usize) -> usize
     at + size
 }
 
-// A line that ends in a number.
-fn say_count(what: &[u8], count: u32) {
-    say::bytes(what);
+fn say_read(count: u32) {
+    say::bytes(b"read: ");
+    say::plain(count as u64);
+    say::bytes(b"\n");
+}
+
+fn say_refused(number: u64, count: u32) {
+    say::bytes(b"refused by ");
+    say::plain(number);
+    say::bytes(b": ");
     say::plain(count as u64);
     say::bytes(b"\n");
 }
@@ -77,12 +84,12 @@ fn say_end(passed: u32, failed: u32) {
 }
 
 fn say_counts(counts: &[u32; 16]) {
-    say_count(b"read: ", counts[0]);
-    say_count(b"refused by 3: ", counts[3]);
-    say_count(b"refused by 4: ", counts[4]);
-    say_count(b"refused by 5: ", counts[5]);
-    say_count(b"refused by 6: ", counts[6]);
-    say_count(b"refused by 7: ", counts[7]);
+    say_read(counts[0]);
+    say_refused(3, counts[3]);
+    say_refused(4, counts[4]);
+    say_refused(5, counts[5]);
+    say_refused(6, counts[6]);
+    say_refused(7, counts[7]);
     say_end(counts[PASSED], counts[FAILED]);
 }
 
@@ -103,12 +110,23 @@ fn replay(s: &[u8]) {
     say_counts(&counts);
 }
 
-fn main() {
-    let mut input = [0u8; LONGEST];
-    let n = io::read_full(STDIN_FILENO, &mut input);
-    if !list::is_list(&input[..n]) {
+// Room for a list. It stands in a function of its own since its caller's proof then knows its length, and need not count it.
+fn room() -> [u8; LONGEST] {
+    [0u8; LONGEST]
+}
+
+// Replays the list on standard input, which is read into what is lent.
+fn replay_input(input: &mut [u8]) {
+    let n = io::read_full(STDIN_FILENO, input);
+    let list = &input[..n];
+    if !list::is_list(list) {
         say::bytes(b"this is no list of the length that it says\n");
         return;
     }
-    replay(&input[..n]);
+    replay(list);
+}
+
+fn main() {
+    let mut input = room();
+    replay_input(&mut input);
 }

@@ -7,19 +7,13 @@ use Rattle.check_stores.proofs.damage.try_area.Statement.{statement}
 use Rattle.check_stores.proofs.damage.try_area.Tie as tie
 
 abbrev Inv-loop : tie.InvT-loop
-Inv-loop area₀ store tally₀ at₀ t6 area tally at = length area ≡ length area₀
+Inv-loop area₀ store tally₀ at₀ area tally at = length area ≡ length area₀
 
 abbrev μ-loop : tie.MeasureT-loop
-μ-loop area₀ store tally₀ at₀ t6 area tally at = length area - at
+μ-loop area₀ store tally₀ at₀ area tally at = length area - at
 
 nothing-requires : tie.Need-nothing-requires Inv-loop μ-loop
 nothing-requires c κs = search needs
-
-slice-aggregate-bytes : tie.Need-slice-aggregate-bytes Inv-loop μ-loop
-slice-aggregate-bytes c = search needs
-
-bytes-requires : tie.Need-bytes-requires Inv-loop μ-loop
-bytes-requires c κs = search needs
 
 loop-holds : tie.Need-loop-holds Inv-loop μ-loop
 loop-holds c = search needs
@@ -39,12 +33,6 @@ loop-less c = search needs
 loop-again : tie.Need-loop-again Inv-loop μ-loop
 loop-again c = search needs
 
-slice-aggregate-bytes-2 : tie.Need-slice-aggregate-bytes-2 Inv-loop μ-loop
-slice-aggregate-bytes-2 c = search needs
-
-bytes-requires-2 : tie.Need-bytes-requires-2 Inv-loop μ-loop
-bytes-requires-2 c κs = search needs
-
 same-length : tie.Need-same-length Inv-loop μ-loop
 same-length c = search needs
 
@@ -58,15 +46,11 @@ try-area-spec =
     Inv-loop
     μ-loop
     nothing-requires
-    slice-aggregate-bytes
-    bytes-requires
     loop-holds
     try-byte-requires
     sum-requires
     add-at
     loop-less
     loop-again
-    slice-aggregate-bytes-2
-    bytes-requires-2
     same-length
     returns)

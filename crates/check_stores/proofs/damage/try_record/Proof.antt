@@ -7,22 +7,16 @@ use Rattle.check_stores.proofs.damage.try_record.Statement.{statement}
 use Rattle.check_stores.proofs.damage.try_record.Tie as tie
 
 abbrev Inv-loop : tie.InvT-loop
-Inv-loop store₀ area at end kind tally₀ body i₀ t10 t11 store tally i = (length store ≡ length store₀) × (body ≤ i)
+Inv-loop store₀ area at end kind tally₀ body i₀ store tally i = (length store ≡ length store₀) × (body ≤ i)
 
 abbrev μ-loop : tie.MeasureT-loop
-μ-loop store₀ area at end kind tally₀ body i₀ t10 t11 store tally i = end - i
+μ-loop store₀ area at end kind tally₀ body i₀ store tally i = end - i
 
 slice-read-kind : tie.Need-slice-read-kind Inv-loop μ-loop
 slice-read-kind c = search needs
 
-slice-aggregate-bytes : tie.Need-slice-aggregate-bytes Inv-loop μ-loop
-slice-aggregate-bytes c = search needs
-
-bytes-requires : tie.Need-bytes-requires Inv-loop μ-loop
-bytes-requires c κs = search needs
-
-hex-requires : tie.Need-hex-requires Inv-loop μ-loop
-hex-requires c κs = search needs
+kind-requires : tie.Need-kind-requires Inv-loop μ-loop
+kind-requires c κs = search needs
 
 try-byte-requires : tie.Need-try-byte-requires Inv-loop μ-loop
 try-byte-requires c κs = search needs
@@ -33,17 +27,11 @@ add-body c = search needs
 loop-holds : tie.Need-loop-holds Inv-loop μ-loop
 loop-holds c = search needs
 
-sub-starts-field : tie.Need-sub-starts-field Inv-loop μ-loop
-sub-starts-field c = search needs
+sub-say-mark : tie.Need-sub-say-mark Inv-loop μ-loop
+sub-say-mark c = search needs
 
-starts-field-requires : tie.Need-starts-field-requires Inv-loop μ-loop
-starts-field-requires c κs = search needs
-
-slice-aggregate-bytes-2 : tie.Need-slice-aggregate-bytes-2 Inv-loop μ-loop
-slice-aggregate-bytes-2 c = search needs
-
-bytes-requires-2 : tie.Need-bytes-requires-2 Inv-loop μ-loop
-bytes-requires-2 c κs = search needs
+say-mark-requires : tie.Need-say-mark-requires Inv-loop μ-loop
+say-mark-requires c κs = search needs
 
 try-byte-requires-2 : tie.Need-try-byte-requires-2 Inv-loop μ-loop
 try-byte-requires-2 c κs = search needs
@@ -60,11 +48,8 @@ loop-less c = search needs
 loop-again : tie.Need-loop-again Inv-loop μ-loop
 loop-again c = search needs
 
-slice-aggregate-bytes-3 : tie.Need-slice-aggregate-bytes-3 Inv-loop μ-loop
-slice-aggregate-bytes-3 c = search needs
-
-bytes-requires-3 : tie.Need-bytes-requires-3 Inv-loop μ-loop
-bytes-requires-3 c κs = search needs
+byte-requires : tie.Need-byte-requires Inv-loop μ-loop
+byte-requires c κs = search needs
 
 same-length : tie.Need-same-length Inv-loop μ-loop
 same-length c = search needs
@@ -79,22 +64,17 @@ try-record-spec =
     Inv-loop
     μ-loop
     slice-read-kind
-    slice-aggregate-bytes
-    bytes-requires
-    hex-requires
+    kind-requires
     try-byte-requires
     add-body
     loop-holds
-    sub-starts-field
-    starts-field-requires
-    slice-aggregate-bytes-2
-    bytes-requires-2
+    sub-say-mark
+    say-mark-requires
     try-byte-requires-2
     sum-requires
     add-i
     loop-less
     loop-again
-    slice-aggregate-bytes-3
-    bytes-requires-3
+    byte-requires
     same-length
     returns)

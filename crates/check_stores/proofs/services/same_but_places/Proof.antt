@@ -35,26 +35,14 @@ body-end-requires-2 c κs = search needs
 returns : tie.Need-returns Inv-loop μ-loop
 returns c = search needs
 
-part-requires : tie.Need-part-requires Inv-loop μ-loop
-part-requires c κs = search needs
-
-part-requires-2 : tie.Need-part-requires-2 Inv-loop μ-loop
-part-requires-2 c κs = search needs
-
-same-requires : tie.Need-same-requires Inv-loop μ-loop
-same-requires c κs = search needs
+same-part-requires : tie.Need-same-part-requires Inv-loop μ-loop
+same-part-requires c κs = search needs
 
 returns-2 : tie.Need-returns-2 Inv-loop μ-loop
 returns-2 c = search needs
 
-part-requires-3 : tie.Need-part-requires-3 Inv-loop μ-loop
-part-requires-3 c κs = search needs
-
-part-requires-4 : tie.Need-part-requires-4 Inv-loop μ-loop
-part-requires-4 c κs = search needs
-
-same-requires-2 : tie.Need-same-requires-2 Inv-loop μ-loop
-same-requires-2 c κs = search needs
+same-part-requires-2 : tie.Need-same-part-requires-2 Inv-loop μ-loop
+same-part-requires-2 c κs = search needs
 
 returns-3 : tie.Need-returns-3 Inv-loop μ-loop
 returns-3 c = search needs
@@ -82,13 +70,9 @@ same-but-places-spec =
     body-length-requires
     body-end-requires-2
     returns
-    part-requires
-    part-requires-2
-    same-requires
+    same-part-requires
     returns-2
-    part-requires-3
-    part-requires-4
-    same-requires-2
+    same-part-requires-2
     returns-3
     loop-less
     loop-again

@@ -6,19 +6,16 @@ use Rattle.harness.proofs.say.each_byte.Statement.{statement}
 use Rattle.harness.proofs.say.each_byte.Tie as tie
 
 abbrev Inv-loop : tie.InvT-loop
-Inv-loop s at₀ t3 at = Unit
+Inv-loop s at₀ at = Unit
 
 abbrev μ-loop : tie.MeasureT-loop
-μ-loop s at₀ t3 at = length s - at
+μ-loop s at₀ at = length s - at
 
 loop-holds : tie.Need-loop-holds Inv-loop μ-loop
 loop-holds c = search needs
 
-slice-aggregate-bytes : tie.Need-slice-aggregate-bytes Inv-loop μ-loop
-slice-aggregate-bytes c = search needs
-
-bytes-requires : tie.Need-bytes-requires Inv-loop μ-loop
-bytes-requires c κs = search needs
+byte-requires : tie.Need-byte-requires Inv-loop μ-loop
+byte-requires c κs = search needs
 
 shared-slice-read-hex : tie.Need-shared-slice-read-hex Inv-loop μ-loop
 shared-slice-read-hex c = search needs
@@ -45,8 +42,7 @@ each-byte-spec =
     Inv-loop
     μ-loop
     loop-holds
-    slice-aggregate-bytes
-    bytes-requires
+    byte-requires
     shared-slice-read-hex
     hex-requires
     add-at
