@@ -15,9 +15,14 @@ use Rattle.text.specs.Bytes.{is, isEol}
 use Rattle.text.proofs.Bools.{and-l}
 use Rattle.quotes.specs.declared.Closing.{Closing}
 use Rattle.quotes.specs.declared.Closing.the-variants.{Behind, Nothing}
-use Rattle.quotes.specs.Quotes.{more, quoted, endsHere, strictQuoted, quotedBy}
+use Rattle.quotes.specs.Quotes.{more, quoted, endsHere, strictQuoted, closes, quotedBy}
 use Rattle.quotes.specs.Answers.{closing, markEnd, quoteEnd}
 use Rattle.quotes.proofs.Quotes.{Ends, mark-behind, mark-nothing, ends-step, quote-ends, quote-plain}
+
+-- in the first reading the next mark closes
+first-mark : (m : ℕ) (s : List ℕ) (o : ℕ) → quoteEnd First m s o ≡ markEnd m s o
+unfolding markEnd quoteEnd
+first-mark m s o = refl
 
 -- the search taken up again
 
@@ -71,7 +76,7 @@ closing-further o n none = refl
 closing-further o n (some k) = ap Behind (omega arith)
 
 module _ (m : ℕ) (p : isEol m ≡ false) (s : List ℕ) (o : ℕ) where
-  pub strict-none : markEnd m s o ≡ Nothing → quoteEnd Strict m s o ≡ Nothing
+  strict-none : markEnd m s o ≡ Nothing → quoteEnd Strict m s o ≡ Nothing
   unfolding quoteEnd again closing
   strict-none e = rw (strict-again m p (drop o s), mark-nothing m s o e)
 
@@ -95,16 +100,28 @@ module _ (m : ℕ) (p : isEol m ≡ false) (s : List ℕ) (o : ℕ) where
           let z : o + (e - o) ≡ e = omega (arith, mark-behind m s o e q .0) in
           rw z at (closing-further o (e - o) (strictQuoted m (drop e s)))
 
-  pub strict-here : (e : ℕ) → markEnd m s o ≡ Behind e → endsHere (drop e s) ≡ true → quoteEnd Strict m s o ≡ Behind e
-  strict-here e q t = on e q ∙ rw t
+-- by the reading: no mark on the line; a mark that closes; any other mark
+module _ (r : Reading) (m : ℕ) (p : isEol m ≡ false) (s : List ℕ) (o : ℕ) where
+  pub quoted-none : markEnd m s o ≡ Nothing → quoteEnd r m s o ≡ Nothing
+  quoted-none = by r
+    where
+      by : (t : Reading) → markEnd m s o ≡ Nothing → quoteEnd t m s o ≡ Nothing
+      by First e = first-mark m s o ∙ e
+      by Strict e = strict-none m p s o e
 
-  pub strict-on : (e : ℕ) → markEnd m s o ≡ Behind e → endsHere (drop e s) ≡ false → quoteEnd Strict m s o ≡ quoteEnd Strict m s e
-  strict-on e q t = on e q ∙ rw t
+  pub quoted-here : (e : ℕ) → markEnd m s o ≡ Behind e → closes r (drop e s) ≡ true → quoteEnd r m s o ≡ Behind e
+  quoted-here e = by r
+    where
+      by : (t : Reading) → markEnd m s o ≡ Behind e → closes t (drop e s) ≡ true → quoteEnd t m s o ≡ Behind e
+      by First q c = first-mark m s o ∙ q
+      by Strict q c = on m p s o e q ∙ rw c
 
--- in the first reading the next mark closes
-pub first-mark : (m : ℕ) (s : List ℕ) (o : ℕ) → markEnd m s o ≡ quoteEnd First m s o
-unfolding markEnd quoteEnd
-first-mark m s o = refl
+  pub quoted-on : (e : ℕ) → markEnd m s o ≡ Behind e → closes r (drop e s) ≡ false → quoteEnd r m s o ≡ quoteEnd r m s e
+  quoted-on e = by r
+    where
+      by : (t : Reading) → markEnd m s o ≡ Behind e → closes t (drop e s) ≡ false → quoteEnd t m s o ≡ quoteEnd t m s e
+      by First q c = absurd (true≢false c)
+      by Strict q c = on m p s o e q ∙ rw c
 
 -- where a quote ends, and that it stays on its line, in either reading
 

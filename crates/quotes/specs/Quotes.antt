@@ -30,6 +30,11 @@ strictQuoted m [] = none
 strictQuoted m (b ∷ s) =
     let r = more (strictQuoted m s) in cond (is m b && endsHere s) (some 1) (cond (isEol b) none r)
 
+-- a mark closes, where s stands behind it: any does, or in the strict reading one before space
+abbrev pub closes : Reading → List ℕ → Bool
+closes First s = true
+closes Strict s = endsHere s
+
 -- by the reading
 abbrev pub quotedBy : Reading → ℕ → List ℕ → Option ℕ
 quotedBy First m s = quoted m s

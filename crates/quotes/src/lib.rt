@@ -3,11 +3,10 @@ ghost use mathlib.Core.Path.{_≡_};
 ghost use mathlib.Core.Bool.{false};
 ghost use Prim.Native.Nat.{_<_};
 ghost use lib.ListN.{drop};
-ghost use Rattle.rules.specs.declared.Reading.the-variants.{Strict};
 ghost use Rattle.text.specs.Bytes.{is, isEol, semicolon};
 ghost use Rattle.text.specs.Runs.{spanEnd};
 ghost use Rattle.text.specs.Blocks.{clear};
-ghost use Rattle.quotes.specs.Quotes.{endsHere};
+ghost use Rattle.quotes.specs.Quotes.{endsHere, closes as closesBy};
 ghost use Rattle.quotes.specs.Answers.{markEnd, quoteEnd, fieldEnd};
 use rules::Reading;
 
@@ -48,11 +47,21 @@ fn ends_here(s: &[u8], at: usize) -> bool
     text::is_space(s[at])
 }
 
-// Behind the mark that closes a quote in the strict reading: the search for a mark, taken up again behind each that no
-// space follows.
-fn parse_strict(s: &[u8], from: usize, mark: u8) -> Closing
+// Whether a mark closes a quote, by what stands behind it.
+fn closes(reading: Reading, s: &[u8], at: usize) -> bool
+    ensures { λ r. ⌜ r ≡ closesBy reading (drop at (now (s .entry))) ⌝ }
+{
+    match reading {
+        Reading::First => true,
+        Reading::Strict => ends_here(s, at),
+    }
+}
+
+// Behind the mark that closes a quote; `from` is behind the mark that opens it. The search for a mark is taken up again
+// behind each that does not close.
+pub fn parse_quoted(reading: Reading, s: &[u8], from: usize, mark: u8) -> Closing
     requires { ⌜ isEol mark ≡ false ⌝ }
-    ensures { λ r. ⌜ r ≡ quoteEnd Strict mark (now (s .entry)) from ⌝ }
+    ensures { λ r. ⌜ r ≡ quoteEnd reading mark (now (s .entry)) from ⌝ }
 {
     let mut at = from;
     loop {
@@ -60,21 +69,10 @@ fn parse_strict(s: &[u8], from: usize, mark: u8) -> Closing
         let Closing::Behind(end) = next else {
             return Closing::Nothing;
         };
-        if ends_here(s, end) {
+        if closes(reading, s, end) {
             return Closing::Behind(end);
         }
         at = end;
-    }
-}
-
-// Behind the mark that closes a quote; `from` is behind the mark that opens it.
-pub fn parse_quoted(reading: Reading, s: &[u8], from: usize, mark: u8) -> Closing
-    requires { ⌜ isEol mark ≡ false ⌝ }
-    ensures { λ r. ⌜ r ≡ quoteEnd reading mark (now (s .entry)) from ⌝ }
-{
-    match reading {
-        Reading::First => parse_enclosed(s, from, mark),
-        Reading::Strict => parse_strict(s, from, mark),
     }
 }
 
