@@ -3,7 +3,7 @@ ghost use mathlib.Core.Path.{_≡_};
 ghost use Prim.Native.Nat.{ℕ, _+_, _≤_};
 ghost use lib.ListN.{length};
 ghost use Rattle.text.specs.Parts.{part};
-ghost use Rattle.names.specs.Names.{sameBoth, scopeAfter, isNameKind};
+ghost use Rattle.names.specs.Names.{sameBoth, blockAfter, scopeAfter, isNameKind};
 ghost use Rattle.names.specs.Order.{lessName};
 ghost use Rattle.names.specs.Numbers.{mix as mixOf, hashOf};
 ghost use Rattle.names.specs.Parts.{nameOf, Inside};
@@ -58,15 +58,28 @@ pub fn is_name(kind: u8) -> bool
     kind == 6
 }
 
-// The scope behind a record: a frame's number is that of its opening record, and the block's is 0.
-pub fn scope_after(kind: u8, number: usize, scope: usize) -> usize
-    ensures { λ r. ⌜ r ≡ scopeAfter kind number scope ⌝ }
+// The block behind a record: its number is that of its own record.
+pub fn block_after(kind: u8, number: usize, block: usize) -> usize
+    ensures { λ r. ⌜ r ≡ blockAfter kind number block ⌝ }
 {
+    if kind == 1 {
+        return number;
+    }
+    block
+}
+
+// The scope behind a record: the block or the frame that it opens, or behind a frame its block again.
+pub fn scope_after(kind: u8, number: usize, block: usize, scope: usize) -> usize
+    ensures { λ r. ⌜ r ≡ scopeAfter kind number block scope ⌝ }
+{
+    if kind == 1 {
+        return number;
+    }
     if kind == 2 {
         return number;
     }
     if kind == 3 {
-        return 0;
+        return block;
     }
     scope
 }

@@ -21,7 +21,7 @@ use Rattle.entries.proofs.Walking.{rest, rest-over, rest-none, next-at}
 use Rattle.entries.proofs.Walking.{rest-is, entries-first}
 use Rattle.contents.proofs.Kept.{content-bytes}
 use Rattle.names.specs.declared.Named.{Named}
-use Rattle.names.specs.Names.{Name, scopeAfter, isNameKind, namesFrom, names}
+use Rattle.names.specs.Names.{Name, blockAfter, scopeAfter, isNameKind, namesFrom, names}
 use Rattle.text.specs.Parts.{part}
 use Rattle.names.specs.Parts.{nameOf, Inside}
 use Rattle.names.proofs.Lists.{drop-next}
@@ -47,42 +47,43 @@ part-past ar from size h =
     let d : drop from ar ≡ [] = drop-of-length-le ar l in
     rw d (sym (take-nil size))
 
--- the names from an offset on, with a record's number and scope
-unfoldable pub namesOn : List ℕ → List ℕ → ℕ → ℕ → ℕ → List Name
-namesOn st ar at i scope = namesFrom (rest st at) ar i scope
+-- the names from an offset on, with a record's number, block and scope
+unfoldable pub namesOn : List ℕ → List ℕ → ℕ → ℕ → ℕ → ℕ → List Name
+namesOn st ar at i block scope = namesFrom (rest st at) ar i block scope
 
-pub names-spot : (st ar : List ℕ) (s : Spot) → namesAt st ar s ≡ namesOn st ar (s .at) (s .number) (s .scope)
+pub names-spot : (st ar : List ℕ) (s : Spot) → namesAt st ar s ≡ namesOn st ar (s .at) (s .number) (s .block) (s .scope)
 unfolding namesAt namesOn
 names-spot st ar s = rw (rest-is st (s .at))
 
-pub names-over : (st ar : List ℕ) (at i scope : ℕ) → length st ≤ at → namesOn st ar at i scope ≡ []
+pub names-over : (st ar : List ℕ) (at i block scope : ℕ) → length st ≤ at → namesOn st ar at i block scope ≡ []
 unfolding namesOn namesFrom
-names-over st ar at i scope h = rw (rest-over st at h)
+names-over st ar at i block scope h = rw (rest-over st at h)
 
-pub names-none : (st ar : List ℕ) (at i scope : ℕ) → at < length st → entryAt st at ≡ Nothing → namesOn st ar at i scope ≡ []
+pub names-none : (st ar : List ℕ) (at i block scope : ℕ) → at < length st → entryAt st at ≡ Nothing → namesOn st ar at i block scope ≡ []
 unfolding namesOn namesFrom
-names-none st ar at i scope h e = rw (rest-none st at h e)
+names-none st ar at i block scope h e = rw (rest-none st at h e)
 
-module _ (st ar : List ℕ) (at i scope : ℕ) (k : Kind) (f : Fields) (next : ℕ) (h : at < length st) (e : entryAt st at ≡ Record k f next) where
-  pub names-other : isNameKind (numberOf k) ≡ false → namesOn st ar at i scope ≡ namesOn st ar next (i + 1) (scopeAfter (numberOf k) i scope)
+module _ (st ar : List ℕ) (at i block scope : ℕ) (k : Kind) (f : Fields) (next : ℕ) (h : at < length st) (e : entryAt st at ≡ Record k f next) where
+  pub names-other : isNameKind (numberOf k) ≡ false → namesOn st ar at i block scope ≡ namesOn st ar next (i + 1) (blockAfter (numberOf k) i block) (scopeAfter (numberOf k) i block scope)
   unfolding namesOn namesFrom isNameKind
   names-other q = rw (next-at st at k f next h e .here, q, add-one)
 
-  pub names-name : isNameKind (numberOf k) ≡ true → namesOn st ar at i scope ≡ record { number = i; scope = scope; bytes = contentBytes ar k f } ∷ namesOn st ar next (i + 1) scope
-  unfolding namesOn namesFrom isNameKind scopeAfter
+  pub names-name : isNameKind (numberOf k) ≡ true → namesOn st ar at i block scope ≡ record { number = i; scope = scope; bytes = contentBytes ar k f } ∷ namesOn st ar next (i + 1) block scope
+  unfolding namesOn namesFrom isNameKind blockAfter scopeAfter
   names-name q =
-      let a : scopeAfter (numberOf k) i scope ≡ scope = or-cases (eqb (numberOf k) 4) (eqb (numberOf k) 6) (λ z. rw (eqb-true (numberOf k) 4 z)) (λ z. rw (eqb-true (numberOf k) 6 z)) q in
-      rw (next-at st at k f next h e .here, q, a, add-one)
+      let a : blockAfter (numberOf k) i block ≡ block = or-cases (eqb (numberOf k) 4) (eqb (numberOf k) 6) (λ z. rw (eqb-true (numberOf k) 4 z)) (λ z. rw (eqb-true (numberOf k) 6 z)) q in
+      let b : scopeAfter (numberOf k) i block scope ≡ scope = or-cases (eqb (numberOf k) 4) (eqb (numberOf k) 6) (λ z. rw (eqb-true (numberOf k) 4 z)) (λ z. rw (eqb-true (numberOf k) 6 z)) q in
+      rw (next-at st at k f next h e .here, q, a, b, add-one)
 
   pub names-onwards : at < next
   names-onwards = next-at st at k f next h e .onwards
 
   -- a name is met
-  pub ahead-name : (s : Spot) (x : Named) → s .count ≤ i → i ≤ at → namesAt st ar s ≡ namesOn st ar at i scope → isNameKind (numberOf k) ≡ true → Holds ar k f i scope x →
-      Ahead st ar s (Met x (record { at = next; number = i + 1; scope = scope; count = s .count + 1 }))
+  pub ahead-name : (s : Spot) (x : Named) → s .count ≤ i → i ≤ at → namesAt st ar s ≡ namesOn st ar at i block scope → isNameKind (numberOf k) ≡ true → Holds ar k f i scope x →
+      Ahead st ar s (Met x (record { at = next; number = i + 1; block = block; scope = scope; count = s .count + 1 }))
   unfolding listed Kept Counted
   ahead-name s x n l inv q holds =
-      let on : namesOn st ar next (i + 1) scope ≡ namesAt st ar (record { at = next; number = i + 1; scope = scope; count = s .count + 1 }) = sym (names-spot st ar _) in
+      let on : namesOn st ar next (i + 1) block scope ≡ namesAt st ar (record { at = next; number = i + 1; block = block; scope = scope; count = s .count + 1 }) = sym (names-spot st ar _) in
       record {
         names = inv ∙ names-name q ∙ ap₂ (λ (y : Name) (ys : List Name). y ∷ ys) (sym (holds .name)) on;
         kept = (holds .inside, refl, (omega arith, omega (arith, names-onwards)));

@@ -25,11 +25,11 @@ pub record Holds (ar : List ℕ) (k : Kind) (f : Fields) (number scope : ℕ) (r
 
 -- the names from a spot on
 unfoldable pub namesAt : List ℕ → List ℕ → Spot → List Name
-namesAt st ar s = namesFrom (entriesFrom (drop (s .at) st) 0) ar (s .number) (s .scope)
+namesAt st ar s = namesFrom (entriesFrom (drop (s .at) st) 0) ar (s .number) (s .block) (s .scope)
 
 -- the spot of the store's first record
 abbrev pub first : Spot
-first = record { at = 0; number = 0; scope = 0; count = 0 }
+first = record { at = 0; number = 0; block = 0; scope = 0; count = 0 }
 
 -- a spot's numbers: no more names than records, no more records than bytes
 unfoldable pub Counted : Spot → Type 0

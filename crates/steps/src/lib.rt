@@ -7,10 +7,11 @@ use entries::Fields;
 use kinds::Kind;
 use names::Named;
 
-// Where a walk stands: the offset, number and scope of a record, and how many names stand before it.
+// Where a walk stands: the offset, number, block and scope of a record, and how many names stand before it.
 pub struct Spot {
     pub at: usize,
     pub number: usize,
+    pub block: usize,
     pub scope: usize,
     pub count: usize,
 }
@@ -68,6 +69,7 @@ pub fn next_name(store: &[u8], area: &[u8], spot: Spot) -> Next
 {
     let mut at = spot.at;
     let mut number = spot.number;
+    let mut block = spot.block;
     let mut scope = spot.scope;
     while at < store.len() {
         let Entry::Record { kind, fields, next } = entries::read_record(store, at) else {
@@ -80,12 +82,14 @@ pub fn next_name(store: &[u8], area: &[u8], spot: Spot) -> Next
                 after: Spot {
                     at: next,
                     number: number + 1,
+                    block,
                     scope,
                     count: spot.count + 1,
                 },
             };
         }
-        scope = names::scope_after(k, number, scope);
+        scope = names::scope_after(k, number, block, scope);
+        block = names::block_after(k, number, block);
         number += 1;
         at = next;
     }
@@ -110,7 +114,8 @@ pub fn start() -> Spot
     Spot {
         at: 0,
         number: FIRST,
-        scope: 0,
+        block: FIRST,
+        scope: FIRST,
         count: 0,
     }
 }

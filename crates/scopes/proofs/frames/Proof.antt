@@ -1,25 +1,22 @@
--- `scopes::frames`: up to here no scope is above the last, and the names of frames are other than each other. Assumes nothing.
+-- `scopes::frames`: from where the block began to here, its frames' names are other than each other. Assumes nothing.
 use Prim.Native.Nat.{_-_}
 use lib.ListN.{length}
 use Rattle.names.specs.Names.{names}
 use Rattle.steps.proofs.Steps.{met}
-use Rattle.scopes.proofs.Scopes.{Framing, framing-first, framing-block, framing-frame, framing-end, meets-within}
-use borrow.Author.Needs.{needs}
+use Rattle.scopes.specs.Scopes.{Frames}
+use Rattle.scopes.proofs.Scopes.{framing-first, framing-block, framing-frame, meets-within}
 use native.Mathlib.Omega.{arith}
 use Rattle.scopes.proofs.frames.Statement.{statement}
 use Rattle.scopes.proofs.frames.Tie as tie
 
 abbrev Inv-loop : tie.InvT-loop
-Inv-loop store area table₀ here₀ top₀ table here top = Framing store area top here
+Inv-loop store area table₀ block from top₀ table here top = Frames store area block from (record { end = here; top = top })
 
 abbrev μ-loop : tie.MeasureT-loop
-μ-loop store area table₀ here₀ top₀ table here top = length (names store area) - here .count
-
-start-requires : tie.Need-start-requires Inv-loop μ-loop
-start-requires c κs = search needs
+μ-loop store area table₀ block from top₀ table here top = length (names store area) - here .count
 
 loop-holds : tie.Need-loop-holds Inv-loop μ-loop
-loop-holds c = framing-first _ _ _ (c .start .ensures)
+loop-holds c = framing-first _ _ _ _ (c .before .before .pre)
 
 stretch-requires : tie.Need-stretch-requires Inv-loop μ-loop
 stretch-requires c κs = c .loop .inv .reached
@@ -34,22 +31,27 @@ enum-told : tie.Need-enum-told Inv-loop μ-loop
 enum-told c = c .match .keys2
 
 returns : tie.Need-returns Inv-loop μ-loop
-returns c = framing-end _ _ _ _ (framing-block _ _ _ _ _ (c .before .before .before .before .loop .inv) (c .before .before .before .stretch .ensures))
+returns c = framing-block _ _ _ _ _ _ _ (c .before .before .before .before .loop .inv) (c .before .before .before .stretch .ensures)
 
 returns-2 : tie.Need-returns-2 Inv-loop μ-loop
-returns-2 c = framing-end _ _ _ _ (framing-block _ _ _ _ _ (c .before .before .before .before .before .before .loop .inv) (c .before .before .before .before .before .stretch .ensures))
-
-frame-requires : tie.Need-frame-requires Inv-loop μ-loop
-frame-requires c κs = c .before .before .before .before .before .before .stretch .ensures .reached
+returns-2 c = framing-block _ _ _ _ _ _ _ (c .before .before .before .before .before .before .before .loop .inv) (c .before .before .before .before .before .before .stretch .ensures)
 
 returns-3 : tie.Need-returns-3 Inv-loop μ-loop
-returns-3 c = framing-end _ _ _ _ (framing-block _ _ _ _ _ (c .before .before .before .before .before .before .before .before .before .before .before .loop .inv) (c .before .before .before .before .before .before .before .before .before .before .stretch .ensures))
+returns-3 c = framing-block _ _ _ _ _ _ _ (c .before .before .before .before .before .before .before .before .loop .inv) (c .before .before .before .before .before .before .before .stretch .ensures)
+
+frame-requires : tie.Need-frame-requires Inv-loop μ-loop
+frame-requires c κs = c .before .before .before .before .before .before .before .before .stretch .ensures .reached
+
+returns-4 : tie.Need-returns-4 Inv-loop μ-loop
+returns-4 c = framing-block _ _ _ _ _ _ _ (c .before .before .before .before .before .before .before .before .before .before .before .before .before .loop .inv) (c .before .before .before .before .before .before .before .before .before .before .before .before .stretch .ensures)
 
 loop-less : tie.Need-loop-less Inv-loop μ-loop
-loop-less c = omega (arith, c .if2 .left, c .before .before .before .before .before .before .before .before .before .before .stretch .ensures .onwards, meets-within _ _ _ _ _ (c .before .before .before .before .before .before .before .before .before .before .stretch .ensures .reached) (met _ _ _ _ _ _ (c .before .before .before .before .before .before .before .before .before .next-name .ensures) (c .before .before .before .before .before .before .before .name .given .1)))
+loop-less c =
+    let first = c .before .before .before .before .before .before .before .before .before .before .before .before .stretch .ensures in
+    omega (arith, c .if3 .left, first .onwards, meets-within _ _ _ _ _ (first .reached) (met _ _ _ _ _ _ (c .before .before .before .before .before .before .before .before .before .before .before .next-name .ensures) (c .before .before .before .before .before .before .before .before .before .name .given .1)))
 
 loop-again : tie.Need-loop-again Inv-loop μ-loop
-loop-again c = framing-frame _ _ _ _ _ _ (framing-block _ _ _ _ _ (c .before .before .before .before .before .before .before .before .before .before .before .loop .inv) (c .before .before .before .before .before .before .before .before .before .before .stretch .ensures)) (c .before .before .before .before .before .if1 .left) (c .before .before .before .frame .ensures)
+loop-again c = framing-frame _ _ _ _ _ _ _ _ (framing-block _ _ _ _ _ _ _ (c .before .before .before .before .before .before .before .before .before .before .before .before .before .loop .inv) (c .before .before .before .before .before .before .before .before .before .before .before .before .stretch .ensures)) (c .before .before .before .before .before .if2 .left) (c .before .before .before .frame .ensures)
 
 pub frames-spec : {M : Type 1} → statement M
 frames-spec =
@@ -57,7 +59,6 @@ frames-spec =
     (tie.spec
     Inv-loop
     μ-loop
-    start-requires
     loop-holds
     stretch-requires
     next-name-requires
@@ -65,7 +66,8 @@ frames-spec =
     enum-told
     returns
     returns-2
-    frame-requires
     returns-3
+    frame-requires
+    returns-4
     loop-less
     loop-again)

@@ -16,10 +16,10 @@ use Rattle.steps.proofs.next_name.Tie as tie
 
 -- and there are no more names than records, and no more records than bytes
 abbrev Inv-loop : tie.InvT-loop
-Inv-loop store area spot at₀ number₀ scope₀ at number scope = (spot .count ≤ number) × (number ≤ at) × (namesAt store area spot ≡ namesOn store area at number scope)
+Inv-loop store area spot at₀ number₀ block₀ scope₀ at number block scope = (spot .count ≤ number) × (number ≤ at) × (namesAt store area spot ≡ namesOn store area at number block scope)
 
 abbrev μ-loop : tie.MeasureT-loop
-μ-loop store area spot at₀ number₀ scope₀ at number scope = length store - at
+μ-loop store area spot at₀ number₀ block₀ scope₀ at number block scope = length store - at
 
 loop-holds : tie.Need-loop-holds Inv-loop μ-loop
 unfolding Counted
@@ -37,7 +37,7 @@ enum-told c = c .match .keys2
 returns : tie.Need-returns Inv-loop μ-loop
 returns c =
     let here = c .before .before .before .before .loop in
-    ahead-end _ _ _ (here .inv .2 ∙ names-none _ _ (here .at) _ _ (c .before .before .before .loop-test .taken) (sym (c .before .before .read-record .ensures) ∙ c .enum-told .given .1))
+    ahead-end _ _ _ (here .inv .2 ∙ names-none _ _ (here .at) _ _ _ (c .before .before .before .loop-test .taken) (sym (c .before .before .read-record .ensures) ∙ c .enum-told .given .1))
 
 number-requires : tie.Need-number-requires Inv-loop μ-loop
 number-requires c κs = search needs
@@ -48,13 +48,13 @@ is-name-requires c κs = search needs
 name-of-requires : tie.Need-name-of-requires Inv-loop μ-loop
 name-of-requires c κs = search needs
 
-add-t16 : tie.Need-add-t16 Inv-loop μ-loop
-add-t16 c =
+add-t17 : tie.Need-add-t17 Inv-loop μ-loop
+add-t17 c =
     let here = c .before .before .before .before .before .before .before .before .before .loop in
     omega (arith, here .inv .1)
 
-add-t17 : tie.Need-add-t17 Inv-loop μ-loop
-add-t17 c = omega arith
+add-t18 : tie.Need-add-t18 Inv-loop μ-loop
+add-t18 c = omega arith
 
 returns-2 : tie.Need-returns-2 Inv-loop μ-loop
 returns-2 c =
@@ -63,34 +63,37 @@ returns-2 c =
     let got = c .before .before .before .before .before .before .kind .given in
     let e : entryAt (start .args .store .now) (here .at) ≡ Record (got .0 .0) (got .0 .1 .0) (got .0 .1 .1 .0) = sym (c .before .before .before .before .before .before .before .before .read-record .ensures) ∙ got .1 in
     let q : isNameKind (numberOf (got .0 .0)) ≡ true = rw (← c .before .before .before .before .number .ensures) (sym (c .before .before .before .is-name .ensures) ∙ c .before .before .if1 .taken) in
-    ahead-name _ _ (here .at) (here .number) (here .scope) _ _ _ (c .before .before .before .before .before .before .before .before .before .loop-test .taken) e (start .args .spot) _ (here .inv .0) (here .inv .1) (here .inv .2) q (c .before .name-of .ensures)
+    ahead-name _ _ (here .at) (here .number) (here .block) (here .scope) _ _ _ (c .before .before .before .before .before .before .before .before .before .loop-test .taken) e (start .args .spot) _ (here .inv .0) (here .inv .1) (here .inv .2) q (c .before .name-of .ensures)
 
 scope-after-requires : tie.Need-scope-after-requires Inv-loop μ-loop
 scope-after-requires c κs = search needs
+
+block-after-requires : tie.Need-block-after-requires Inv-loop μ-loop
+block-after-requires c κs = search needs
 
 add-number : tie.Need-add-number Inv-loop μ-loop
 add-number c = omega arith
 
 loop-less : tie.Need-loop-less Inv-loop μ-loop
 loop-less c =
-    let here = c .before .before .before .before .before .before .before .before .before .loop in
-    let start = c .before .before .before .before .before .before .before .before .before .before .before .before in
-    let got = c .before .before .before .before .before .kind .given in
-    let e : entryAt (start .args .store .now) (here .at) ≡ Record (got .0 .0) (got .0 .1 .0) (got .0 .1 .1 .0) = sym (c .before .before .before .before .before .before .before .read-record .ensures) ∙ got .1 in
-    omega (arith, names-onwards _ (start .args .area .now) (here .at) (here .number) (here .scope) _ _ _ (c .before .before .before .before .before .before .before .before .loop-test .taken) e)
+    let here = c .before .before .before .before .before .before .before .before .before .before .loop in
+    let start = c .before .before .before .before .before .before .before .before .before .before .before .before .before in
+    let got = c .before .before .before .before .before .before .kind .given in
+    let e : entryAt (start .args .store .now) (here .at) ≡ Record (got .0 .0) (got .0 .1 .0) (got .0 .1 .1 .0) = sym (c .before .before .before .before .before .before .before .before .read-record .ensures) ∙ got .1 in
+    omega (arith, names-onwards _ (start .args .area .now) (here .at) (here .number) (here .block) (here .scope) _ _ _ (c .before .before .before .before .before .before .before .before .before .loop-test .taken) e)
 
 loop-again : tie.Need-loop-again Inv-loop μ-loop
 loop-again c =
-    let here = c .before .before .before .before .before .before .before .before .before .loop in
-    let start = c .before .before .before .before .before .before .before .before .before .before .before .before in
-    let got = c .before .before .before .before .before .kind .given in
-    let e : entryAt (start .args .store .now) (here .at) ≡ Record (got .0 .0) (got .0 .1 .0) (got .0 .1 .1 .0) = sym (c .before .before .before .before .before .before .before .read-record .ensures) ∙ got .1 in
-    let q : isNameKind (numberOf (got .0 .0)) ≡ false = rw (← c .before .before .before .number .ensures) (sym (c .before .before .is-name .ensures) ∙ c .before .if1 .left) in
-    let on = names-onwards _ (start .args .area .now) (here .at) (here .number) (here .scope) _ _ _ (c .before .before .before .before .before .before .before .before .loop-test .taken) e in
-    (omega (arith, here .inv .0), omega (arith, here .inv .1, on), here .inv .2 ∙ names-other _ _ (here .at) (here .number) (here .scope) _ _ _ (c .before .before .before .before .before .before .before .before .loop-test .taken) e q ∙ rw (c .scope-after .ensures, c .before .before .before .number .ensures))
+    let here = c .before .before .before .before .before .before .before .before .before .before .loop in
+    let start = c .before .before .before .before .before .before .before .before .before .before .before .before .before in
+    let got = c .before .before .before .before .before .before .kind .given in
+    let e : entryAt (start .args .store .now) (here .at) ≡ Record (got .0 .0) (got .0 .1 .0) (got .0 .1 .1 .0) = sym (c .before .before .before .before .before .before .before .before .read-record .ensures) ∙ got .1 in
+    let q : isNameKind (numberOf (got .0 .0)) ≡ false = rw (← c .before .before .before .before .number .ensures) (sym (c .before .before .before .is-name .ensures) ∙ c .before .before .if1 .left) in
+    let on = names-onwards _ (start .args .area .now) (here .at) (here .number) (here .block) (here .scope) _ _ _ (c .before .before .before .before .before .before .before .before .before .loop-test .taken) e in
+    (omega (arith, here .inv .0), omega (arith, here .inv .1, on), here .inv .2 ∙ names-other _ _ (here .at) (here .number) (here .block) (here .scope) _ _ _ (c .before .before .before .before .before .before .before .before .before .loop-test .taken) e q ∙ rw (c .block-after .ensures, c .before .scope-after .ensures, c .before .before .before .before .number .ensures))
 
 returns-3 : tie.Need-returns-3 Inv-loop μ-loop
-returns-3 c = ahead-end _ _ _ (c .before .loop .inv .2 ∙ names-over _ _ _ _ _ (c .loop-test .left))
+returns-3 c = ahead-end _ _ _ (c .before .loop .inv .2 ∙ names-over _ _ _ _ _ _ (c .loop-test .left))
 
 pub next-name-spec : {M : Type 1} → statement M
 next-name-spec =
@@ -106,10 +109,11 @@ next-name-spec =
     number-requires
     is-name-requires
     name-of-requires
-    add-t16
     add-t17
+    add-t18
     returns-2
     scope-after-requires
+    block-after-requires
     add-number
     loop-less
     loop-again
