@@ -114,7 +114,8 @@ fn replay(s: &[u8]) {
     say_counts(&counts);
 }
 
-// Room for a list. It stands in a function of its own since its caller's proof then knows its length, and need not count it.
+// Room for a list. It stands in a function of its own, since its caller's proof then knows its length and need not
+// count it.
 fn room() -> [u8; LONGEST] {
     [0u8; LONGEST]
 }
