@@ -1,4 +1,4 @@
-//! The answers to one text: in full, as document 01 fixes them, and as far as the source tells them.
+//! The answers to one text: in full, as the documents fix them, and as far as the source tells them.
 
 /// A place of 01: offset, line and column.
 #[derive(Debug, Clone, Copy, PartialEq, Eq)]
@@ -17,7 +17,7 @@ impl Place {
     };
 }
 
-/// A refusal of 01: number, place and detail.
+/// A refusal: number, place and detail.
 #[derive(Debug, Clone, Copy, PartialEq, Eq)]
 pub struct Refusal {
     pub number: u8,
@@ -56,7 +56,7 @@ pub enum Body {
     Number(Decimal),
 }
 
-/// One record of 01. A loop's end has no place of its own and keeps zeros.
+/// One record. A loop's end has no place of its own and keeps zeros.
 #[derive(Debug, Clone, PartialEq, Eq)]
 pub struct Record {
     pub kind: u8,
@@ -79,13 +79,13 @@ impl Record {
 pub fn mark_bytes(kind: u8) -> usize {
     match kind {
         1 | 2 => 5,
-        4 | 6 => 1,
+        4 | 6 | 21 => 1,
         11..=13 => 2,
         _ => 0,
     }
 }
 
-/// The answer to a text by 01's rules.
+/// The answer to a text by the rules of a reading.
 pub type Answer = Result<Vec<Record>, Refusal>;
 
 /// One read thing, as both sides can tell it. The kind is the record's, but 10 for every text.

@@ -3,6 +3,8 @@
 //! What the header asks of a caller holds for every slice: its pointer is never null, has its length
 //! of bytes behind it and lives through the call, and what is written overlaps nothing else.
 
+use crate::reading::Reading;
+
 /// The header's `chuntarek_answer`.
 #[repr(C)]
 #[derive(Debug, Clone, Copy, Default, PartialEq, Eq)]
@@ -73,9 +75,11 @@ pub fn outline(text: &[u8], store: &mut [u8]) -> Called {
     unsafe { chuntarek_outline(text.as_ptr(), text.len(), store.as_mut_ptr(), store.len()) }
 }
 
-/// A store and its area, as the services after reading take them.
+/// A store and its area, as the services after reading take them, and the reading they belong to. So
+/// far no function takes a reading: all know the first alone.
 #[derive(Clone, Copy)]
 pub struct Kept<'a> {
+    pub reading: Reading,
     pub store: &'a [u8],
     pub area: &'a [u8],
 }

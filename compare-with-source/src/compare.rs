@@ -7,7 +7,7 @@ use crate::{source, tokens};
 /// What comes of comparing one text.
 #[derive(Debug, Clone, PartialEq, Eq)]
 pub enum Verdict {
-    /// Both give the same answer: 0 for read, else the refusal's number.
+    /// Both give the same answer, or it keeps every law: 0 for read, else the refusal's number.
     Same(u8),
     /// The two cannot be held together here, for the reason named.
     SetApart(&'static str),
@@ -236,9 +236,13 @@ fn other_line(text: &str, ours: &Refusal, their_line: usize) -> Verdict {
 mod tests {
     use super::*;
     use crate::model;
+    use crate::reading::Reading;
 
     fn verdict(text: &str) -> Verdict {
-        compare(text.as_bytes(), &model::read(text.as_bytes()))
+        compare(
+            text.as_bytes(),
+            &model::read(Reading::First, text.as_bytes()),
+        )
     }
 
     #[test]
@@ -279,7 +283,7 @@ mod tests {
             assert_eq!(verdict(text), Verdict::SetApart(reason), "{text}");
         }
         let text = [200];
-        let answer = model::read(&text);
+        let answer = model::read(Reading::First, &text);
         assert_eq!(compare(&text, &answer), Verdict::SetApart(NOT_UTF8));
     }
 
@@ -288,14 +292,15 @@ mod tests {
     #[test]
     fn only_the_detail_of_a_5_is_held_to_the_source() {
         for (text, number) in [("data_x _a 'b", 6), ("data_x loop_ _a 'b", 7)] {
-            let refusal = model::read(text.as_bytes()).expect_err("no value stands there");
+            let refusal =
+                model::read(Reading::First, text.as_bytes()).expect_err("no value stands there");
             for detail in 0..=5 {
                 let ours = Err(Refusal { detail, ..refusal });
                 assert_eq!(compare(text.as_bytes(), &ours), Verdict::Same(number));
             }
         }
         let text = b"data_x loop_ _a _b _c 1 2 3 4";
-        let refusal = model::read(text).expect_err("a value is left over");
+        let refusal = model::read(Reading::First, text).expect_err("a value is left over");
         let ours = Err(Refusal {
             detail: refusal.detail + 1,
             ..refusal
@@ -307,11 +312,12 @@ mod tests {
     #[test]
     fn a_wrong_answer_is_seen() {
         let text = b"data_x _a 1 _b 'c'";
-        let records = model::read(text).expect("the text is read");
+        let records = model::read(Reading::First, text).expect("the text is read");
         let mut shorter = records.clone();
         shorter.pop();
         assert!(matches!(compare(text, &Ok(shorter)), Verdict::Different(_)));
-        let refusal = model::read(b"data_x _a 1 _b '").expect_err("the quote is open");
+        let refusal =
+            model::read(Reading::First, b"data_x _a 1 _b '").expect_err("the quote is open");
         assert_eq!(
             compare(text, &Err(refusal)),
             different("6 here, read in the source")
@@ -321,7 +327,7 @@ mod tests {
             assert!(matches!(compare(text, &wrong), Verdict::Different(_)));
             assert!(matches!(compare(&[200], &wrong), Verdict::Different(_)));
         }
-        let other = model::read(b"data_x _a 1 _b 'd'").expect("the text is read");
+        let other = model::read(Reading::First, b"data_x _a 1 _b 'd'").expect("the text is read");
         assert_eq!(
             compare(text, &Ok(other.clone())),
             different("token of kind 11")

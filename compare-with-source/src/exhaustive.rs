@@ -1,7 +1,16 @@
 //! Every short text over telling pieces: fragments of a file, letters of a number, pairs of bytes.
 
-/// Pieces of a text that the rules tell apart.
-pub const FRAGMENTS: [&str; 25] = [
+use crate::reading::Reading;
+
+/// Pieces of a text that the rules of a reading tell apart.
+pub fn fragments(mix: Reading) -> &'static [&'static str] {
+    match mix {
+        Reading::First => &FRAGMENTS,
+        Reading::Strict => &STRICT_FRAGMENTS,
+    }
+}
+
+const FRAGMENTS: [&str; 25] = [
     "data_x",
     " ",
     "\n",
@@ -29,8 +38,39 @@ pub const FRAGMENTS: [&str; 25] = [
     "12345678901x",
 ];
 
+const STRICT_FRAGMENTS: [&str; 26] = [
+    "data_x",
+    "data_",
+    " ",
+    "\n",
+    "\r",
+    "loop_",
+    "loop_x",
+    "_a",
+    "_",
+    "save_",
+    "save_f",
+    "stop_",
+    "1",
+    "1e+",
+    "1234567890",
+    ".x",
+    "?",
+    ".",
+    "'",
+    "\"",
+    ";",
+    "\n;",
+    "#",
+    "b",
+    "[",
+    "\t",
+];
+
 /// What stands before and behind the pieces.
-const AROUND_FRAGMENTS: [(&str, &str); 5] = [
+type Around = (&'static str, &'static str);
+
+const AROUND_FRAGMENTS: [Around; 5] = [
     ("", ""),
     ("data_x ", ""),
     ("data_x loop_ _a ", ""),
@@ -38,19 +78,41 @@ const AROUND_FRAGMENTS: [(&str, &str); 5] = [
     ("data_x save_f ", " save_"),
 ];
 
+const STRICT_AROUND_FRAGMENTS: [Around; 8] = [
+    ("", ""),
+    ("data_x ", ""),
+    ("data_x _a ", ""),
+    ("data_x loop_ _a ", ""),
+    ("data_x loop_ _a 1", ""),
+    ("data_x loop_ _a _b\n;c\n;", ""),
+    ("data_x save_f ", ""),
+    ("data_x save_f ", " save_"),
+];
+
 /// Letters of which words are made that are numbers or nearly so.
 const LETTERS: [&str; 10] = ["+", "-", "0", "7", ".", "e", "E", "(", ")", "x"];
 
-const AROUND_WORDS: [(&str, &str); 1] = [("data_x _a ", "")];
+const AROUND_WORDS: [Around; 1] = [("data_x _a ", "")];
 
 /// Places at which any two bytes may stand.
-const AROUND_BYTES: [(&str, &str); 6] = [
+const AROUND_BYTES: [Around; 6] = [
     ("", "data_x"),
     ("data_", ""),
     ("data_x ", " 1"),
     ("data_x _a ", ""),
     ("data_x _a '", "' _b 1"),
     ("data_x _a ;", "\n; _b 1"),
+];
+
+const STRICT_AROUND_BYTES: [Around; 8] = [
+    ("", "data_x"),
+    ("data_", ""),
+    ("data_x ", " 1"),
+    ("data_x _a ", ""),
+    ("data_x _a '", "' _b 1"),
+    ("data_x _a ;", "\n; _b 1"),
+    ("data_x _a\n;", "\n; _b 1"),
+    ("data_x _a\n;b\n;", " _b 1"),
 ];
 
 /// How far the exhaustive texts go: pieces in a row, and letters of a word.
@@ -60,9 +122,13 @@ pub struct Depth {
 }
 
 impl Depth {
-    /// What suits a run of so many texts.
-    pub fn for_texts(texts: u64) -> Depth {
-        let (fragments, letters) = match texts {
+    /// What suits a run of so many texts, and leaves room for random ones.
+    pub fn for_texts(mix: Reading, texts: u64) -> Depth {
+        let share = match mix {
+            Reading::First => 1,
+            Reading::Strict => 4, // more surroundings, so fewer pieces
+        };
+        let (fragments, letters) = match texts / share {
             0..100_000 => (2, 3),
             100_000..2_000_000 => (3, 4),
             2_000_000..6_000_000 => (3, 6),
@@ -74,10 +140,14 @@ impl Depth {
 }
 
 /// Gives every exhaustive text to `use_text` until that answers false.
-pub fn each(depth: &Depth, use_text: &mut dyn FnMut(&[u8]) -> bool) -> bool {
-    sequences(&AROUND_FRAGMENTS, &FRAGMENTS, depth.fragments, use_text)
+pub fn each(mix: Reading, depth: &Depth, use_text: &mut dyn FnMut(&[u8]) -> bool) -> bool {
+    let (around_fragments, around_bytes): (&[Around], &[Around]) = match mix {
+        Reading::First => (&AROUND_FRAGMENTS, &AROUND_BYTES),
+        Reading::Strict => (&STRICT_AROUND_FRAGMENTS, &STRICT_AROUND_BYTES),
+    };
+    sequences(around_fragments, fragments(mix), depth.fragments, use_text)
         && sequences(&AROUND_WORDS, &LETTERS, depth.letters, use_text)
-        && byte_pairs(use_text)
+        && byte_pairs(around_bytes, use_text)
 }
 
 /// All rows of at most so many pieces, in each surrounding.
@@ -131,8 +201,8 @@ fn count_on(chosen: &mut [usize], choices: usize) -> bool {
 }
 
 /// Every pair of ASCII bytes in each surrounding.
-fn byte_pairs(use_text: &mut dyn FnMut(&[u8]) -> bool) -> bool {
-    for (before, behind) in AROUND_BYTES {
+fn byte_pairs(around: &[Around], use_text: &mut dyn FnMut(&[u8]) -> bool) -> bool {
+    for (before, behind) in around {
         for pair in 0..128 * 128 {
             let bytes = [(pair / 128) as u8, (pair % 128) as u8];
             let text = [before.as_bytes(), &bytes, behind.as_bytes()].concat();
@@ -161,8 +231,8 @@ mod tests {
     #[test]
     fn a_full_run_stops() {
         let mut left = 10;
-        let depth = Depth::for_texts(10);
-        let all = each(&depth, &mut |_| {
+        let depth = Depth::for_texts(Reading::First, 10);
+        let all = each(Reading::First, &depth, &mut |_| {
             left -= 1;
             left > 0
         });

@@ -1,26 +1,30 @@
-//! Random texts: files from a grammar, damaged copies of such files, and rows of fragments.
+//! Random texts: files from a grammar, damaged copies of such files, and rows of fragments. Each reading
+//! has its own mix of them; that of the first stays as it is, so that its seeds keep their texts.
 
-use crate::exhaustive::FRAGMENTS;
+mod strict;
+
+use crate::exhaustive::fragments;
 use crate::random::Random;
+use crate::reading::Reading;
 
-/// The random text of this seed and number.
-pub fn text(seed: u64, number: u64) -> Vec<u8> {
+/// The random text of this seed and number, out of the mix that is made for a reading.
+pub fn text(mix: Reading, seed: u64, number: u64) -> Vec<u8> {
     let mut random = Random::new(seed, number);
     match random.below(10) {
-        0..=3 => file(&mut random),
-        4..=6 => damaged(&mut random),
-        _ => soup(&mut random),
+        0..=3 => file(mix, &mut random),
+        4..=6 => damaged(mix, &mut random),
+        _ => soup(mix, &mut random),
     }
 }
 
 /// Fragments in a row, half of the time with a space between.
-fn soup(random: &mut Random) -> Vec<u8> {
+fn soup(mix: Reading, random: &mut Random) -> Vec<u8> {
     let mut text = Vec::new();
     if !random.once_in(8) {
         text.extend(b"data_x ");
     }
     for _ in 0..random.below(24) {
-        text.extend(random.pick(&FRAGMENTS).as_bytes());
+        text.extend(random.pick(fragments(mix)).as_bytes());
         if random.once_in(2) {
             text.push(b' ');
         }
@@ -29,12 +33,15 @@ fn soup(random: &mut Random) -> Vec<u8> {
 }
 
 /// A file that is well formed but for rare slips.
-pub fn file(random: &mut Random) -> Vec<u8> {
+fn file(mix: Reading, random: &mut Random) -> Vec<u8> {
     let mut file = File {
         text: Vec::new(),
         random,
     };
-    file.block();
+    match mix {
+        Reading::First => file.block(),
+        Reading::Strict => file.strict_blocks(),
+    }
     file.text
 }
 
@@ -303,16 +310,16 @@ impl File<'_> {
 }
 
 /// A file with one to four places damaged.
-fn damaged(random: &mut Random) -> Vec<u8> {
-    let mut text = file(random);
+fn damaged(mix: Reading, random: &mut Random) -> Vec<u8> {
+    let mut text = file(mix, random);
     for _ in 0..1 + random.below(4) {
-        damage(&mut text, random);
+        damage(mix, &mut text, random);
     }
     text
 }
 
 /// Changes one place of a text.
-pub fn damage(text: &mut Vec<u8>, random: &mut Random) {
+fn damage(mix: Reading, text: &mut Vec<u8>, random: &mut Random) {
     if text.is_empty() {
         text.push(telling_byte(random));
         return;
@@ -324,7 +331,7 @@ pub fn damage(text: &mut Vec<u8>, random: &mut Random) {
         1 => text[at] = telling_byte(random),
         2 => drop(text.drain(at..at + some)),
         3 => text.insert(at, telling_byte(random)),
-        4 => insert(text, at, random.pick(&FRAGMENTS).as_bytes()),
+        4 => insert(text, at, random.pick(fragments(mix)).as_bytes()),
         5 => {
             let copy = text[at..at + some].to_vec();
             insert(text, at, &copy);
@@ -351,21 +358,28 @@ fn telling_byte(random: &mut Random) -> u8 {
 #[cfg(test)]
 mod tests {
     use super::*;
+    use crate::model;
+
+    const MIXES: [Reading; 2] = [Reading::First, Reading::Strict];
 
     #[test]
-    fn a_text_depends_on_seed_and_number_only() {
-        assert_eq!(text(3, 99), text(3, 99));
-        assert!((0..20).any(|number| text(3, number) != text(4, number)));
+    fn a_text_depends_on_mix_seed_and_number_only() {
+        for mix in MIXES {
+            assert_eq!(text(mix, 3, 99), text(mix, 3, 99));
+            assert!((0..20).any(|number| text(mix, 3, number) != text(mix, 4, number)));
+        }
     }
 
     #[test]
     fn most_files_are_read() {
-        let read = (0..400)
-            .filter(|number| {
-                let file = file(&mut Random::new(5, *number));
-                crate::model::read(&file).is_ok()
-            })
-            .count();
-        assert!(read > 150, "only {read} of 400 files are read");
+        for mix in MIXES {
+            let read = (0..400)
+                .filter(|number| {
+                    let file = file(mix, &mut Random::new(5, *number));
+                    model::read(mix, &file).is_ok()
+                })
+                .count();
+            assert!(read > 150, "only {read} of 400 files are read: {mix:?}");
+        }
     }
 }

@@ -4,6 +4,7 @@
 
 use crate::answer::{Answer, Refusal};
 use crate::calls::{self, Called, Kept};
+use crate::reading::Reading;
 use crate::{model, over_stores, stores};
 
 /// Outline has no area; the one given is left alone.
@@ -11,11 +12,11 @@ fn outline(text: &[u8], store: &mut [u8], _area: &mut [u8]) -> Called {
     calls::outline(text, store)
 }
 
-/// The library's answer, or what is wrong with it whatever the source says.
-pub fn read(text: &[u8]) -> Result<Answer, String> {
+/// The library's answer in a reading, or what is wrong with it whatever the source says.
+pub fn read(reading: Reading, text: &[u8]) -> Result<Answer, String> {
     let service = |name, call| Service { name, call, text };
     let (read, outline) = (service("read", calls::read), service("outline", outline));
-    match model::read(text) {
+    match model::read(reading, text) {
         Err(refusal) => {
             outline.refuses(&refusal)?;
             read.refuses(&refusal)?;
@@ -25,7 +26,7 @@ pub fn read(text: &[u8]) -> Result<Answer, String> {
             outline.writes(&stores::encode_outline(&records), &[])?;
             let (store, area) = stores::encode(&records);
             let written = read.writes(&store, &area)?;
-            over_stores::hold(&records, written.kept())?;
+            over_stores::hold(&records, written.kept(reading))?;
             let decoded = stores::decode(written.store(), written.area());
             Ok(Ok(decoded.ok_or("library, read: no whole records")?))
         }
@@ -155,8 +156,9 @@ impl Lent {
     }
 
     /// Both, for the services after reading.
-    fn kept(&self) -> Kept<'_> {
+    fn kept(&self, reading: Reading) -> Kept<'_> {
         Kept {
+            reading,
             store: self.store(),
             area: self.area(),
         }
@@ -177,10 +179,16 @@ fn begins(buffer: &[u8], written: &[u8]) -> bool {
 mod tests {
     use super::*;
 
+    fn is_the_models(text: &str) {
+        let text = text.as_bytes();
+        let answer = model::read(Reading::First, text);
+        assert_eq!(read(Reading::First, text), Ok(answer));
+    }
+
     #[test]
     fn the_library_answers() {
-        assert_eq!(read(b"data_x _a 1"), Ok(model::read(b"data_x _a 1")));
-        assert_eq!(read(b""), Ok(model::read(b"")));
+        is_the_models("data_x _a 1");
+        is_the_models("");
     }
 
     #[test]
@@ -200,8 +208,7 @@ mod tests {
             "data_x loop_ _a 1 save_f save_ $",
             "data_x loop_ _a 1 _b 2 $",
         ] {
-            let text = text.as_bytes();
-            assert_eq!(read(text), Ok(model::read(text)));
+            is_the_models(text);
         }
     }
 }

@@ -8,6 +8,7 @@ use std::path::Path;
 use crate::answer::{as_told, Answer, Thing, Told};
 use crate::compare::{self, Verdict};
 use crate::generate;
+use crate::reading::Reading;
 use crate::source;
 
 /// The first bytes of a list.
@@ -76,7 +77,8 @@ fn choose(count: usize, seed: u64, judge: impl Fn(&[u8]) -> Verdict) -> Vec<Vec<
     let mut seen = HashSet::new();
     let mut texts = Vec::new();
     let first = FIRST.iter().map(|text| text.as_bytes().to_vec());
-    let random = (0..count as u64 * 1000).map(|number| generate::text(seed, number));
+    let random =
+        (0..count as u64 * 1000).map(|number| generate::text(Reading::First, seed, number));
     for text in first.chain(random) {
         if text.len() > LONGEST_TEXT || seen.contains(&text) {
             continue;
@@ -235,11 +237,11 @@ mod tests {
     use crate::model;
 
     fn answer(text: &[u8]) -> Result<Answer, String> {
-        Ok(model::read(text))
+        Ok(model::read(Reading::First, text))
     }
 
     fn judge(text: &[u8]) -> Verdict {
-        compare::compare(text, &model::read(text))
+        compare::compare(text, &model::read(Reading::First, text))
     }
 
     #[test]
@@ -267,7 +269,7 @@ mod tests {
     fn an_entry_has_the_bytes_described() {
         let mut out = Vec::new();
         let text = b"data_x _a 1(2)";
-        put_entry(&mut out, text, &as_told(&model::read(text)));
+        put_entry(&mut out, text, &as_told(&model::read(Reading::First, text)));
         let head = [14, 0, 0, 0, 0, 0, 0, 0, 0, 0, 3, 0, 2, 0, 1, 0];
         assert_eq!(out[..16], head);
         assert_eq!(out[30..45], [1, 1, 0, 0, 0, 4, 1, 0, 0, 0, 15, 2, 0, 0, 0]);

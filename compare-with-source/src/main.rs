@@ -1,8 +1,11 @@
-//! Feeds the source and the rules of document 01 the same texts and compares their answers.
+//! Feeds the source and the rules of document 01 the same texts and compares their answers; holds a
+//! model of document 02's strict reading, which the source doesn't know, to what is claimed of it.
 
 // Without the source, what takes its answers apart is idle.
 #![cfg_attr(not(has_source), allow(dead_code))]
 
+mod alike;
+mod alter;
 mod answer;
 #[cfg(feature = "library")]
 mod calls;
@@ -10,16 +13,18 @@ mod compare;
 mod exhaustive;
 mod files;
 mod generate;
+mod laws;
 #[cfg(feature = "library")]
 mod library;
 mod list;
 mod model;
-#[cfg(feature = "library")]
+mod model_sound;
 mod model_stores;
 mod options;
 #[cfg(feature = "library")]
 mod over_stores;
 mod random;
+mod reading;
 mod report;
 mod shrink;
 #[cfg(has_source)]
@@ -38,6 +43,7 @@ use std::process::ExitCode;
 use answer::Answer;
 use compare::Verdict;
 use options::{Backend, Options, Work};
+use reading::Reading;
 use report::Report;
 
 fn main() -> ExitCode {
@@ -48,45 +54,46 @@ fn main() -> ExitCode {
             return ExitCode::from(2);
         }
     };
-    let judge = |text: &[u8]| judge(options.backend, text);
+    let judge = |text: &[u8]| judge(&options, text);
     match &options.work {
         Work::Help => {
             println!("{}", options::USAGE);
             ExitCode::SUCCESS
         }
         Work::Compare => compare_all(&options, &judge),
-        Work::Show(file) => finish(with_source().and_then(|()| Ok(shown(&files::load(file)?)))),
+        Work::Show(file) => finish(files::load(file).and_then(|text| shown(&options, &text))),
         Work::WriteList(file) => finish(with_source().and_then(|()| {
             let (texts, bytes) = list::write(file, options.count, options.seed, judge)?;
             Ok(format!("{texts} texts in {bytes} bytes"))
         })),
         Work::CheckList(file) => {
-            let answer = |text: &[u8]| answer(options.backend, text);
+            let answer = |text: &[u8]| answer(&options, text);
             finish(list::check(file, answer).map(|texts| format!("{texts} texts of the list hold")))
         }
     }
 }
 
-/// This backend's answer to a text, or what is wrong with it.
-fn answer(backend: Backend, text: &[u8]) -> Result<Answer, String> {
-    match backend {
-        Backend::Model => model_answer(text),
+/// The backend's answer to a text, or what is wrong with it.
+fn answer(options: &Options, text: &[u8]) -> Result<Answer, String> {
+    match options.backend {
+        Backend::Model => model_answer(options.reading, text),
         #[cfg(feature = "library")]
-        Backend::Library => library::read(text),
+        Backend::Library => library::read(options.reading, text),
     }
 }
 
-/// What comes of one text with this backend.
-fn judge(backend: Backend, text: &[u8]) -> Verdict {
-    match answer(backend, text) {
-        Ok(answer) => compare::compare(text, &answer),
-        Err(fault) => Verdict::Different(fault),
+/// What comes of one text: the source knows the first reading, the laws are for the strict one.
+fn judge(options: &Options, text: &[u8]) -> Verdict {
+    match (answer(options, text), options.reading) {
+        (Ok(answer), Reading::First) => compare::compare(text, &answer),
+        (Ok(answer), Reading::Strict) => laws::judge(options.reading, text, &answer),
+        (Err(fault), _) => Verdict::Different(fault),
     }
 }
 
 /// The model's answer, its records taken from the store and the area as the library's are.
-fn model_answer(text: &[u8]) -> Result<Answer, String> {
-    match model::read(text) {
+fn model_answer(reading: Reading, text: &[u8]) -> Result<Answer, String> {
+    match model::read(reading, text) {
         Ok(records) => {
             let (store, area) = stores::encode(&records);
             let decoded = stores::decode(&store, &area);
@@ -97,7 +104,7 @@ fn model_answer(text: &[u8]) -> Result<Answer, String> {
 }
 
 fn compare_all(options: &Options, judge: &impl Fn(&[u8]) -> Verdict) -> ExitCode {
-    if !source::AT_HAND {
+    if options.reading == Reading::First && !source::AT_HAND {
         println!(
             "the source is not at hand: only the backend, the model and the texts are compared"
         );
@@ -108,7 +115,8 @@ fn compare_all(options: &Options, judge: &impl Fn(&[u8]) -> Verdict) -> ExitCode
         return ExitCode::from(2);
     }
     compare_generated(options, &mut report, judge);
-    print!("{}", report.lines());
+    let by_both = options.reading == Reading::First && source::AT_HAND;
+    print!("{}", report.lines(by_both));
     if report.is_clean() {
         ExitCode::SUCCESS
     } else {
@@ -145,14 +153,14 @@ fn compare_generated(options: &Options, report: &mut Report, judge: &impl Fn(&[u
         text.resize(length, b' ');
         report.add(&text, judge(&text), judge);
     }
-    let depth = exhaustive::Depth::for_texts(options.texts);
-    exhaustive::each(&depth, &mut |text| {
+    let depth = exhaustive::Depth::for_texts(options.mix(), options.texts);
+    exhaustive::each(options.mix(), &depth, &mut |text| {
         report.add(text, judge(text), judge);
         report.texts() < last
     });
     let mut number = 0;
     while report.texts() < last {
-        let text = generate::text(options.seed, number);
+        let text = generate::text(options.mix(), options.seed, number);
         report.add(&text, judge(&text), judge);
         number += 1;
     }
@@ -168,12 +176,21 @@ fn with_source() -> Result<(), String> {
     }
 }
 
-/// Both answers to one text, and what comes of comparing them.
-fn shown(text: &[u8]) -> String {
-    let answer = model::read(text);
-    let told = std::str::from_utf8(text).map(source::read);
-    let verdict = compare::compare(text, &answer);
-    format!("source: {told:#?}\nmodel: {answer:#?}\n{verdict:?}")
+/// The answers to one text, and what comes of comparing them or of holding one to the laws.
+fn shown(options: &Options, text: &[u8]) -> Result<String, String> {
+    let model = model::read(options.reading, text);
+    let source = match options.reading {
+        Reading::First => {
+            with_source()?;
+            format!(
+                "source: {:#?}\n",
+                std::str::from_utf8(text).map(source::read)
+            )
+        }
+        Reading::Strict => String::new(),
+    };
+    let verdict = judge(options, text);
+    Ok(format!("{source}model: {model:#?}\n{verdict:?}"))
 }
 
 fn finish(outcome: Result<String, String>) -> ExitCode {

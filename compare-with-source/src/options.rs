@@ -2,15 +2,20 @@
 
 use std::path::PathBuf;
 
+use crate::reading::Reading;
+
 pub const USAGE: &str = "\
 usage: compare-with-source [--texts N] [--seed S] [--backend model|library] [--files DIR]...
+                           [--reading first|strict] [--mix first|strict]
        compare-with-source --write-list FILE [--count N] [--seed S] [--backend model|library]
        compare-with-source --check-list FILE [--backend model|library]
-       compare-with-source --show FILE
+       compare-with-source --show FILE [--reading first|strict]
 
   --texts N        how many texts to make (default 300000; 0 for files only)
   --seed S         which random texts (default 1)
   --backend WHAT   who answers beside the source (default model)
+  --reading WHICH  first: compare with the source (default); strict: hold the model to its laws
+  --mix WHICH      the texts made for this reading (default: for the one that is chosen)
   --files DIR      compare also every .cif file below DIR
   --write-list F   write the fixed list
   --count N        about how many texts the list has (default 3000)
@@ -42,6 +47,8 @@ pub enum Work {
 pub struct Options {
     pub work: Work,
     pub backend: Backend,
+    pub reading: Reading,
+    mix: Option<Reading>,
     pub texts: u64,
     pub seed: u64,
     pub count: usize,
@@ -54,6 +61,8 @@ impl Options {
         let mut options = Options {
             work: Work::Compare,
             backend: Backend::Model,
+            reading: Reading::First,
+            mix: None,
             texts: 300_000,
             seed: 1,
             count: 3000,
@@ -68,7 +77,22 @@ impl Options {
             let value = words.next().ok_or(format!("{word} needs a value"))?;
             options.set(&word, &value)?;
         }
-        Ok(options)
+        options.checked()
+    }
+
+    /// Which reading the random texts are made for.
+    pub fn mix(&self) -> Reading {
+        self.mix.unwrap_or(self.reading)
+    }
+
+    /// The source, its list and so far the library know the first reading alone.
+    fn checked(self) -> Result<Options, String> {
+        let listed = matches!(self.work, Work::WriteList(_) | Work::CheckList(_));
+        let first_only = listed || self.backend != Backend::Model;
+        if self.reading == Reading::Strict && first_only {
+            return Err(String::from("only the model has the strict reading"));
+        }
+        Ok(self)
     }
 
     fn set(&mut self, word: &str, value: &str) -> Result<(), String> {
@@ -77,6 +101,8 @@ impl Options {
             "--seed" => self.seed = number(word, value)?,
             "--count" => self.count = number(word, value)? as usize,
             "--backend" => self.backend = backend(value)?,
+            "--reading" => self.reading = reading(value)?,
+            "--mix" => self.mix = Some(reading(value)?),
             "--files" => self.files.push(PathBuf::from(value)),
             "--write-list" => self.work = Work::WriteList(PathBuf::from(value)),
             "--check-list" => self.work = Work::CheckList(PathBuf::from(value)),
@@ -91,6 +117,10 @@ fn number(word: &str, value: &str) -> Result<u64, String> {
     value
         .parse()
         .map_err(|_| format!("{word} needs a number, not {value}"))
+}
+
+fn reading(value: &str) -> Result<Reading, String> {
+    Reading::named(value).ok_or(format!("{value} is no reading"))
 }
 
 fn backend(value: &str) -> Result<Backend, String> {
@@ -123,6 +153,23 @@ mod tests {
     }
 
     #[test]
+    fn the_mix_is_the_readings_own_if_none_is_named() {
+        for (line, reading, mix) in [
+            ("", Reading::First, Reading::First),
+            ("--mix strict", Reading::First, Reading::Strict),
+            ("--reading strict", Reading::Strict, Reading::Strict),
+            (
+                "--reading strict --mix first",
+                Reading::Strict,
+                Reading::First,
+            ),
+        ] {
+            let options = parsed(line).expect("these are known");
+            assert_eq!((options.reading, options.mix()), (reading, mix), "{line}");
+        }
+    }
+
+    #[test]
     fn bad_words_are_refused() {
         for line in [
             "--texts",
@@ -130,6 +177,8 @@ mod tests {
             "--texts -1",
             "more 1",
             "--backend c",
+            "--reading third",
+            "--reading strict --check-list f",
         ] {
             assert!(parsed(line).is_err(), "{line}");
         }

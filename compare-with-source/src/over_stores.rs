@@ -1,10 +1,12 @@
-//! The library's services over a store that it has written: Render, Name check, Content and the
-//! walk, held to the model.
+//! The library's services over a store that it has written, and over one near it: Render, Name check,
+//! Content and the walk, held to the model.
 
+use crate::alter;
 use crate::answer::{mark_bytes, Body, Decimal, Record};
 use crate::calls::{self, Called, Kept, Part, Walked};
 use crate::model::TEXT_LIMIT;
-use crate::{model_stores, stores};
+use crate::random::Random;
+use crate::{model_sound, model_stores, stores};
 
 /// Of a longer store not every content is asked for: each question walks all of it.
 const MOST_QUESTIONS: usize = 40;
@@ -14,7 +16,39 @@ pub fn hold(records: &[Record], kept: Kept) -> Result<(), String> {
     walk(records, kept)?;
     contents(records, kept)?;
     names(records, kept)?;
-    rendering(records, kept)
+    rendering(records, kept)?;
+    let seed = records.iter().map(|record| record.length as u64).sum();
+    let (store, area) = alter::near(records, &mut Random::new(kept.area.len() as u64, seed));
+    let kept = Kept {
+        store: &store,
+        area: &area,
+        ..kept
+    };
+    near(kept).map_err(|fault| format!("{fault}, in a store near one that was read"))
+}
+
+/// A store that no one wrote: every service refuses it by 12 exactly where the model finds it unsound.
+fn near(kept: Kept) -> Result<(), String> {
+    let sound = stores::decode(kept.store, kept.area).filter(|_| is_sound(kept));
+    if let Some(records) = sound {
+        names(&records, kept)?;
+        return rendering(&records, kept);
+    }
+    for answer in [kept.names(), kept.render(&mut [0; 64]), kept.content(0)] {
+        must(answer == refused(12), "not refused by 12")?;
+    }
+    let nothing = Part {
+        start: 0,
+        length: 0,
+    };
+    must(
+        kept.content_part(0) == nothing,
+        "content: a part of an unsound store",
+    )
+}
+
+fn is_sound(kept: Kept) -> bool {
+    model_sound::is_sound(kept.reading, kept.store, kept.area)
 }
 
 fn must(holds: bool, what: &str) -> Result<(), String> {
@@ -143,21 +177,26 @@ fn content_is(
 
 /// The name check, of the names as they are and of some spelt otherwise.
 fn names(records: &[Record], kept: Kept) -> Result<(), String> {
-    must(kept.names() == named(records), "names: the answer differs")?;
+    must(
+        kept.names() == named(records, kept),
+        "names: the answer differs",
+    )?;
     let records = respelt(records);
     let (store, area) = stores::encode(&records);
     let kept = Kept {
         store: &store,
         area: &area,
+        ..kept
     };
     must(
-        kept.names() == named(&records),
+        kept.names() == named(&records, kept),
         "names: the answer differs where some are spelt otherwise",
     )
 }
 
-fn named(records: &[Record]) -> Called {
+fn named(records: &[Record], kept: Kept) -> Called {
     match model_stores::repeated_name(records) {
+        _ if !is_sound(kept) => refused(12),
         None => refused(0),
         Some((first, second)) => Called {
             offset: first as u64,
@@ -182,7 +221,7 @@ fn respelt(records: &[Record]) -> Vec<Record> {
 
 /// The rendering is document 01's, in exact room and in no less, and reads as the same records.
 fn rendering(records: &[Record], kept: Kept) -> Result<(), String> {
-    let text = model_stores::rendering(records);
+    let text = model_stores::rendering(kept.reading, records);
     if text.len() > TEXT_LIMIT {
         return must(
             kept.render(&mut []) == refused(1),

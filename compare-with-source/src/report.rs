@@ -5,7 +5,6 @@ use std::fmt::Write;
 
 use crate::compare::Verdict;
 use crate::shrink::shrink;
-use crate::source;
 
 /// How often a kind was met, and its smallest input so far.
 struct Found {
@@ -49,11 +48,11 @@ impl Report {
         self.different.is_empty()
     }
 
-    /// The counts in lines, and the smallest inputs.
-    pub fn lines(&self) -> String {
+    /// The counts in lines, and the smallest inputs. `by_both` says that the source answered too.
+    pub fn lines(&self, by_both: bool) -> String {
         let mut out = String::new();
         put_count(&mut out, "texts", self.texts);
-        let both = if source::AT_HAND { " by both" } else { "" };
+        let both = if by_both { " by both" } else { "" };
         for (number, count) in &self.same {
             match number {
                 0 => put_count(&mut out, &format!("read{both}"), *count),
@@ -135,7 +134,7 @@ mod tests {
         }
         assert!(!report.is_clean());
         assert_eq!(report.texts(), 3);
-        let lines = report.lines();
+        let lines = report.lines(false);
         assert!(lines.contains("2  DIFFERENT: an x"), "{lines}");
         assert!(lines.contains("as `x`"), "{lines}");
     }

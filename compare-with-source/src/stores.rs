@@ -1,4 +1,4 @@
-//! Records as bytes: the store and the area of document 01, written and cut into records again.
+//! Records as bytes: the store and the area, written and cut into records again.
 
 use std::ops::Range;
 
@@ -23,7 +23,6 @@ pub fn encode(records: &[Record]) -> (Vec<u8>, Vec<u8>) {
 }
 
 /// The store that Outline writes for these records.
-#[cfg(any(test, feature = "library"))]
 pub fn encode_outline(records: &[Record]) -> Vec<u8> {
     let mut store = Vec::new();
     for record in records {
@@ -81,7 +80,7 @@ fn record(rest: &mut &[u8], area: &[u8]) -> Option<Record> {
         column: field(rest)?,
     };
     let body = match kind {
-        1 | 2 | 4 | 6 | 10..=13 => Body::Content(content(rest, area, kind, length)?),
+        1 | 2 | 4 | 6 | 10..=13 | 21 => Body::Content(content(rest, area, kind, length)?),
         3 | 8 | 9 => Body::Nothing,
         5 => Body::Tags(u32::from_le_bytes(bytes(rest)?)),
         14 | 15 => Body::Number(decimal(rest, kind)?),
@@ -131,11 +130,12 @@ fn bytes<const COUNT: usize>(rest: &mut &[u8]) -> Option<[u8; COUNT]> {
 mod tests {
     use super::*;
     use crate::model;
+    use crate::reading::Reading;
 
     #[test]
     fn a_store_is_cut_into_its_records() {
         let text = b"data_x save_f _a 'b' save_ loop_ _c -1.25e-3(4) ? .\n;x\n;";
-        let records = model::read(text).expect("the text is read");
+        let records = model::read(Reading::First, text).expect("the text is read");
         let (store, area) = encode(&records);
         assert_eq!(decode(&store, &area), Some(records));
         assert_eq!(decode(&store[..store.len() - 2], &area), None);

@@ -92,6 +92,7 @@ fn suits(record: &Record, token: &str) -> bool {
         (11, Body::Content(content)) => is_between(token, '\'', content),
         (12, Body::Content(content)) => is_between(token, '"', content),
         (13, Body::Content(content)) => is_between(token, ';', content),
+        (21, Body::Content(content)) => is_closed_by_its_first(token, content),
         (14 | 15, Body::Number(decimal)) => {
             let number = Parts::of(token).and_then(|parts| parts.decimal());
             number == Some(*decimal) && (record.kind == 15) == decimal.uncertainty.is_some()
@@ -111,6 +112,14 @@ fn is_between(token: &str, mark: char, content: &[u8]) -> bool {
         .strip_prefix(mark)
         .and_then(|rest| rest.strip_suffix(mark))
         .is_some_and(|inside| inside.as_bytes() == content)
+}
+
+/// Whether a token is this content, which begins with a quote mark, and the same mark once more.
+fn is_closed_by_its_first(token: &str, content: &[u8]) -> bool {
+    ['\'', '"'].into_iter().any(|mark| {
+        let opened = token.strip_suffix(mark);
+        opened.is_some_and(|opened| opened.starts_with(mark) && opened.as_bytes() == content)
+    })
 }
 
 /// Whether a word that is a number breaks a digit limit.
@@ -191,18 +200,19 @@ fn amount(digits: &str) -> Option<u64> {
 mod tests {
     use super::*;
     use crate::model;
+    use crate::reading::Reading;
 
     const TEXT: &str = "data_x\r\nsave_f _a 'b'\n\rSAVE_ loop_ _c -1.025e-3(4) ? .\n;x\n;\"\" z";
 
     #[test]
     fn good_records_have_no_fault() {
-        let records = model::read(TEXT.as_bytes()).expect("the text is read");
+        let records = model::read(Reading::First, TEXT.as_bytes()).expect("the text is read");
         assert_eq!(fault(TEXT, &records), None);
     }
 
     #[test]
     fn each_wrong_field_is_a_fault() {
-        let records = model::read(TEXT.as_bytes()).expect("the text is read");
+        let records = model::read(Reading::First, TEXT.as_bytes()).expect("the text is read");
         for number in (0..records.len()).filter(|number| records[*number].kind != 7) {
             let changes: [fn(&mut Record); 5] = [
                 |record| record.place.offset += 1,
@@ -217,6 +227,20 @@ mod tests {
                 assert!(fault(TEXT, &wrong).is_some(), "record {number}");
             }
         }
+    }
+
+    #[test]
+    fn a_strict_quote_is_its_content_and_one_mark_more() {
+        let text = "data_x _a 'b'c' _d \"\"";
+        let records = model::read(Reading::Strict, text.as_bytes()).expect("the text is read");
+        assert_eq!(fault(text, &records), None);
+        for content in ["b'c", "'b'", "'b'c'", "", "'"] {
+            let mut wrong = records.clone();
+            wrong[2].body = Body::Content(content.as_bytes().to_vec());
+            assert!(fault(text, &wrong).is_some(), "{content}");
+        }
+        assert!(!is_closed_by_its_first("abca", b"abc"));
+        assert!(!is_closed_by_its_first("'b\"", b"'b"));
     }
 
     #[test]
