@@ -6,7 +6,8 @@ pub fn bytes(s: &[u8]) {
     io::write_all(STDOUT_FILENO, s);
 }
 
-// One byte. A text of one byte is written by this rather than by `bytes`, since each literal is an array that is laid down and lent, and proved to be.
+// One byte. A text of one byte is written by this rather than by `bytes`: a literal is an array that is laid down and
+// lent, and each step of that is proved.
 pub fn byte(b: u8) {
     bytes(&[b]);
 }

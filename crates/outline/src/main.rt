@@ -97,7 +97,8 @@ fn say_outline(text: &[u8]) {
     say_written(&store, report.first);
 }
 
-// Room for a text and one byte more. It stands in a function of its own since its caller's proof then knows its length, and need not count it.
+// Room for a text and one byte more. It stands in a function of its own, since its caller's proof then knows its length
+// and need not count it.
 fn room() -> [u8; LIMIT + 1] {
     [0u8; LIMIT + 1]
 }

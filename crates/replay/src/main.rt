@@ -62,18 +62,22 @@ fn entry_end(s: &[u8], at: usize) -> usize
     at + size
 }
 
-fn say_read(count: u32) {
-    say::bytes(b"read: ");
+// How often an answer was passed, and the end of its line.
+fn say_count(count: u32) {
+    say::bytes(b": ");
     say::plain(count as u64);
-    say::bytes(b"\n");
+    say::byte(b'\n');
+}
+
+fn say_read(count: u32) {
+    say::bytes(b"read");
+    say_count(count);
 }
 
 fn say_refused(number: u64, count: u32) {
     say::bytes(b"refused by ");
     say::plain(number);
-    say::bytes(b": ");
-    say::plain(count as u64);
-    say::bytes(b"\n");
+    say_count(count);
 }
 
 fn say_end(passed: u32, failed: u32) {
@@ -110,7 +114,8 @@ fn replay(s: &[u8]) {
     say_counts(&counts);
 }
 
-// Room for a list. It stands in a function of its own since its caller's proof then knows its length, and need not count it.
+// Room for a list. It stands in a function of its own, since its caller's proof then knows its length and need not
+// count it.
 fn room() -> [u8; LONGEST] {
     [0u8; LONGEST]
 }
