@@ -6,7 +6,6 @@ use harness::lines;
 use harness::parts;
 use harness::say;
 use libc::STDIN_FILENO;
-use rules::Reading;
 
 fn leaves_of_text(leaf: u8, s: &[u8]) {
     match leaf {
@@ -22,23 +21,12 @@ fn leaves_of_text(leaf: u8, s: &[u8]) {
 fn leaves_of_words(leaf: u8, s: &[u8]) {
     match leaf {
         b'w' => say::size(words::parse_identifier(s, 0)),
-        b'r' => say::flag(keywords::is_reserved(Reading::First, s, 0)),
+        b'r' => say::flag(keywords::is_reserved(s, 0)),
         b'q' => leaves::closing(quotes::parse_enclosed(s, 1, b'\'')),
         b'd' => leaves::closing(quotes::parse_enclosed(s, 1, b'"')),
         b'f' => leaves::closing(quotes::parse_multiline_string(s, 1)),
-        b'n' => leaves::number(Reading::First, s),
-        b'v' => leaves::value(Reading::First, s, 0),
-        _ => (),
-    }
-}
-
-// The same in the strict reading; `W` looks for a value behind the text's first byte.
-fn strict_leaves(leaf: u8, s: &[u8]) {
-    match leaf {
-        b'R' => say::flag(keywords::is_reserved(Reading::Strict, s, 0)),
-        b'N' => leaves::number(Reading::Strict, s),
-        b'V' => leaves::value(Reading::Strict, s, 0),
-        b'W' => leaves::value(Reading::Strict, s, 1),
+        b'n' => leaves::number(s),
+        b'v' => leaves::value(s),
         _ => (),
     }
 }
@@ -60,7 +48,6 @@ fn answer(leaf: u8, s: &[u8]) {
     let text = parts::part(&buffer, 0, end);
     leaves_of_text(leaf, text);
     leaves_of_words(leaf, text);
-    strict_leaves(leaf, text);
     leaves_of_records(leaf, text);
 }
 

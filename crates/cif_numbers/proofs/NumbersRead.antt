@@ -10,7 +10,6 @@ use native.Mathlib.Omega.{arith}
 use borrow.Author.Tests.{eqb-true, leb-true, leb-false, le-leb, lt-leb}
 use lib.Dec.{eqb, leb}
 use lib.ListN.{length, take, drop, getD}
-use Rattle.rules.specs.declared.Reading.the-variants.{First}
 use Rattle.text.specs.Bytes.{is, isDigit}
 use Rattle.text.proofs.Bools.{and-l, and-r}
 use Rattle.words.specs.Words.{word, isOrdinary}
@@ -61,7 +60,7 @@ use Rattle.written.proofs.Refusals.{Done, read-done}
 Plain : List ℕ → Lexed → Type 0
 Plain s x = (k : ℕ) → x .class ≡ value k → k < 14 → isNumber (parts (take (x .size) s)) ≡ false
 
-word-plain : (s : List ℕ) (x : Lexed) → (isNumber (parts (take (word s) s)) ≡ false → Plain s x) → Plain s (wordOr First x s)
+word-plain : (s : List ℕ) (x : Lexed) → (isNumber (parts (take (word s) s)) ≡ false → Plain s x) → Plain s (wordOr x s)
 unfolding wordOr numberOr Plain lexed
 word-plain s x h = pick (Plain s) (isNumber (parts (take (word s) s))) _ x (λ e. by (within (parts (take (word s) s))) (parts (take (word s) s) .unc .here)) h
   where
@@ -78,7 +77,7 @@ unfolding closed Plain lexed
 closed-plain b t j why no e = λ k q l. never (cc)
 closed-plain b t j why (some n) e = λ k q l. first-plain b t n e
 
-value-plain : (b : ℕ) (t : List ℕ) → Plain (b ∷ t) (lexValue First 10 b t)
+value-plain : (b : ℕ) (t : List ℕ) → Plain (b ∷ t) (lexValue b t)
 unfolding lexValue Plain lexed is startsNumber isDigit
 value-plain b t =
     let P = Plain (b ∷ t) in
@@ -89,13 +88,13 @@ value-plain b t =
     (λ _. pick P (is 59 b) _ _ (λ e. rw (eqb-true b 59 e) (closed-plain 59 t 13 openField (field t) refl))
     (λ _. pick P (isOrdinary b) _ _ (λ e. word-plain (b ∷ t) (lexed (value 10) (word (b ∷ t))) (λ h k q l. h)) (λ _ k q l. never (cc)))))))
 
-alone-plain : (s : List ℕ) → Plain s (lexAsValue First 10 s)
+alone-plain : (s : List ℕ) → Plain s (lexAsValue s)
 unfolding lexAsValue Plain lexed
 alone-plain [] = λ k q l. never (cc)
-alone-plain (b ∷ t) = pick (Plain (b ∷ t)) (reserved First (b ∷ t)) _ _ (λ _ k q l. never (cc)) (λ _. value-plain b t)
+alone-plain (b ∷ t) = pick (Plain (b ∷ t)) (reserved (b ∷ t)) _ _ (λ _ k q l. never (cc)) (λ _. value-plain b t)
 
 -- so a value whose token is a number has a number's kind
-number-kind : (s : List ℕ) (k n : ℕ) → lexAsValue First 10 s ≡ lexed (value k) n → isNumber (parts (take n s)) ≡ true → 14 ≤ k
+number-kind : (s : List ℕ) (k n : ℕ) → lexAsValue s ≡ lexed (value k) n → isNumber (parts (take n s)) ≡ true → 14 ≤ k
 unfolding Plain lexed
 number-kind s k n e h = by (leb 14 k) refl
   where
@@ -153,7 +152,7 @@ token-same s a n r Count o l = refl
 token-same s a n r Parts o l = refl
 token-same s a n r PartsUncertain o l = refl
 
-source-reads : {s : List ℕ} {r : Rec} → Source s r → 8 ≤ r .kind → lexAsValue First 10 (drop (r .at) s) ≡ lexed (value (r .kind)) (r .size)
+source-reads : {s : List ℕ} {r : Rec} → Source s r → 8 ≤ r .kind → lexAsValue (drop (r .at) s) ≡ lexed (value (r .kind)) (r .size)
 source-reads (of-heading t) l = absurd (omega (arith, t .kind))
 source-reads (of-opening t) l = absurd (omega (arith, t .kind))
 source-reads (of-closing t) l = absurd (omega (arith, t .kind))
@@ -165,7 +164,7 @@ source-reads {r = r} (of-value f k t) l = value-reads f k t ∙ ap (λ (n : ℕ)
 
 record ValueAt (s : List ℕ) (f : Fields) (r : Rec) : Type 0 where
   token : tokenIn s f ≡ tokenText s r
-  reads : lexAsValue First 10 (drop (r .at) s) ≡ lexed (value (r .kind)) (r .size)
+  reads : lexAsValue (drop (r .at) s) ≡ lexed (value (r .kind)) (r .size)
 
 value-at : (s : List ℕ) (k : Kind) (f : Fields) (x : At s k f) → isValueKind (numberOf k) ≡ true → ValueAt s f (x .r)
 unfolding isValueKind tokenIn tokenText tokenOf
@@ -206,7 +205,7 @@ cif-at s fits k f x {sg} {i} {fr} {esg} {e} {u} {b} v c l =
     let w : CifNumeric sg i fr esg e u b (tokenText s r) = rw (y .token) at c in
     let number : 14 ≤ r .kind = number-kind (drop (r .at) s) (r .kind) (r .size) (y .reads) (cif-is-number w .number) in
     let n = facts (x .source) .number number in
-    let is : numberIn First (tokenText s r) ≡ Is d = rw (n .number, n .kept) in
+    let is : numberIn (tokenText s r) ≡ Is d = rw (n .number, n .kept) in
     let same : d ≡ cifMeaning sg i fr esg e u b = cc (is, cif-means w l) in
     let bracket : d .uncertain ≡ b = ap (λ (x : Decimal). x .uncertain) same in
     let kind : r .kind ≡ cond b 15 14 = n .kind ∙ ap (λ (t : Bool). cond t 15 14) bracket in

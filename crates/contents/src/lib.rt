@@ -13,7 +13,6 @@ use entries::Parts;
 use kinds::Kind;
 use kinds::Shape;
 use quotes::Closing;
-use rules::Reading;
 use values::Found;
 
 // One word, perhaps an empty one.
@@ -28,8 +27,7 @@ fn is_bare(content: &[u8]) -> bool
     requires { ⌜ length (now content) < 2 ^ 32 ⌝ }
     ensures { λ r. ⌜ r ≡ isAlone 10 (now (content .entry)) ⌝ }
 {
-    let Found::Value { kind, size } = Found::of(values::pack_value(Reading::First, content, 0))
-    else {
+    let Found::Value { kind, size } = Found::of(values::pack_value(content, 0)) else {
         return false;
     };
     if kind != Kind::BARE {

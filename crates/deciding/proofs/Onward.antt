@@ -6,8 +6,6 @@ use mathlib.Core.List.{List, [], _∷_, _++_, append-assoc}
 use mathlib.Core.Option.{Option, none, some}
 use native.Mathlib.Omega.{arith}
 use lib.ListN.{length, drop, length-drop, drop-of-length-le}
-use Rattle.columns.specs.Before.{byteBefore}
-use Rattle.rules.specs.declared.Reading.the-variants.{First}
 use Rattle.gaps.specs.Gaps.{gap, gapEnd}
 use Rattle.gaps.proofs.Gaps.{gap-from, gap-within, gap-none}
 use Rattle.words.specs.Words.{word, wordEnd}
@@ -34,7 +32,7 @@ use Rattle.items.specs.Answers.{itemAnswer, itemAt}
 use Rattle.deciding.specs.Frames.{inBlockOf, inFrameOf, frameEnd, modeOf, left, blockAt, Passed, Stepped, Framed}
 use Rattle.grammar.proofs.Descent.{isPlain, failedRun, behindItem, itemRun, item-in-frame, item-in-block, any-detail}
 use Rattle.grammar.proofs.Lexes.{lex-plain}
-use Rattle.grammar.proofs.Offsets.{tokens-gap, tokens-start, tokens-ends, Met, met-open, met-close, met-data, first, Spot, Both, both-last, both-save, both-more, both, both-spot}
+use Rattle.grammar.proofs.Offsets.{tokens-gap, tokens-ends, Met, met-open, met-close, met-data, first, Spot, Both, both-last, both-save, both-more, both, both-spot}
 use Rattle.items.proofs.Passes.{AlikeItem, alike-taken, alike-ragged, alike-alone, alike-absent, alike-unnamed, alike-over, item-alike}
 use Rattle.sizes.proofs.Room.{sizes-append, sizes-one, added-none, upto-none, upto-added, upto-joined, upto-more}
 
@@ -49,7 +47,7 @@ failed-closing x a out (t ∷ ts) = refl
 
 -- an item in the frame that opened at a
 pub record DroppedAt (s : List ℕ) (a o p : ℕ) : Type 0 where
-  pub reads : (c : ℕ) (out : List Rec) → left c (some a) s o out ≡ closing a out (tokensAt First inFrame s p)
+  pub reads : (c : ℕ) (out : List Rec) → left c (some a) s o out ≡ closing a out (tokensAt inFrame s p)
   pub onward : o ≤ p
   pub within : p ≤ length s
   pub bare : gap (drop p s) ≡ 0
@@ -60,17 +58,17 @@ PassedInside s a o (Dropped p) = DroppedAt s a o p
 PassedInside s a o (RefusedInside c e) = (out : List Rec) → told (RefusedText c e) ≡ tells (left 0 (some a) s o out)
 
 -- the machine at an item
-pub frame-item : (c : ℕ) (s : List ℕ) (a o : ℕ) (out : List Rec) → gap (drop o s) ≡ 0 → left c (some a) s o out ≡ itemRun c (some a) out (item (tokensAt First inFrame s o))
+pub frame-item : (c : ℕ) (s : List ℕ) (a o : ℕ) (out : List Rec) → gap (drop o s) ≡ 0 → left c (some a) s o out ≡ itemRun c (some a) out (item (tokensAt inFrame s o))
 unfolding left modeOf
 frame-item c s a o out g =
-    let f = first s o g First inFrame in
-    rw (f .1) (item-in-frame c (tok (lex First (byteBefore s o) inFrame (drop o s)) o) (f .0) a out (rw (f .1) at (tokens-ends First inFrame s o)))
+    let f = first s o g inFrame in
+    rw (f .1) (item-in-frame c (tok (lex inFrame (drop o s)) o) (f .0) a out (rw (f .1) at (tokens-ends inFrame s o)))
 
-pub block-item : (c : ℕ) (s : List ℕ) (o : ℕ) (out : List Rec) → gap (drop o s) ≡ 0 → isPlain (lexIn First (byteBefore s o) inBlock (drop o s) .class) ≡ true → left c none s o out ≡ itemRun c none out (item (tokensAt First inBlock s o))
+pub block-item : (c : ℕ) (s : List ℕ) (o : ℕ) (out : List Rec) → gap (drop o s) ≡ 0 → isPlain (lexIn inBlock (drop o s) .class) ≡ true → left c none s o out ≡ itemRun c none out (item (tokensAt inBlock s o))
 unfolding left modeOf lex tok
 block-item c s o out g e =
-    let f = first s o g First inBlock in
-    rw (f .1) (item-in-block c (tok (lexIn First (byteBefore s o) inBlock (drop o s)) o) (f .0) out (rw (f .1) at (tokens-ends First inBlock s o)) e)
+    let f = first s o g inBlock in
+    rw (f .1) (item-in-block c (tok (lexIn inBlock (drop o s)) o) (f .0) out (rw (f .1) at (tokens-ends inBlock s o)) e)
 
 -- an item that is read
 taken-passed : {ts us : List Tok} (s : List ℕ) (f : Option ℕ) (o to d : ℕ) (rs : List Rec) → Spot s to ts us → o < to → Upto (to - o) (sizesOf rs)
@@ -95,9 +93,9 @@ dropped-at s a o x p r =
       bare = p .bare;
     }
 
-pub left-from : (d : ℕ) (f : Option ℕ) (s : List ℕ) (p : ℕ) (us : List Tok) (out : List Rec) → us ≡ tokensAt First (modeOf f) s p → run First us (config (items d) f out []) ≡ left d f s p out
+pub left-from : (d : ℕ) (f : Option ℕ) (s : List ℕ) (p : ℕ) (us : List Tok) (out : List Rec) → us ≡ tokensAt (modeOf f) s p → run us (config (items d) f out []) ≡ left d f s p out
 unfolding left
-left-from d f s p us out e = ap (λ (x : List Tok). run First x (config (items d) f out [])) e
+left-from d f s p us out e = ap (λ (x : List Tok). run x (config (items d) f out [])) e
 
 -- an item in a frame
 inside : {s : List ℕ} {o : ℕ} {x y : Item} (a : ℕ) → AlikeItem s o x y → ((c : ℕ) (out : List Rec) → left c (some a) s o out ≡ itemRun c (some a) out y) → PassedInside s a o (inFrameOf (itemAnswer x))
@@ -136,14 +134,14 @@ stepped d (alike-absent b) r = λ out. rw (r d out, failed-stops b)
 stepped d alike-unnamed r = λ out. rw (r d out)
 stepped d alike-over r = λ out. rw (r d out)
 
-pub plain : (p : ℕ) (u : List ℕ) → 0 < length u → starts keySave u ≡ false → isPlain (lexIn First p inBlock u .class) ≡ true
-plain p [] h e = absurd (omega arith)
-plain p (b ∷ s) h e = lex-plain _ inBlock b s e
+pub plain : (u : List ℕ) → 0 < length u → starts keySave u ≡ false → isPlain (lexIn inBlock u .class) ≡ true
+plain [] h e = absurd (omega arith)
+plain (b ∷ s) h e = lex-plain inBlock b s e
 
 pub item-stepped : (d : ℕ) (s : List ℕ) (o : ℕ) → o < length s → gap (drop o s) ≡ 0 → startsAt keySave s o ≡ false → Stepped d s o (inBlockOf d (itemAt s o))
 unfolding itemAt
 item-stepped d s o h g e =
-    let p = plain (byteBefore s o) (drop o s) (omega (arith, length-drop o s)) (sym (starts-at keySave s o) ∙ e) in
+    let p = plain (drop o s) (omega (arith, length-drop o s)) (sym (starts-at keySave s o) ∙ e) in
     stepped d (item-alike (both s o (omega arith))) (λ c out. block-item c s o out g p)
 
 -- one part after another
@@ -160,18 +158,18 @@ passed-then s f g h o p q z y d e a b =
     }
 
 -- a frame opens
-pub open-reads : (c : ℕ) (s : List ℕ) (o w : ℕ) (out : List Rec) → Met First inBlock s o (lexed save w) → left c none s o out ≡ left 0 (some o) s (o + w) (out ++ (rec 2 (tok (lexed save w) o) ∷ []))
+pub open-reads : (c : ℕ) (s : List ℕ) (o w : ℕ) (out : List Rec) → Met inBlock s o (lexed save w) → left c none s o out ≡ left 0 (some o) s (o + w) (out ++ (rec 2 (tok (lexed save w) o) ∷ []))
 unfolding left modeOf run move config atItem follow lexed tok after
 open-reads c s o w out m = rw (m .next)
 
 pub left-gap : (d : ℕ) (f : Option ℕ) (s : List ℕ) (o : ℕ) (out : List Rec) → left d f s (gapEnd s o) out ≡ left d f s o out
 unfolding left
-left-gap d f s o out = rw (tokens-gap First (modeOf f) s o)
+left-gap d f s o out = rw (tokens-gap (modeOf f) s o)
 
 -- what is read does not depend on the detail
 pub left-read : (c d : ℕ) (f : Option ℕ) (s : List ℕ) (o : ℕ) (out rs : List Rec) → left c f s o out ≡ done rs → left d f s o out ≡ done rs
 unfolding left
-left-read c d f s o out rs e = any-detail c d f (tokensAt First (modeOf f) s o) out rs e
+left-read c d f s o out rs e = any-detail c d f (tokensAt (modeOf f) s o) out rs e
 
 one-fits : (k w n : ℕ) → 0 < w → w ≤ n → Upto n (added noSizes k w)
 one-fits k w n z h = upto-added 0 k w n noSizes (upto-none 0) (omega arith) (omega arith)
@@ -225,18 +223,18 @@ plain-save (value k) e = refl
 plain-save overLimit e = refl
 plain-save (nothing w) e = refl
 
-no-save : (p : ℕ) (u : List ℕ) → starts keySave u ≡ false → isSave (lexIn First p inFrame u .class) ≡ false
-no-save p [] e = unfold lexIn lexed isSave in refl
-no-save p (b ∷ s) e = plain-save (lexIn First p inFrame (b ∷ s) .class) (lex-plain _ inFrame b s e)
+no-save : (u : List ℕ) → starts keySave u ≡ false → isSave (lexIn inFrame u .class) ≡ false
+no-save [] e = unfold lexIn lexed isSave in refl
+no-save (b ∷ s) e = plain-save (lexIn inFrame (b ∷ s) .class) (lex-plain inFrame b s e)
 
-pub open-answer : (s : List ℕ) (a p : ℕ) (out : List Rec) → gap (drop p s) ≡ 0 → startsAt keySave s p ≡ false → closing a out (tokensAt First inFrame s p) ≡ refused 4 a 0
+pub open-answer : (s : List ℕ) (a p : ℕ) (out : List Rec) → gap (drop p s) ≡ 0 → startsAt keySave s p ≡ false → closing a out (tokensAt inFrame s p) ≡ refused 4 a 0
 unfolding closing failedRun fails follow tok lex
 open-answer s a p out g e =
-    let x = lexIn First (byteBefore s p) inFrame (drop p s) in
-    let f = first s p g First inFrame in
-    rw (f .1, no-close (x .class) a out (tok x p) (no-save (byteBefore s p) (drop p s) (sym (starts-at keySave s p) ∙ e)))
+    let x = lexIn inFrame (drop p s) in
+    let f = first s p g inFrame in
+    rw (f .1, no-close (x .class) a out (tok x p) (no-save (drop p s) (sym (starts-at keySave s p) ∙ e)))
 
-pub close-answer : (s : List ℕ) (a p : ℕ) (out : List Rec) → Met First inFrame s p (lexed save 5) → closing a out (tokensAt First inFrame s p) ≡ left 0 none s (p + 5) (out ++ (rec 3 (tok (lexed save 5) p) ∷ []))
+pub close-answer : (s : List ℕ) (a p : ℕ) (out : List Rec) → Met inFrame s p (lexed save 5) → closing a out (tokensAt inFrame s p) ≡ left 0 none s (p + 5) (out ++ (rec 3 (tok (lexed save 5) p) ∷ []))
 unfolding closing failedRun fails closes follow left modeOf lexed tok after
 close-answer s a p out m = rw (m .next)
 
@@ -292,7 +290,7 @@ pub record Begun (s : List ℕ) (o p : ℕ) (z : Sizes) (d : ℕ) : Type 0 where
   pub bare : gap (drop p s) ≡ 0
   pub fits : Upto p z
 
-pub begin-reads : (s : List ℕ) (o w : ℕ) → Met First before s o (lexed block w) → blockAt s o ≡ left 0 none s (o + w) (rec 1 (tok (lexed block w) o) ∷ [])
+pub begin-reads : (s : List ℕ) (o w : ℕ) → Met before s o (lexed block w) → blockAt s o ≡ left 0 none s (o + w) (rec 1 (tok (lexed block w) o) ∷ [])
 unfolding blockAt left modeOf run move config atStart follow lexed tok after
 begin-reads s o w m = rw (m .next)
 
@@ -341,14 +339,14 @@ block-refused s o p z d c e b r = rw (b .reads) (r (b .kept))
 pub no-data : (s : List ℕ) (o : ℕ) → gap (drop o s) ≡ 0 → startsAt keyData s o ≡ false → told (RefusedText NoData o) ≡ tells (blockAt s o)
 unfolding blockAt run move config atStart follow told tells lex lexed tok
 no-data s o g e =
-    let f = first s o g First before in
+    let f = first s o g before in
     let h : starts keyData (drop o s) ≡ false = sym (starts-at keyData s o) ∙ e in
     rw (f .1, h)
 
 -- the text is read from behind its leading space and comments on
-pub decided-from : (s : List ℕ) → decided First s ≡ blockAt s (gapEnd s 0)
-unfolding decided blockAt
-decided-from s = rw (tokens-gap First before s 0, tokens-start First s)
+pub decided-from : (s : List ℕ) → decided s ≡ blockAt s (gapEnd s 0)
+unfolding decided blockAt tokens
+decided-from s = rw (tokens-gap before s 0) (unfold tokensAt in refl)
 
 -- a heading's word lies in the text
 pub save-within : (s : List ℕ) (o : ℕ) → gap (drop o s) ≡ 0 → startsAt keySave s o ≡ true → (o < wordEnd s o) × (wordEnd s o ≤ length s)
@@ -395,8 +393,8 @@ module _ (s : List ℕ) (o : ℕ) (e : o ≡ gapEnd s 0) where
   pub start-bare : (o ≤ length s) × (gap (drop o s) ≡ 0)
   start-bare = rw e (gap-within s 0 (omega arith), gap-none s 0)
 
-  pub decided-at : decided First s ≡ blockAt s o
+  pub decided-at : decided s ≡ blockAt s o
   decided-at = decided-from s ∙ ap (blockAt s) (sym e)
 
-  pub decided-none : startsAt keyData s o ≡ false → told (RefusedText NoData o) ≡ tells (decided First s)
+  pub decided-none : startsAt keyData s o ≡ false → told (RefusedText NoData o) ≡ tells (decided s)
   decided-none f = rw decided-at (no-data s o (start-bare .1) f)

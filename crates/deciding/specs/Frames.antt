@@ -5,7 +5,6 @@ use mathlib.Core.Bool.{cond}
 use mathlib.Core.List.{List, [], _++_}
 use mathlib.Core.Option.{Option, none, some}
 use lib.ListN.{length, drop}
-use Rattle.rules.specs.declared.Reading.the-variants.{First}
 use Rattle.gaps.specs.Gaps.{gap, gapEnd}
 use Rattle.keywords.specs.Keywords.{startsAt, keySave}
 use Rattle.sizes.specs.declared.Sizes.{Sizes}
@@ -50,11 +49,11 @@ modeOf (some a) = inFrame
 
 -- what the machine answers of the text from offset o on, where an item is expected and `out` is kept; a 7 there has the detail d
 unfoldable pub left : ℕ → Option ℕ → List ℕ → ℕ → List Rec → Answer
-left d f s o out = run First (tokensAt First (modeOf f) s o) (config (items d) f out [])
+left d f s o out = run (tokensAt (modeOf f) s o) (config (items d) f out [])
 
 -- what it answers where `data_` is expected
 unfoldable pub blockAt : List ℕ → ℕ → Answer
-blockAt s o = run First (tokensAt First before s o) (config start none [] [])
+blockAt s o = run (tokensAt before s o) (config start none [] [])
 
 -- from o in f to p in g records of these sizes are kept, and nothing else is changed of what is still answered; a 7 at p has the
 -- detail d, whatever one at o had

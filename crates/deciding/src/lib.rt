@@ -3,7 +3,6 @@ ghost use mathlib.Core.Path.{_≡_};
 ghost use mathlib.Core.Bool.{true};
 ghost use Prim.Native.Nat.{_≤_, _<_};
 ghost use lib.ListN.{length};
-ghost use Rattle.rules.specs.declared.Reading.the-variants.{First};
 ghost use Rattle.keywords.specs.Keywords.{startsAt, keyData, keySave};
 ghost use Rattle.sizes.specs.Sizes.{Upto};
 ghost use Rattle.deciding.specs.Decisions.{told, tells};
@@ -166,7 +165,7 @@ fn parse_data_block(s: &[u8], start: usize) -> Decision
 // What a text of at most 16,777,216 bytes comes to.
 pub fn lex_cif(s: &[u8]) -> Decision
     requires { ⌜ length (now s) ≤ limit ⌝ }
-    ensures { λ r. ⌜ told r ≡ tells (decided First (now (s .entry))) ⌝ }
+    ensures { λ r. ⌜ told r ≡ tells (decided (now (s .entry))) ⌝ }
 {
     let at = gaps::gap_end(s, 0);
     if !keywords::at_data(s, at) {

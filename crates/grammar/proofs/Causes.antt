@@ -3,7 +3,7 @@ use mathlib.Core.Path.{_≡_, refl}
 use mathlib.Core.Bool.{false}
 use lib.Dec.{eqb}
 use Rattle.grammar.specs.declared.Cause.{Cause}
-use Rattle.grammar.specs.declared.Cause.the-variants.{NotAscii, NoData, OpenFrame, Ragged, NoValue, NoItem, NoNames, OverLimit, NotParted, LongLine, BadName, ControlByte}
+use Rattle.grammar.specs.declared.Cause.the-variants.{NotAscii, NoData, OpenFrame, Ragged, NoValue, NoItem, NoNames, OverLimit}
 use Rattle.grammar.specs.Causes.{causeNumber}
 
 pub cause-has-place : (c : Cause) → eqb (causeNumber c) 1 ≡ false
@@ -15,7 +15,3 @@ cause-has-place (NoValue d) = refl
 cause-has-place (NoItem d) = refl
 cause-has-place NoNames = refl
 cause-has-place OverLimit = refl
-cause-has-place NotParted = refl
-cause-has-place LongLine = refl
-cause-has-place BadName = refl
-cause-has-place ControlByte = refl

@@ -5,7 +5,6 @@ use mathlib.Core.Bool.{Bool, true, false, cond}
 use mathlib.Core.Path.{_≡_, refl, sym, ap, ap₂, _∙_}
 use mathlib.Core.List.{List, [], _∷_, _++_}
 use lib.ListN.{length}
-use Rattle.rules.specs.declared.Reading.the-variants.{First}
 use Rattle.places.specs.Places.{placeAt}
 use Rattle.kinds.specs.declared.Shape.{Shape}
 use Rattle.kinds.specs.declared.Shape.the-variants.{Empty, Place, Content, Count, Parts, PartsUncertain}
@@ -51,19 +50,19 @@ module _ (s t : List ℕ) (places : (n : ℕ) → placeAt s n ≡ placeAt t n) w
   store-by l (refused n o d) = refl
   store-by l (done rs) = rw (store-same 0 rs)
 
-  same-of : (l : List ℕ) → outline First s ≡ outline First t → Same s t l
+  same-of : (l : List ℕ) → outline s ≡ outline t → Same s t l
   unfolding outlineAnswer outlineStore
   same-of l e =
       record {
-        answers = answer-by (length l) (outline First s) ∙ ap (outlineBy t (length l)) e;
-        stores = store-by l (outline First s) ∙ ap (outlineStoreBy t l) e;
+        answers = answer-by (length l) (outline s) ∙ ap (outlineBy t (length l)) e;
+        stores = store-by l (outline s) ∙ ap (outlineStoreBy t l) e;
       }
 
 pub digits-unseen : (s t store : List ℕ) → DigitsDiffer s t → Same s t store
 unfolding DigitsDiffer
 digits-unseen s t store d = same-of s t (places-stay (λ j. ⊥) s t d) store (digits-hidden s t d)
 
-pub contents-unseen : (s t store : List ℕ) (rs : List Rec) → outline First s ≡ done rs → ContentsDiffer rs s t → Same s t store
+pub contents-unseen : (s t store : List ℕ) (rs : List Rec) → outline s ≡ done rs → ContentsDiffer rs s t → Same s t store
 unfolding ContentsDiffer
 contents-unseen s t store rs e d =
     same-of s t (places-stay (λ j. insideRecs rs j ≡ true) s t d) store (e ∙ sym (contents-hidden s t rs e d))

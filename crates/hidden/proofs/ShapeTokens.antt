@@ -5,7 +5,6 @@ use mathlib.Core.Bool.{true}
 use mathlib.Core.Path.{_≡_, refl, sym, ap, _∙_, fun-ext}
 use mathlib.Core.List.{List, [], _∷_, map}
 use lib.ListN.{take, length-map}
-use Rattle.rules.specs.declared.Reading.the-variants.{First}
 use Rattle.text.specs.Bytes.{isDigit, is, isAscii}
 use Rattle.gaps.specs.Gaps.{gap}
 use Rattle.places.specs.Places.{placeAt}
@@ -14,8 +13,7 @@ use Rattle.folding.specs.Folding.{lower}
 use Rattle.keywords.specs.Keywords.{starts, keyData, keyGlobal, keyLoop, keySave, keyStop}
 use Rattle.numbers.specs.Parts.{parts}
 use Rattle.values.specs.Values.{Lexed, numberOr, wordOr, lexValue}
-use Rattle.grammar.proofs.First.{firstTokens, tokens-first}
-use Rattle.grammar.specs.Tokens.{Mode, before, inBlock, inFrame, saveSize, lexIn, lex, step, tokens}
+use Rattle.grammar.specs.Tokens.{Mode, before, inBlock, inFrame, saveSize, lexIn, lex, step, tokensFrom, tokens}
 use Rattle.grammar.specs.Reading.{decided, outline}
 use Rattle.hidden.proofs.Places.{take-map, placeAt-w}
 use Rattle.text.proofs.Shape.{σ, blind, is-σ, span-σ}
@@ -25,15 +23,15 @@ use Rattle.keywords.proofs.Shape.{starts-σ, noDigit}
 use Rattle.quotes.proofs.Shape.{quoted-σ, field-σ}
 use Rattle.numbers.proofs.Shape.{isNumber-σ, within-σ, here-σ}
 
-pub numberOr-σ : (x : Lexed) (w : List ℕ) (n : ℕ) → numberOr First x (parts (map σ w)) n ≡ numberOr First x (parts w) n
+pub numberOr-σ : (x : Lexed) (w : List ℕ) (n : ℕ) → numberOr x (parts (map σ w)) n ≡ numberOr x (parts w) n
 unfolding numberOr
 numberOr-σ x w n = rw (isNumber-σ w, within-σ w, here-σ w)
 
-wordOr-σ : (x : Lexed) (s : List ℕ) → wordOr First x (map σ s) ≡ wordOr First x s
+wordOr-σ : (x : Lexed) (s : List ℕ) → wordOr x (map σ s) ≡ wordOr x s
 unfolding wordOr
 wordOr-σ x s = rw (word-σ s, take-map σ (word s) s, numberOr-σ x (take (word s) s) (word s))
 
-lexValue-σ : (b : ℕ) (s : List ℕ) → lexValue First 10 (σ b) (map σ s) ≡ lexValue First 10 b s
+lexValue-σ : (b : ℕ) (s : List ℕ) → lexValue (σ b) (map σ s) ≡ lexValue b s
 unfolding lexValue is
 lexValue-σ b s =
     rw (word-σ (b ∷ s), wordOr-σ _ (b ∷ s), wordOr-σ _ (b ∷ s), quoted-σ 39 refl s, quoted-σ 34 refl s, field-σ s)
@@ -69,34 +67,35 @@ pub underscore-σ : (b : ℕ) → is 95 (σ b) ≡ is 95 b
 unfolding is
 underscore-σ b = is-σ 95 refl b
 
-pub lexIn-σ : (m : Mode) (s : List ℕ) → lexIn First 10 m (map σ s) ≡ lexIn First 10 m s
+pub lexIn-σ : (m : Mode) (s : List ℕ) → lexIn m (map σ s) ≡ lexIn m s
 unfolding lexIn
 lexIn-σ m [] = refl
 lexIn-σ m (b ∷ s) =
     rw (data-σ (b ∷ s), global-σ (b ∷ s), stop-σ (b ∷ s), loop-σ (b ∷ s), save-σ (b ∷ s), underscore-σ b, saveSize-σ m (b ∷ s), word-σ (b ∷ s), lexValue-σ b s)
 
-pub lex-σ : (m : Mode) (s : List ℕ) → lex First 10 m (map σ s) ≡ lex First 10 m s
+pub lex-σ : (m : Mode) (s : List ℕ) → lex m (map σ s) ≡ lex m s
 unfolding lex
 lex-σ before s = rw (data-σ s, word-σ s)
 lex-σ inBlock s = lexIn-σ inBlock s
 lex-σ inFrame s = lexIn-σ inFrame s
 
-tokensFrom-σ : (s : List ℕ) (k : ℕ) (m : Mode) (o : ℕ) → firstTokens (map σ s) k m o ≡ firstTokens s k m o
-unfolding firstTokens
+tokensFrom-σ : (s : List ℕ) (k : ℕ) (m : Mode) (o : ℕ) → tokensFrom (map σ s) k m o ≡ tokensFrom s k m o
+unfolding tokensFrom
 tokensFrom-σ [] k m o = refl
 tokensFrom-σ (b ∷ s) zero m o =
     rw (gap-σ (b ∷ s), lex-σ m (b ∷ s))
-    (ap (λ r. step (gap (b ∷ s)) (lex First 10 m (b ∷ s)) m o r) (fun-ext λ k. fun-ext λ m′. tokensFrom-σ s k m′ (suc o)))
+    (ap (λ r. step (gap (b ∷ s)) (lex m (b ∷ s)) m o r) (fun-ext λ k. fun-ext λ m′. tokensFrom-σ s k m′ (suc o)))
 tokensFrom-σ (b ∷ s) (suc k) m o = tokensFrom-σ s k m (suc o)
 
-pub tokens-σ : (s : List ℕ) → tokens First (map σ s) ≡ tokens First s
-tokens-σ s = tokens-first (map σ s) ∙ tokensFrom-σ s 0 before 0 ∙ sym (tokens-first s)
+pub tokens-σ : (s : List ℕ) → tokens (map σ s) ≡ tokens s
+unfolding tokens
+tokens-σ s = tokensFrom-σ s 0 before 0
 
 ascii-σ : (b : ℕ) → isAscii (σ b) ≡ isAscii b
 unfolding isAscii
 ascii-σ b = blind isAscii refl b
 
-pub outline-σ : (s : List ℕ) → outline First (map σ s) ≡ outline First s
+pub outline-σ : (s : List ℕ) → outline (map σ s) ≡ outline s
 unfolding outline decided
 outline-σ s = rw (length-map s σ, span-σ isAscii ascii-σ s, tokens-σ s)
 

@@ -7,8 +7,6 @@ use native.Mathlib.Omega.{arith}
 use borrow.Author.Tests.{ne-eqb}
 use lib.Dec.{eqb, eqb·suc-zero}
 use lib.ListN.{length, drop}
-use Rattle.columns.specs.Before.{byteBefore}
-use Rattle.rules.specs.declared.Reading.the-variants.{First}
 use Rattle.gaps.specs.Gaps.{gap, gapEnd}
 use Rattle.gaps.proofs.Gaps.{gap-none}
 use Rattle.words.specs.Words.{word, wordEnd}
@@ -41,16 +39,16 @@ use Rattle.sizes.proofs.Room.{sizes-cons, sizes-one, sizes-snoc, sizes-append, 
 use Rattle.items.proofs.Wanted.{found-wanted}
 
 -- the first token stands behind space and comments
-pub head-at : (m : Mode) (s : List ℕ) (o : ℕ) → headAt (tokensAt First m s o) ≡ gapEnd s o
+pub head-at : (m : Mode) (s : List ℕ) (o : ℕ) → headAt (tokensAt m s o) ≡ gapEnd s o
 unfolding headAt tok
-head-at m s o = rw (← tokens-gap First m s o, first s (gapEnd s o) (gap-none s o) First m .1)
+head-at m s o = rw (← tokens-gap m s o, first s (gapEnd s o) (gap-none s o) m .1)
 
 -- where a loop's names end
 pub record NamesEnd (s : List ℕ) (o : ℕ) : Type 0 where
   pub onward : o ≤ namesAt s o .next
   pub within : namesAt s o .next ≤ length s
   pub bare : gap (drop (namesAt s o .next) s) ≡ 0
-  pub tokens : afterNames (tokensAt First inBlock s o) ≡ tokensAt First inBlock s (namesAt s o .next)
+  pub tokens : afterNames (tokensAt inBlock s o) ≡ tokensAt inBlock s (namesAt s o .next)
   pub fits : Upto (namesAt s o .next - o) (namesAt s o .sizes)
 
 pub names-end : (s : List ℕ) (o : ℕ) → o ≤ length s → NamesEnd s o
@@ -134,11 +132,11 @@ names-answer t us [] p z h = unfold itemAnswer loopAnswer in refl
 names-answer t us (n ∷ ns) p z h = values-answer t us (afterValues us) n ns p z refl (values-ends h)
 
 -- THE LOOP AT AN OFFSET
-loop-item : (s : List ℕ) (o : ℕ) → Met First inBlock s o (lexed loop 5) → itemAt s o ≡ loopAnswer o (namesAt s (o + 5)) (valuesOf (afterNames (tokensAt First inBlock s (o + 5))))
+loop-item : (s : List ℕ) (o : ℕ) → Met inBlock s o (lexed loop 5) → itemAt s o ≡ loopAnswer o (namesAt s (o + 5)) (valuesOf (afterNames (tokensAt inBlock s (o + 5))))
 unfolding itemAt item itemBy namesAt namesOf lexed tok after
 loop-item s o m =
-    let ts = tokensAt First inBlock s (o + 5) in
-    rw (m .next) (names-answer (tok (lexed loop 5) o) (afterNames ts) (nameRecs ts) (headAt (afterNames ts)) refl (names-ends (tokens-ends First inBlock s (o + 5))))
+    let ts = tokensAt inBlock s (o + 5) in
+    rw (m .next) (names-answer (tok (lexed loop 5) o) (afterNames ts) (nameRecs ts) (headAt (afterNames ts)) refl (names-ends (tokens-ends inBlock s (o + 5))))
 
 pub item-loop : (s : List ℕ) (o : ℕ) → gap (drop o s) ≡ 0 → startsAt keyLoop s o ≡ true → itemAt s o ≡ loopAnswer o (namesAt s (o + 5)) (valuesAt s (namesAt s (o + 5) .next))
 unfolding valuesAt lexed
@@ -163,44 +161,44 @@ single-answer t u us c n h = rw (← wanted-why c n) (by c h)
     by (nothing w) h = refl
 
 -- THE TAG AT AN OFFSET
-tag-item : (s : List ℕ) (o w : ℕ) → Met First inBlock s o (lexed tag w) → itemAt s o ≡ itemAnswer (tagItem (tok (lexed tag w) o) (tokensAt First inBlock s (gapEnd s (o + w))))
+tag-item : (s : List ℕ) (o w : ℕ) → Met inBlock s o (lexed tag w) → itemAt s o ≡ itemAnswer (tagItem (tok (lexed tag w) o) (tokensAt inBlock s (gapEnd s (o + w))))
 unfolding itemAt item itemBy lexed tok after
-tag-item s o w m = rw (tokens-gap First inBlock s (o + w), m .next)
+tag-item s o w m = rw (tokens-gap inBlock s (o + w), m .next)
 
 single-size : (t u : Tok) (k : ℕ) → sizesOf (rec 4 t ∷ (rec k u ∷ [])) ≡ added (added noSizes 4 (t .size)) k (u .size)
 unfolding rec
 single-size t u k = sizes-snoc (rec 4 t ∷ []) (rec k u) ∙ rw (sizes-one (rec 4 t))
 
-value-answer : (t : Tok) (s : List ℕ) (p k w : ℕ) → Met First inBlock s p (lexed (value k) w) → itemAnswer (tagItem t (tokensAt First inBlock s p)) ≡ Single (gapEnd s (p + w)) (added (added noSizes 4 (t .size)) k w)
+value-answer : (t : Tok) (s : List ℕ) (p k w : ℕ) → Met inBlock s p (lexed (value k) w) → itemAnswer (tagItem t (tokensAt inBlock s p)) ≡ Single (gapEnd s (p + w)) (added (added noSizes 4 (t .size)) k w)
 unfolding tagItem single itemAnswer lexed tok after
 value-answer t s p k w m = rw (m .next, head-at inBlock s (p + w), single-size t (tok (lexed (value k) w) p) k)
 
-pub item-value : (s : List ℕ) (o k w : ℕ) → gap (drop o s) ≡ 0 → tagAt s o ≡ true → foundAt First s (gapEnd s (wordEnd s o)) ≡ Value k w
+pub item-value : (s : List ℕ) (o k w : ℕ) → gap (drop o s) ≡ 0 → tagAt s o ≡ true → foundAt s (gapEnd s (wordEnd s o)) ≡ Value k w
     → itemAt s o ≡ Single (gapEnd s (gapEnd s (wordEnd s o) + w)) (added (added noSizes 4 (wordEnd s o - o)) k w)
 unfolding lexed tok
 item-value s o k w g e f =
     let n = word (drop o s) in
     let p = gapEnd s (o + n) in
     let d : o + n - o ≡ n = omega arith in
-    let f′ : foundAt First s p ≡ Value k w = rw (word-end s o) at f in
+    let f′ : foundAt s p ≡ Value k w = rw (word-end s o) at f in
     rw (word-end s o)
     (tag-item s o n (met-tag s o g e) ∙ value-answer (tok (lexed tag n) o) s p k w (met-value s p k w (gap-none s (o + n)) f′) ∙ rw d)
 
-alone-answer : (t : Tok) (s : List ℕ) (p : ℕ) → gap (drop p s) ≡ 0 → ((k w : ℕ) → foundAt First s p ≡ Value k w → ⊥)
-    → itemAnswer (tagItem t (tokensAt First inBlock s p)) ≡ cond (isOverFound (foundAt First s p)) (Broken OverLimit p) (Failed (NoValue (numberOfWhy (whyFound (foundAt First s p)))) (t .at) p)
+alone-answer : (t : Tok) (s : List ℕ) (p : ℕ) → gap (drop p s) ≡ 0 → ((k w : ℕ) → foundAt s p ≡ Value k w → ⊥)
+    → itemAnswer (tagItem t (tokensAt inBlock s p)) ≡ cond (isOverFound (foundAt s p)) (Broken OverLimit p) (Failed (NoValue (numberOfWhy (whyFound (foundAt s p)))) (t .at) p)
 unfolding tagItem tok lex
 alone-answer t s p g h =
-    let x = lexIn First (byteBefore s p) inBlock (drop p s) in
-    let q : foundAt First s p ≡ wanted (x .class) (x .size) = found-wanted inBlock s p in
-    let f = first s p g First inBlock in
+    let x = lexIn inBlock (drop p s) in
+    let q : foundAt s p ≡ wanted (x .class) (x .size) = found-wanted inBlock s p in
+    let f = first s p g inBlock in
     rw (f .1, q) (single-answer t (tok x p) (f .0) (x .class) (x .size) (λ k w e. h k w (q ∙ e)))
 
-pub item-alone : (s : List ℕ) (o : ℕ) → gap (drop o s) ≡ 0 → tagAt s o ≡ true → ((k w : ℕ) → foundAt First s (gapEnd s (wordEnd s o)) ≡ Value k w → ⊥)
-    → let p = gapEnd s (wordEnd s o) in itemAt s o ≡ cond (isOverFound (foundAt First s p)) (Broken OverLimit p) (Failed (NoValue (numberOfWhy (whyFound (foundAt First s p)))) o p)
+pub item-alone : (s : List ℕ) (o : ℕ) → gap (drop o s) ≡ 0 → tagAt s o ≡ true → ((k w : ℕ) → foundAt s (gapEnd s (wordEnd s o)) ≡ Value k w → ⊥)
+    → let p = gapEnd s (wordEnd s o) in itemAt s o ≡ cond (isOverFound (foundAt s p)) (Broken OverLimit p) (Failed (NoValue (numberOfWhy (whyFound (foundAt s p)))) o p)
 unfolding lexed tok
 item-alone s o g e h =
     let n = word (drop o s) in
-    let h′ : (k w : ℕ) → foundAt First s (gapEnd s (o + n)) ≡ Value k w → ⊥ = λ k w q. h k w (rw (word-end s o) q) in
+    let h′ : (k w : ℕ) → foundAt s (gapEnd s (o + n)) ≡ Value k w → ⊥ = λ k w q. h k w (rw (word-end s o) q) in
     rw (word-end s o)
     (tag-item s o n (met-tag s o g e) ∙ alone-answer (tok (lexed tag n) o) s (gapEnd s (o + n)) (gap-none s (o + n)) h′)
 
@@ -215,17 +213,17 @@ none-answer (value k) t ts e = refl
 none-answer overLimit t ts e = refl
 none-answer (nothing w) t ts e = refl
 
-no-item : (p : ℕ) (u : List ℕ) → starts keyLoop u ≡ false → tagFirst u ≡ false → startsItem (lexIn First p inBlock u .class) ≡ false
+no-item : (u : List ℕ) → starts keyLoop u ≡ false → tagFirst u ≡ false → startsItem (lexIn inBlock u .class) ≡ false
 unfolding tagFirst
-no-item p [] e f = unfold lexIn lexed startsItem in refl
-no-item p (b ∷ s) e f = lex-other _ inBlock b s e f
+no-item [] e f = unfold lexIn lexed startsItem in refl
+no-item (b ∷ s) e f = lex-other inBlock b s e f
 
 pub item-none : (s : List ℕ) (o : ℕ) → gap (drop o s) ≡ 0 → startsAt keyLoop s o ≡ false → tagAt s o ≡ false → itemAt s o ≡ Absent o
 unfolding itemAt item tagAt lex tok
 item-none s o g e f =
-    let x = lexIn First (byteBefore s o) inBlock (drop o s) in
-    let n = first s o g First inBlock in
-    rw (n .1) (none-answer (x .class) (tok x o) (n .0) (no-item (byteBefore s o) (drop o s) (sym (starts-at keyLoop s o) ∙ e) f))
+    let x = lexIn inBlock (drop o s) in
+    let n = first s o g inBlock in
+    rw (n .1) (none-answer (x .class) (tok x o) (n .0) (no-item (drop o s) (sym (starts-at keyLoop s o) ∙ e) f))
 
 -- rows as the code counts them
 pub rows-ragged : (o : ℕ) (names : Names) (values : Values) → (values .count % names .count ≡ 0 → ⊥) → Failed (Ragged (values .count % names .count)) o (values .next) ≡ rowsOf o names values
@@ -243,7 +241,7 @@ pub record TagRead (s : List ℕ) (o end stop : ℕ) (f : Found) : Type 0 where
   pub tagged : tagAt s o ≡ true
   pub ends : end ≡ wordEnd s o
   pub stops : stop ≡ gapEnd s end
-  pub finds : f ≡ foundAt First s stop
+  pub finds : f ≡ foundAt s stop
 
 module _ {s : List ℕ} {o end stop : ℕ} {f : Found} (r : TagRead s o end stop f) where
   pub tag-onward : (o < end) × (end ≤ length s)

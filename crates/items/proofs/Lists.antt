@@ -9,8 +9,6 @@ use native.Mathlib.Omega.{arith}
 use lib.Dec.{eqb}
 use lib.ListN.{length, drop, getD, drop-of-length-le}
 use lib.Seq.{drop-cons}
-use Rattle.columns.specs.Before.{byteBefore}
-use Rattle.rules.specs.declared.Reading.the-variants.{First}
 use Rattle.text.specs.Bytes.{is}
 use Rattle.gaps.specs.Gaps.{gap, gapEnd}
 use Rattle.gaps.proofs.Gaps.{gap-from, gap-within, gap-none}
@@ -47,7 +45,7 @@ addValues n z a = record { count = n + a .count; next = a .next; sizes = joined 
 
 pub names-gap : (s : List ℕ) (o : ℕ) → namesAt s (gapEnd s o) ≡ namesAt s o
 unfolding namesAt
-names-gap s o = ap namesOf (tokens-gap First inBlock s o)
+names-gap s o = ap namesOf (tokens-gap inBlock s o)
 
 -- a name more
 names-cons : (n : ℕ) (z : Sizes) (t : Tok) (ts : List Tok) → t .class ≡ tag → addNames n z (namesOf (t ∷ ts)) ≡ addNames (n + 1) (added z 6 (t .size)) (namesOf ts)
@@ -79,9 +77,9 @@ pub record NameStep (s : List ℕ) (o : ℕ) : Type 0 where
   pub within : wordEnd s o ≤ length s
   pub turn : (n : ℕ) (z : Sizes) → addNames n z (namesAt s o) ≡ addNames (n + 1) (added z 6 (wordEnd s o - o)) (namesAt s (gapEnd s (wordEnd s o)))
 
-names-turn : (s : List ℕ) (o w n : ℕ) (z : Sizes) → Met First inBlock s o (lexed tag w) → addNames n z (namesAt s o) ≡ addNames (n + 1) (added z 6 w) (namesAt s (gapEnd s (o + w)))
+names-turn : (s : List ℕ) (o w n : ℕ) (z : Sizes) → Met inBlock s o (lexed tag w) → addNames n z (namesAt s o) ≡ addNames (n + 1) (added z 6 w) (namesAt s (gapEnd s (o + w)))
 unfolding namesAt lexed after tok
-names-turn s o w n z m = rw (tokens-gap First inBlock s (o + w), m .next) (names-cons n z (tok (lexed tag w) o) (tokensAt First inBlock s (o + w)) refl)
+names-turn s o w n z m = rw (tokens-gap inBlock s (o + w), m .next) (names-cons n z (tok (lexed tag w) o) (tokensAt inBlock s (o + w)) refl)
 
 pub name-step : (s : List ℕ) (o : ℕ) → gap (drop o s) ≡ 0 → tagAt s o ≡ true → NameStep s o
 unfolding lexed
@@ -98,8 +96,8 @@ name-step s o g e =
 pub name-stop : (s : List ℕ) (o : ℕ) → gap (drop o s) ≡ 0 → tagAt s o ≡ false → namesAt s o ≡ record { count = 0; next = o; sizes = noSizes }
 unfolding namesAt tagAt tok lex
 name-stop s o g e =
-    let f = first s o g First inBlock in
-    rw (f .1) (names-nil (tok (lexIn First (byteBefore s o) inBlock (drop o s)) o) (f .0) (no-name _ inBlock (drop o s) e))
+    let f = first s o g inBlock in
+    rw (f .1) (names-nil (tok (lexIn inBlock (drop o s)) o) (f .0) (no-name inBlock (drop o s) e))
 
 -- a value is met
 pub record ValueStep (s : List ℕ) (o k w : ℕ) : Type 0 where
@@ -117,18 +115,18 @@ is-value save n k w e = (cc, cc)
 is-value tag n k w e = (cc, cc)
 is-value (nothing r) n k w e = (cc, cc)
 
-pub met-value : (s : List ℕ) (o k w : ℕ) → gap (drop o s) ≡ 0 → foundAt First s o ≡ Value k w → Met First inBlock s o (lexed (value k) w)
+pub met-value : (s : List ℕ) (o k w : ℕ) → gap (drop o s) ≡ 0 → foundAt s o ≡ Value k w → Met inBlock s o (lexed (value k) w)
 unfolding lex lexed isValue
 met-value s o k w g e =
-    let a = is-value (lexIn First (byteBefore s o) inBlock (drop o s) .class) (lexIn First (byteBefore s o) inBlock (drop o s) .size) k w (sym (found-wanted inBlock s o) ∙ e) in
-    let p : 0 < lexIn First (byteBefore s o) inBlock (drop o s) .size = lexIn-pos First _ inBlock (drop o s) (rw (a .0)) in
-    met First inBlock s o (lexed (value k) w) g (λ i. record { class = a .0 i; size = a .1 i }) (omega (arith, a .1))
+    let a = is-value (lexIn inBlock (drop o s) .class) (lexIn inBlock (drop o s) .size) k w (sym (found-wanted inBlock s o) ∙ e) in
+    let p : 0 < lexIn inBlock (drop o s) .size = lexIn-pos inBlock (drop o s) (rw (a .0)) in
+    met inBlock s o (lexed (value k) w) g (λ i. record { class = a .0 i; size = a .1 i }) (omega (arith, a .1))
 
-values-turn : (s : List ℕ) (o k w n : ℕ) (z : Sizes) → Met First inBlock s o (lexed (value k) w) → addValues n z (valuesAt s o) ≡ addValues (n + 1) (added z k w) (valuesAt s (gapEnd s (o + w)))
+values-turn : (s : List ℕ) (o k w n : ℕ) (z : Sizes) → Met inBlock s o (lexed (value k) w) → addValues n z (valuesAt s o) ≡ addValues (n + 1) (added z k w) (valuesAt s (gapEnd s (o + w)))
 unfolding valuesAt lexed after tok
-values-turn s o k w n z m = rw (tokens-gap First inBlock s (o + w), m .next) (values-cons n z (tok (lexed (value k) w) o) (tokensAt First inBlock s (o + w)) k refl)
+values-turn s o k w n z m = rw (tokens-gap inBlock s (o + w), m .next) (values-cons n z (tok (lexed (value k) w) o) (tokensAt inBlock s (o + w)) k refl)
 
-pub value-step : (s : List ℕ) (o k w : ℕ) → gap (drop o s) ≡ 0 → foundAt First s o ≡ Value k w → ValueStep s o k w
+pub value-step : (s : List ℕ) (o k w : ℕ) → gap (drop o s) ≡ 0 → foundAt s o ≡ Value k w → ValueStep s o k w
 unfolding lexed
 value-step s o k w g e =
     let m = met-value s o k w g e in
@@ -149,13 +147,13 @@ pub no-value : (c : Class) (n : ℕ) → ((k w : ℕ) → wanted c n ≡ Value k
 unfolding wanted
 no-value c n h = ⊎-elim (λ e. absurd (h (e .0) n (rw (e .1)))) (λ e. e) (value-or-not c)
 
-pub value-stop : (s : List ℕ) (o : ℕ) → gap (drop o s) ≡ 0 → ((k w : ℕ) → foundAt First s o ≡ Value k w → ⊥)
-    → valuesAt s o ≡ record { count = 0; next = o; sizes = noSizes; over = isOverFound (foundAt First s o); why = whyFound (foundAt First s o) }
+pub value-stop : (s : List ℕ) (o : ℕ) → gap (drop o s) ≡ 0 → ((k w : ℕ) → foundAt s o ≡ Value k w → ⊥)
+    → valuesAt s o ≡ record { count = 0; next = o; sizes = noSizes; over = isOverFound (foundAt s o); why = whyFound (foundAt s o) }
 unfolding valuesAt tok lex
 value-stop s o g h =
-    let f = first s o g First inBlock in
-    let x = lexIn First (byteBefore s o) inBlock (drop o s) in
-    let q : foundAt First s o ≡ wanted (x .class) (x .size) = found-wanted inBlock s o in
+    let f = first s o g inBlock in
+    let x = lexIn inBlock (drop o s) in
+    let q : foundAt s o ≡ wanted (x .class) (x .size) = found-wanted inBlock s o in
     rw (f .1, q, ← wanted-over (x .class) (x .size), ← wanted-why (x .class) (x .size))
     (values-nil (tok x o) (f .0) (no-value (x .class) (x .size) (λ k w e. h k w (q ∙ e))))
 
@@ -233,7 +231,7 @@ all-values n p z b w = rw (add-zero, joined-none)
 pub values-start : (s : List ℕ) (from : ℕ) → from ≤ length s → gap (drop from s) ≡ 0 → ValuesSoFar s from from 0 noSizes
 values-start s from h g = record { within = h; bare = g; few = omega arith; fits = upto-none from; values = none-values (valuesAt s from) }
 
-pub values-next : (s : List ℕ) (from at count kind size next : ℕ) (sizes more : Sizes) → ValuesSoFar s from at count sizes → foundAt First s at ≡ Value kind size
+pub values-next : (s : List ℕ) (from at count kind size next : ℕ) (sizes more : Sizes) → ValuesSoFar s from at count sizes → foundAt s at ≡ Value kind size
     → next ≡ gapEnd s (at + size) → more ≡ added sizes kind size → (at < next) × ValuesSoFar s from next (count + 1) more
 values-next s from at count kind size next sizes more h e b d =
     let v = value-step s at kind size (h .bare) e in
@@ -248,7 +246,7 @@ values-next s from at count kind size next sizes more h e b d =
       },
     )
 
-pub values-all : (s : List ℕ) (from at count : ℕ) (sizes : Sizes) (f : Found) → ValuesSoFar s from at count sizes → f ≡ foundAt First s at → ((k w : ℕ) → f ≡ Value k w → ⊥)
+pub values-all : (s : List ℕ) (from at count : ℕ) (sizes : Sizes) (f : Found) → ValuesSoFar s from at count sizes → f ≡ foundAt s at → ((k w : ℕ) → f ≡ Value k w → ⊥)
     → record { count = count; next = at; sizes = sizes; over = isOverFound f; why = whyFound f } ≡ valuesAt s from
 values-all s from at count sizes f h e n =
-    sym (h .values ∙ ap (addValues count sizes) (value-stop s at (h .bare) (λ k w q. n k w (e ∙ q))) ∙ all-values count at sizes (isOverFound (foundAt First s at)) (whyFound (foundAt First s at)) ∙ rw e)
+    sym (h .values ∙ ap (addValues count sizes) (value-stop s at (h .bare) (λ k w q. n k w (e ∙ q))) ∙ all-values count at sizes (isOverFound (foundAt s at)) (whyFound (foundAt s at)) ∙ rw e)

@@ -4,8 +4,6 @@ use mathlib.Core.Path.{_≡_, refl, _∙_}
 use mathlib.Core.Bool.{Bool, true, false, cond, _||_}
 use mathlib.Core.List.{List, [], _∷_}
 use lib.ListN.{drop}
-use Rattle.columns.specs.Before.{byteBefore}
-use Rattle.rules.specs.declared.Reading.the-variants.{First}
 use Rattle.text.specs.Bytes.{is}
 use Rattle.words.specs.Words.{word}
 use Rattle.keywords.specs.Keywords.{starts, keyData, keyGlobal, keyLoop, keySave, keyStop}
@@ -30,13 +28,13 @@ starts-none false false false false true u z w v h = refl
 starts-none false false false false false true z w v h = rw (h refl)
 starts-none false false false false false false z w v h = refl
 
-lexes-alike : (p : ℕ) (m : Mode) (s : List ℕ) → wanted (lexAsValue First p s .class) (lexAsValue First p s .size) ≡ wanted (lexIn First p m s .class) (lexIn First p m s .size)
+lexes-alike : (m : Mode) (s : List ℕ) → wanted (lexAsValue s .class) (lexAsValue s .size) ≡ wanted (lexIn m s .class) (lexIn m s .size)
 unfolding lexIn
-lexes-alike p m [] = rw (as-value-end First p)
-lexes-alike p m (b ∷ s) =
-    rw (as-value First p b s, reserved-words (b ∷ s))
-    (starts-none (starts keyData (b ∷ s)) (starts keyGlobal (b ∷ s)) (starts keyLoop (b ∷ s)) (starts keySave (b ∷ s)) (starts keyStop (b ∷ s)) (is 95 b) (saveSize m (b ∷ s)) (word (b ∷ s)) (lexValue First p b s) (tag-none First p b s))
+lexes-alike m [] = rw as-value-end
+lexes-alike m (b ∷ s) =
+    rw (as-value b s, reserved-words (b ∷ s))
+    (starts-none (starts keyData (b ∷ s)) (starts keyGlobal (b ∷ s)) (starts keyLoop (b ∷ s)) (starts keySave (b ∷ s)) (starts keyStop (b ∷ s)) (is 95 b) (saveSize m (b ∷ s)) (word (b ∷ s)) (lexValue b s) (tag-none b s))
 
 -- THE VALUE READER FINDS WHAT THE TOKEN SAYS
-pub found-wanted : (m : Mode) (s : List ℕ) (o : ℕ) → foundAt First s o ≡ wanted (lexIn First (byteBefore s o) m (drop o s) .class) (lexIn First (byteBefore s o) m (drop o s) .size)
-found-wanted m s o = found-as-value First s o ∙ lexes-alike (byteBefore s o) m (drop o s)
+pub found-wanted : (m : Mode) (s : List ℕ) (o : ℕ) → foundAt s o ≡ wanted (lexIn m (drop o s) .class) (lexIn m (drop o s) .size)
+found-wanted m s o = found-as-value s o ∙ lexes-alike m (drop o s)

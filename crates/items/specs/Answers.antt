@@ -5,7 +5,6 @@ use mathlib.Core.Bool.{Bool, true, false, cond}
 use mathlib.Core.List.{List, [], _∷_}
 use lib.Dec.{eqb}
 use lib.ListN.{length, drop}
-use Rattle.rules.specs.declared.Reading.the-variants.{First}
 use Rattle.gaps.specs.Gaps.{gap}
 use Rattle.items.specs.declared.Names.{Names}
 use Rattle.items.specs.declared.Values.{Values}
@@ -34,7 +33,7 @@ unfoldable pub namesOf : List Tok → Names
 namesOf ts = record { count = length (nameRecs ts); next = headAt (afterNames ts); sizes = sizesOf (nameRecs ts) }
 
 unfoldable pub namesAt : List ℕ → ℕ → Names
-namesAt s o = namesOf (tokensAt First inBlock s o)
+namesAt s o = namesOf (tokensAt inBlock s o)
 
 -- the values that tokens start with, and what ended them
 unfoldable pub headOver : List Tok → Bool
@@ -52,7 +51,7 @@ valuesOf ts =
     }
 
 unfoldable pub valuesAt : List ℕ → ℕ → Values
-valuesAt s o = valuesOf (tokensAt First inBlock s o)
+valuesAt s o = valuesOf (tokensAt inBlock s o)
 
 -- the loop at offset o, by its names and values
 unfoldable pub rowsOf : ℕ → Names → Values → Answered
@@ -71,4 +70,4 @@ itemAnswer (broken n o) = Broken (breaking n) o
 -- the item at offset o, behind space and comments. It is the same in the block and in a frame: no item reaches over a
 -- `save_`
 unfoldable pub itemAt : List ℕ → ℕ → Answered
-itemAt s o = itemAnswer (item (tokensAt First inBlock s o))
+itemAt s o = itemAnswer (item (tokensAt inBlock s o))

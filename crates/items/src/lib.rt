@@ -10,7 +10,6 @@ ghost use Rattle.items.specs.Answers.{Ready, Here, namesAt, valuesAt, ro
 ghost use Rattle.grammar.specs.Tokens.{tagAt};
 use grammar::Cause;
 use kinds::Kind;
-use rules::Reading;
 use sizes::Sizes;
 use values::Found;
 use values::Why;
@@ -100,7 +99,7 @@ fn count_values(s: &[u8], from: usize) -> Values
     let mut count: usize = 0;
     let mut sizes = Sizes::none();
     loop {
-        let found = Found::of(values::pack_value(Reading::First, s, at));
+        let found = Found::of(values::pack_value(s, at));
         let Found::Value { kind, size } = found else {
             let Found::Missing { why } = found else {
                 return Values {
@@ -183,7 +182,7 @@ fn parse_tag(s: &[u8], at: usize) -> Item
 {
     let end = words::long_word_end(s, at);
     let stop = gaps::gap_end(s, end);
-    let found = Found::of(values::pack_value(Reading::First, s, stop));
+    let found = Found::of(values::pack_value(s, stop));
     if let Found::Value { kind, size } = found {
         let sizes = Sizes::none().add(Kind::TAG, end - at).add_value(kind, size);
         return Item::Single {

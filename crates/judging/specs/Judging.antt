@@ -3,7 +3,6 @@ use Prim.Native.Nat.{ℕ}
 use mathlib.Core.Bool.{Bool, true, false, cond}
 use mathlib.Core.Path.{_≡_}
 use mathlib.Core.List.{List}
-use Rattle.rules.specs.declared.Reading.the-variants.{First}
 use Rattle.places.specs.declared.Report.{Report}
 use Rattle.places.specs.Reports.{success}
 use Rattle.grammar.specs.Machine.{Rec, Answer, refused, done}
@@ -40,5 +39,5 @@ declined s t =
 -- s is read, and its records take this room
 pub record IsRead (s : List ℕ) (z : Sizes) : Type 0 where
   pub records : List Rec
-  pub answer : outline First s ≡ done records
+  pub answer : outline s ≡ done records
   pub sizes : z ≡ sizesOf records

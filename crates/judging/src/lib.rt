@@ -1,6 +1,5 @@
 // What a text comes to before any room is looked at: its refusal, 1 to 9, with its place, or the room that its records need.
 ghost use mathlib.Core.Path.{_≡_};
-ghost use Rattle.rules.specs.declared.Reading.the-variants.{First};
 ghost use Rattle.grammar.specs.Reading.{outline as outlineOf};
 ghost use Rattle.deciding.specs.Decisions.{told};
 ghost use Rattle.judging.specs.Judging.{judgement, judgedAs, declined};
@@ -35,7 +34,7 @@ fn placed(s: &[u8], decision: Decision) -> Judged
 
 // The two limits first, then what the tokens say.
 pub fn judge(s: &[u8]) -> Judged
-    ensures { λ r. ⌜ judgedAs r ≡ judgement (now (s .entry)) (outlineOf First (now (s .entry))) ⌝ }
+    ensures { λ r. ⌜ judgedAs r ≡ judgement (now (s .entry)) (outlineOf (now (s .entry))) ⌝ }
 {
     if LIMIT < s.len() {
         return Judged::Declines {

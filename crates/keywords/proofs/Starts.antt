@@ -6,25 +6,17 @@ use mathlib.Core.List.{List, [], _∷_}
 use borrow.Author.Tests.{eqb-true}
 use lib.Dec.{eqb}
 use lib.ListN.{drop}
-use Rattle.rules.specs.declared.Reading.{Reading}
-use Rattle.rules.specs.declared.Reading.the-variants.{First, Strict}
 use Rattle.text.specs.Bytes.{is}
 use Rattle.text.proofs.Bools.{and-l, and-r}
 use Rattle.words.specs.Words.{word}
 use Rattle.folding.specs.Folding.{lower}
-use Rattle.keywords.specs.Keywords.{starts, startsAt, keyData, keyGlobal, keyLoop, keySave, keyStop, isWord, stands, reserved}
+use Rattle.keywords.specs.Keywords.{starts, startsAt, keyData, keyGlobal, keyLoop, keySave, keyStop, reserved}
 use Rattle.keywords.proofs.Keywords.{data-word, save-word}
 
 -- at an offset means at the start of the rest
 pub starts-at : (k s : List ℕ) (o : ℕ) → startsAt k s o ≡ starts k (drop o s)
 unfolding startsAt
 starts-at k s o = refl
-
--- a keyword that stands as a whole word is a prefix
-pub stands-starts : (r : Reading) (k s : List ℕ) → stands r k s ≡ true → starts k s ≡ true
-unfolding isWord
-stands-starts First k s e = e
-stands-starts Strict k s e = and-l (starts k s) _ e
 
 -- none of the five stands at the start of s
 pub record NoKeyword (s : List ℕ) : Type 0 where
@@ -34,8 +26,8 @@ pub record NoKeyword (s : List ℕ) : Type 0 where
   pub no-save : starts keySave s ≡ false
   pub no-stop : starts keyStop s ≡ false
 
--- where no reserved word of the first reading stands, none of the five does
-pub not-reserved : (s : List ℕ) → reserved First s ≡ false → NoKeyword s
+-- where no reserved word stands, none of the five does
+pub not-reserved : (s : List ℕ) → reserved s ≡ false → NoKeyword s
 unfolding reserved
 not-reserved s e = by (starts keyData s) (starts keyGlobal s) (starts keyLoop s) (starts keySave s) (starts keyStop s) refl refl refl refl refl e
   where

@@ -68,9 +68,6 @@ impl Kind {
 
     pub const UNCERTAIN: u8 = 15;
 
-    // Document 02's, of the strict reading.
-    pub const QUOTED: u8 = 21;
-
     // Offset, length, line and column: document 01's P.
     pub const PLACE: usize = 16;
 

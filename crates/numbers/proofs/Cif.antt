@@ -6,8 +6,7 @@ use mathlib.Core.Bool.{Bool, true, false, _&&_, and-false}
 use mathlib.Core.List.{List, [], _++_, append-assoc, append-nil}
 use Rattle.numbers.specs.declared.Number.the-variants.{Is, Over}
 use Rattle.numbers.specs.Meaning.{meaning, judged, numberOf}
-use Rattle.rules.specs.declared.Reading.the-variants.{First}
-use Rattle.numbers.specs.Parts.{within, Part, absent, isEmpty, parts, isNumber, countsAs}
+use Rattle.numbers.specs.Parts.{within, Part, absent, isEmpty, parts, isNumber}
 use Rattle.numbers.specs.Cif.{allDigits, CifExponent, exp, CifOptional, without, with-exp, CifNumber, integer, float-exp, float-frac, float-point, CifNumeric, exact, uncertain, cifMeaning, cifWithin}
 use Rattle.numbers.proofs.Spell.{Bracket, unbracketed, bracketed, Exponent, unscaled, scaled, whole, pointed, parts-spell, not-empty}
 
@@ -90,11 +89,11 @@ module _ {sg i f esg e u w : List ℕ} {b : Bool} where
   meaning-cif m = rw (m .sgn, m .int, m .frac, m .esgn, m .exp, m .here, m .unc)
 
   -- each numeric within the limits is a number here with its meaning
-  pub cif-means : CifNumeric sg i f esg e u b w → cifWithin i f e u ≡ true → numberOf First w ≡ Is (cifMeaning sg i f esg e u b)
+  pub cif-means : CifNumeric sg i f esg e u b w → cifWithin i f e u ≡ true → numberOf w ≡ Is (cifMeaning sg i f esg e u b)
   unfolding numberOf judged
   cif-means n h = let m = cif-is-number n in rw (m .number, within-cif m, h, meaning-cif m)
 
   -- each other is a number over a limit
-  pub cif-over : CifNumeric sg i f esg e u b w → cifWithin i f e u ≡ false → numberOf First w ≡ Over
+  pub cif-over : CifNumeric sg i f esg e u b w → cifWithin i f e u ≡ false → numberOf w ≡ Over
   unfolding numberOf judged
   cif-over n h = let m = cif-is-number n in rw (m .number, within-cif m, h)

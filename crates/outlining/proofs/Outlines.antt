@@ -7,7 +7,6 @@ use native.Mathlib.Omega.{arith}
 use borrow.Author.Tests.{lt-ltb, le-ltb}
 use lib.Dec.{ltb}
 use lib.ListN.{length}
-use Rattle.rules.specs.declared.Reading.the-variants.{First}
 use Rattle.places.specs.Reports.{success, noRoom}
 use Rattle.records.specs.Put.{front}
 use Rattle.sizes.specs.declared.Sizes.{Sizes}
@@ -32,7 +31,7 @@ unfolding outlinedReport outlineAnswer outlineStore outlineBy outlineStoreBy
 outline-refused s l r i = (rw (i .answer) (i .report), rw (i .answer))
 
 -- room, for records whose length is m
-module _ (s l : List ℕ) (rs : List Rec) (e : outline First s ≡ done rs) (m : ℕ) (p : m ≡ outlineSize rs) where
+module _ (s l : List ℕ) (rs : List Rec) (e : outline s ≡ done rs) (m : ℕ) (p : m ≡ outlineSize rs) where
   pub no-outline : length l < m → (outlinedReport (NoRoom m) ≡ outlineAnswer s (length l)) × (l ≡ outlineStore s l)
   unfolding outlinedReport outlineAnswer outlineStore outlineBy outlineStoreBy outlineRoom writtenIf noRoom
   no-outline h =
@@ -51,7 +50,7 @@ need-outline s z i = ap (λ (x : Sizes). x .outline) (i .sizes ∙ sizes-of (i .
 
 -- what the write pass asks, and what it leaves behind, where there is room for the records
 module _ (s : List ℕ) (z : Sizes) (i : IsRead s z) where
-  abbrev text : (length s ≤ limit) × (decided First s ≡ done (i .records))
+  abbrev text : (length s ≤ limit) × (decided s ≡ done (i .records))
   text = outline-read s (i .records) (i .answer)
 
   pub outline-asks : (l a : List ℕ) → z .outline ≤ length l → Fits false s l a

@@ -5,7 +5,6 @@ use mathlib.Core.Bool.{false, cond}
 use mathlib.Core.List.{List}
 use lib.Dec.{eqb, ltb}
 use lib.ListN.{length}
-use Rattle.rules.specs.declared.Reading.the-variants.{First}
 use Rattle.places.specs.Reports.{success, noRoom}
 use Rattle.places.specs.declared.Report.{Report}
 use Rattle.grammar.specs.Machine.{Rec, Answer, refused, done}
@@ -25,14 +24,14 @@ outlineBy s m (refused n o d) = refusal s n o d
 outlineBy s m (done rs) = outlineRoom m rs
 
 unfoldable pub outlineAnswer : List ℕ → ℕ → Report
-outlineAnswer s m = outlineBy s m (outline First s)
+outlineAnswer s m = outlineBy s m (outline s)
 
 unfoldable pub outlineStoreBy : List ℕ → List ℕ → Answer → List ℕ
 outlineStoreBy s l (refused n o d) = l
 outlineStoreBy s l (done rs) = writtenIf (eqb (outlineRoom (length l) rs .number) 0) (storeOf false s 0 rs) l
 
 unfoldable pub outlineStore : List ℕ → List ℕ → List ℕ
-outlineStore s l = outlineStoreBy s l (outline First s)
+outlineStore s l = outlineStoreBy s l (outline s)
 
 -- document 01's numbers for each case of the code's answer
 unfoldable pub outlinedReport : Outlined → Report

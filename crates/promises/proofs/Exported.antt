@@ -13,7 +13,6 @@ use mathlib.Core.Bool.{true}
 use mathlib.Core.Path.{_≡_, ap}
 use mathlib.Core.List.{List}
 use lib.ListN.{length}
-use Rattle.rules.specs.declared.Reading.the-variants.{First}
 use Rattle.exports.specs.Exports.{exported}
 use Rattle.chuntarek.specs.Answers.{readGives, outlineGives, renderGives}
 use Rattle.grammar.specs.Machine.{Rec, done}
@@ -36,7 +35,7 @@ alike same = record { answers = ap exported (same .answers); stores = same .stor
 pub outline-hides-digits : (s t store : List ℕ) → DigitsDiffer s t → OutlinedAlike s t store
 outline-hides-digits s t store d = alike (digits-unseen s t store d)
 
-pub outline-hides-contents : (s t store : List ℕ) (rs : List Rec) → outline First s ≡ done rs → ContentsDiffer rs s t → OutlinedAlike s t store
+pub outline-hides-contents : (s t store : List ℕ) (rs : List Rec) → outline s ≡ done rs → ContentsDiffer rs s t → OutlinedAlike s t store
 outline-hides-contents s t store rs e d = alike (contents-unseen s t store rs e d)
 
 pub read-gives-sound : (s store area : List ℕ) → readGives s store area .number ≡ 0 → sound (storeGiven s store area) (areaGiven s store area) ≡ true

@@ -10,7 +10,7 @@ use Rattle.places.specs.declared.Report.{Report}
 use Rattle.deciding.specs.declared.Decision.{Decision}
 use Rattle.deciding.specs.declared.Decision.the-variants.{Fits, Refused as RefusedText}
 use Rattle.grammar.specs.declared.Cause.{Cause}
-use Rattle.grammar.specs.declared.Cause.the-variants.{NotAscii, NoData, OpenFrame, Ragged, NoValue, NoItem, NoNames, OverLimit, NotParted, LongLine, BadName, ControlByte}
+use Rattle.grammar.specs.declared.Cause.the-variants.{NotAscii, NoData, OpenFrame, Ragged, NoValue, NoItem, NoNames, OverLimit}
 use Rattle.grammar.specs.Causes.{causeNumber, causeDetail}
 use Rattle.grammar.proofs.Causes.{cause-has-place}
 use Rattle.deciding.specs.Decisions.{Told, refusal, room, told}
@@ -39,11 +39,7 @@ causeIn n d =
     (cond (eqb n 5) (Ragged d)
     (cond (eqb n 6) (NoValue d)
     (cond (eqb n 7) (NoItem d)
-    (cond (eqb n 8) NoNames
-    (cond (eqb n 9) OverLimit
-    (cond (eqb n 15) NotParted
-    (cond (eqb n 16) LongLine
-    (cond (eqb n 17) BadName ControlByte))))))))))
+    (cond (eqb n 8) NoNames OverLimit))))))
 
 cause-back : (c : Cause) → causeIn (causeNumber c) (causeDetail c) ≡ c
 unfolding causeIn
@@ -55,10 +51,6 @@ cause-back (NoValue d) = refl
 cause-back (NoItem d) = refl
 cause-back NoNames = refl
 cause-back OverLimit = refl
-cause-back NotParted = refl
-cause-back LongLine = refl
-cause-back BadName = refl
-cause-back ControlByte = refl
 
 unfoldable refusalIn : Report → Refusal
 refusalIn p = cond (eqb (p .number) 1) TooLong (At (causeIn (p .number) (p .detail)) (placeIn p))
@@ -78,10 +70,6 @@ cause-low (NoValue d) = (refl, refl, refl)
 cause-low (NoItem d) = (refl, refl, refl)
 cause-low NoNames = (refl, refl, refl)
 cause-low OverLimit = (refl, refl, refl)
-cause-low NotParted = (refl, refl, refl)
-cause-low LongLine = (refl, refl, refl)
-cause-low BadName = (refl, refl, refl)
-cause-low ControlByte = (refl, refl, refl)
 
 unfoldable readingIn : Report → Reading
 readingIn p =

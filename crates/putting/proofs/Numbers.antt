@@ -5,7 +5,6 @@ use mathlib.Core.Bool.{true}
 use mathlib.Core.List.{List}
 use native.Mathlib.Omega.{arith}
 use lib.ListN.{take, drop}
-use Rattle.rules.specs.declared.Reading.the-variants.{First}
 use Rattle.numbers.specs.declared.Decimal.{Decimal}
 use Rattle.numbers.specs.Parts.{parts, within}
 use Rattle.numbers.specs.Meaning.{meaning}
@@ -29,11 +28,11 @@ pub record NumberToken (s : List ℕ) (o k n : ℕ) : Type 0 where
 pub number-token : (s : List ℕ) (o k n : ℕ) → ValueHere s o k n → 14 ≤ k → NumberToken s o k n
 unfolding decimalOf tokenText
 number-token s o k n h l =
-    let f = found-number First s o k n (h .found) l (found-lies First s o k n (h .found) .high) in
-    let b = number-facts First (take n (drop o s)) _ (f .number) in
+    let f = found-number s o k n (h .found) l in
+    let b = number-facts (take n (drop o s)) _ (f .number) in
     record {
       token = found-token s o k n (h .found);
-      most = found-lies First s o k n (h .found) .high;
+      most = found-lies s o k n (h .found) .high;
       kind = f .kind;
       limits = f .kept;
       places = omega (arith, b .places);

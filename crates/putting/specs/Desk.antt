@@ -5,7 +5,6 @@ use mathlib.Core.Bool.{Bool, true, false, cond}
 use mathlib.Core.List.{List, [], _∷_}
 use lib.Dec.{eqb}
 use lib.ListN.{length, drop, getD}
-use Rattle.rules.specs.declared.Reading.the-variants.{First}
 use Rattle.text.specs.Bytes.{isEol}
 use Rattle.gaps.specs.Gaps.{gap}
 use Rattle.places.specs.Places.{placeAt, IsPlace}
@@ -72,7 +71,7 @@ pub record WroteOne (full : Bool) (s : List ℕ) (n : ℕ) (r : Rec) (o : ℕ) (
 -- a value of kind k and n bytes stands at offset o, where no space does
 pub record ValueHere (s : List ℕ) (o k n : ℕ) : Type 0 where
   pub bare : gap (drop o s) ≡ 0
-  pub found : foundAt First s o ≡ Value k n
+  pub found : foundAt s o ≡ Value k n
 
 -- there is room in the store l for one record
 abbrev pub StoreRoom : Bool → Rec → Cursor → List ℕ → Type 0

@@ -7,7 +7,6 @@ use native.Mathlib.Omega.{arith}
 use borrow.Author.Tests.{lt-ltb, le-ltb}
 use lib.Dec.{ltb}
 use lib.ListN.{length}
-use Rattle.rules.specs.declared.Reading.the-variants.{First}
 use Rattle.places.specs.Reports.{success, noRoom}
 use Rattle.records.specs.Put.{front}
 use Rattle.sizes.specs.declared.Sizes.{Sizes}
@@ -32,7 +31,7 @@ unfolding readingReport readAnswer readStore readArea readBy readStoreBy readAre
 read-refused s l a r i = (rw (i .answer) (i .report), (rw (i .answer), rw (i .answer)))
 
 -- room, for records whose lengths are m and k
-module _ (s l a : List ℕ) (rs : List Rec) (e : outline First s ≡ done rs) (m k : ℕ) (p : m ≡ storeSize rs) (q : k ≡ areaSize rs) where
+module _ (s l a : List ℕ) (rs : List Rec) (e : outline s ≡ done rs) (m k : ℕ) (p : m ≡ storeSize rs) (q : k ≡ areaSize rs) where
   pub no-store : length l < m → (readingReport (StoreFull m k) ≡ readAnswer s (length l) (length a)) × ((l ≡ readStore s l (length a)) × (a ≡ readArea s (length l) a))
   unfolding readingReport readAnswer readStore readArea readBy readStoreBy readAreaBy readRoom writtenIf noRoom
   no-store h =
@@ -63,7 +62,7 @@ need-area s z i = ap (λ (x : Sizes). x .area) (i .sizes ∙ sizes-of (i .record
 
 -- what the write pass asks, and what it leaves behind, where there is room for the records
 module _ (s : List ℕ) (z : Sizes) (i : IsRead s z) where
-  abbrev text : (length s ≤ limit) × (decided First s ≡ done (i .records))
+  abbrev text : (length s ≤ limit) × (decided s ≡ done (i .records))
   text = outline-read s (i .records) (i .answer)
 
   pub read-asks : (l a : List ℕ) → z .store ≤ length l → z .area ≤ length a → Fits true s l a

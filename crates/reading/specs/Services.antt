@@ -5,7 +5,6 @@ use mathlib.Core.Bool.{true, cond}
 use mathlib.Core.List.{List}
 use lib.Dec.{eqb, ltb}
 use lib.ListN.{length}
-use Rattle.rules.specs.declared.Reading.the-variants.{First}
 use Rattle.places.specs.Reports.{success, noRoom}
 use Rattle.places.specs.declared.Report.{Report}
 use Rattle.grammar.specs.Machine.{Rec, Answer, refused, done}
@@ -28,7 +27,7 @@ readBy s m k (done rs) = readRoom m k rs
 
 -- READ: the answer for a text and lent buffers of these lengths
 unfoldable pub readAnswer : List ℕ → ℕ → ℕ → Report
-readAnswer s m k = readBy s m k (outline First s)
+readAnswer s m k = readBy s m k (outline s)
 
 unfoldable pub readStoreBy : List ℕ → List ℕ → ℕ → Answer → List ℕ
 readStoreBy s l k (refused n o d) = l
@@ -40,10 +39,10 @@ readAreaBy s m l (done rs) = writtenIf (eqb (readRoom m (length l) rs .number) 0
 
 -- READ: the store (l before, an area of k bytes beside it) and the area (l before, a store of m bytes beside it) afterwards
 unfoldable pub readStore : List ℕ → List ℕ → ℕ → List ℕ
-readStore s l k = readStoreBy s l k (outline First s)
+readStore s l k = readStoreBy s l k (outline s)
 
 unfoldable pub readArea : List ℕ → ℕ → List ℕ → List ℕ
-readArea s m l = readAreaBy s m l (outline First s)
+readArea s m l = readAreaBy s m l (outline s)
 
 -- document 01's numbers for each case of the code's answer
 unfoldable pub readingReport : Reading → Report

@@ -8,7 +8,6 @@ use native.Mathlib.Omega.{arith}
 use borrow.Author.Tests.{eqb-true, ltb-true, leb-true, leb-false, ltb-false}
 use lib.Dec.{eqb, leb, ltb}
 use lib.ListN.{length, take, drop, length-append, length-take, length-drop}
-use Rattle.rules.specs.declared.Reading.the-variants.{First}
 use Rattle.text.specs.Bytes.{is, isAscii, isDigit, endsWord}
 use Rattle.text.specs.Runs.{span}
 use Rattle.text.proofs.Bools.{and-l, and-r, or-cases}
@@ -113,29 +112,29 @@ name-length c e = eqb-true (word c) (length c) e
 pub reads-tag : (f : Bool) (c : List ℕ) → isName c ≡ true → Reads f (95 ∷ c) tag
 unfolding Reads lexed word span inWord endsWord is
 reads-tag f c e =
-    record { reads = lex-tag 10 (modeOf f) 95 c refl ∙ ap (λ (n : ℕ). lexed tag (suc n)) (name-length c e); fills = refl; some-bytes = omega arith }
+    record { reads = lex-tag (modeOf f) 95 c refl ∙ ap (λ (n : ℕ). lexed tag (suc n)) (name-length c e); fills = refl; some-bytes = omega arith }
 
 pub reads-loop : (f : Bool) → Reads f keyLoop loop
 unfolding Reads lexed keyLoop starts lower is
-reads-loop f = record { reads = lex-loop 10 (modeOf f) 108 _ refl; fills = refl; some-bytes = omega arith }
+reads-loop f = record { reads = lex-loop (modeOf f) 108 _ refl; fills = refl; some-bytes = omega arith }
 
 pub reads-shut : Reads true keySave save
 unfolding Reads lexed keySave starts lower is modeOf saveSize
-reads-shut = record { reads = lex-save 10 inFrame 115 _ refl; fills = refl; some-bytes = omega arith }
+reads-shut = record { reads = lex-save inFrame 115 _ refl; fills = refl; some-bytes = omega arith }
 
 pub reads-open : (c : List ℕ) → isName c ≡ true → Reads false (keySave ++ c) save
 unfolding Reads lexed keySave starts lower is modeOf saveSize word span inWord endsWord
 reads-open c e =
-    record { reads = lex-save 10 inBlock 115 _ refl ∙ ap (λ (n : ℕ). lexed save (suc (suc (suc (suc (suc n)))))) (name-length c e); fills = refl; some-bytes = omega arith }
+    record { reads = lex-save inBlock 115 _ refl ∙ ap (λ (n : ℕ). lexed save (suc (suc (suc (suc (suc n)))))) (name-length c e); fills = refl; some-bytes = omega arith }
 
 -- w alone is a value of kind k
 pub alone-reads : (f : Bool) (k : ℕ) (w : List ℕ) → isAlone k w ≡ true → Reads f w (value k)
 unfolding Reads lexed isAlone
 alone-reads f k w e =
-    let c = kind-class (lexAsValue First 10 w .class) (and-l (isKind k (lexAsValue First 10 w .class)) _ e) in
-    let n : lexAsValue First 10 w .size ≡ length w = eqb-true (lexAsValue First 10 w .size) (length w) (and-r (isKind k (lexAsValue First 10 w .class)) _ e) in
-    let x : lexAsValue First 10 w ≡ lexed (value k) (length w) = λ i. record { class = c i; size = n i } in
-    let l : Lies First w k (length w) = value-lies First 10 w k (length w) x in
+    let c = kind-class (lexAsValue w .class) (and-l (isKind k (lexAsValue w .class)) _ e) in
+    let n : lexAsValue w .size ≡ length w = eqb-true (lexAsValue w .size) (length w) (and-r (isKind k (lexAsValue w .class)) _ e) in
+    let x : lexAsValue w ≡ lexed (value k) (length w) = λ i. record { class = c i; size = n i } in
+    let l : Lies w k (length w) = value-lies w k (length w) x in
     record { reads = in-any-mode (modeOf f) w k (length w) x; fills = refl; some-bytes = l .pos }
   where
     kind-class : (c : Class) → isKind k c ≡ true → c ≡ value k

@@ -8,7 +8,6 @@ use borrow.Author.Tests.{eqb-true, eqb-false, leb-true}
 use lib.Dec.{leb, eqb}
 use lib.ListN.{length, take}
 use lib.Seq.{take-length}
-use Rattle.rules.specs.declared.Reading.the-variants.{First}
 use Rattle.text.specs.Bytes.{isDigit, is, endsWord}
 use Rattle.text.specs.Runs.{span}
 use Rattle.text.proofs.Bools.{and-l, and-r}
@@ -58,7 +57,7 @@ word-all (b ∷ w) e = rw (and-l (inWord b) (all inWord w) e) (ap suc (word-all 
 
 -- a word that starts with a digit or `-` is bare text or a number
 StartsBare : Mode → List ℕ → ℕ → Type 0
-StartsBare m s b = lexIn First 10 m (b ∷ s) ≡ wordOr First (lexed (value 10) (word (b ∷ s))) (b ∷ s)
+StartsBare m s b = lexIn m (b ∷ s) ≡ wordOr (lexed (value 10) (word (b ∷ s))) (b ∷ s)
 
 minus-bare : (m : Mode) (s : List ℕ) → StartsBare m s 45
 unfolding StartsBare lexIn starts keyData keyGlobal keyStop keyLoop keySave lower is lexValue isOrdinary
@@ -68,16 +67,16 @@ digit-bare : (m : Mode) (s : List ℕ) (b : ℕ) → isDigit b ≡ true → Star
 unfolding StartsBare lexIn starts keyData keyGlobal keyStop keyLoop keySave lower is lexValue isOrdinary
 digit-bare m s = digit-cases (λ b. StartsBare m s b) (refl, (refl, (refl, (refl, (refl, (refl, (refl, (refl, (refl, (refl, tt))))))))))
 
-digits-bare : (m : Mode) (p r : List ℕ) → isEmpty p ≡ false → allDigits p ≡ true → lexIn First 10 m (p ++ r) ≡ wordOr First (lexed (value 10) (word (p ++ r))) (p ++ r)
+digits-bare : (m : Mode) (p r : List ℕ) → isEmpty p ≡ false → allDigits p ≡ true → lexIn m (p ++ r) ≡ wordOr (lexed (value 10) (word (p ++ r))) (p ++ r)
 unfolding isEmpty allDigits StartsBare
 digits-bare m [] r n a = absurd (true≢false n)
 digits-bare m (d ∷ p) r n a = digit-bare m (p ++ r) d (and-l (isDigit d) (allDigits p) a)
 
-number-bare : (m : Mode) (d : Decimal) → lexIn First 10 m (renderNumber d) ≡ wordOr First (lexed (value 10) (word (renderNumber d))) (renderNumber d)
+number-bare : (m : Mode) (d : Decimal) → lexIn m (renderNumber d) ≡ wordOr (lexed (value 10) (word (renderNumber d))) (renderNumber d)
 unfolding renderNumber StartsBare signBytes
 number-bare m d = go (d .minus) (plain (d .integer)) _ (some-plain (d .integer)) (digits-plain (d .integer))
   where
-    go : (b : Bool) (p r : List ℕ) → isEmpty p ≡ false → allDigits p ≡ true → lexIn First 10 m (signBytes b ++ (p ++ r)) ≡ wordOr First (lexed (value 10) (word (signBytes b ++ (p ++ r)))) (signBytes b ++ (p ++ r))
+    go : (b : Bool) (p r : List ℕ) → isEmpty p ≡ false → allDigits p ≡ true → lexIn m (signBytes b ++ (p ++ r)) ≡ wordOr (lexed (value 10) (word (signBytes b ++ (p ++ r)))) (signBytes b ++ (p ++ r))
     go true p r n a = minus-bare m (p ++ r)
     go false p r n a = digits-bare m p r n a
 

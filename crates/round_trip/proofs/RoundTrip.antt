@@ -12,7 +12,6 @@ use borrow.Author.Tests.{eqb-true, le-ltb}
 use lib.Dec.{eqb}
 use lib.ListN.{length, take, drop}
 use lib.Seq.{take-append-seam}
-use Rattle.rules.specs.declared.Reading.the-variants.{First}
 use Rattle.text.specs.Bytes.{is, isSpace, isAscii, endsWord}
 use Rattle.gaps.specs.Gaps.{gap, gapIn, gapByte, gapThen}
 use Rattle.text.specs.Runs.{span}
@@ -29,8 +28,7 @@ use Rattle.kinds.specs.declared.Kind.{Kind}
 use Rattle.kinds.specs.declared.Kind.the-variants.{Block}
 use Rattle.kinds.specs.Kinds.{kindOf, numberOf, shapeOf, isContent}
 use Rattle.records.specs.Put.{front}
-use Rattle.grammar.proofs.First.{firstTokens, tokens-first}
-use Rattle.grammar.specs.Tokens.{before, inBlock, lex, after, tok, tokens}
+use Rattle.grammar.specs.Tokens.{before, inBlock, lex, after, tok, tokensFrom, tokens}
 use Rattle.grammar.specs.Machine.{Rec, done, start, config, go, rec, loopEnd, atStart, move, follow, run}
 use Rattle.grammar.specs.Reading.{decided, outline}
 use Rattle.text.specs.Limits.{limit}
@@ -86,14 +84,14 @@ data-no-gap b s t e = go (gapByte false b) refl
     go true q = absurd (no q)
     go false q = refl
 
-head-step : (w t : List ℕ) (o : ℕ) → Head w → firstTokens (w ++ 10 ∷ t) 0 before o ≡ tok (lexed block (length w)) o ∷ firstTokens t 0 inBlock (suc (o + length w))
+head-step : (w t : List ℕ) (o : ℕ) → Head w → tokensFrom (w ++ 10 ∷ t) 0 before o ≡ tok (lexed block (length w)) o ∷ tokensFrom t 0 inBlock (suc (o + length w))
 unfolding lex after lexed starts keyData
 head-step [] t o h = absurd (false≢true (h .opens))
 head-step (b ∷ s) t o h =
     advance₀ before b s t (lexed block (length (b ∷ s))) o (data-no-gap b s (s ++ 10 ∷ t) (h .opens))
     (rw (data-ended (b ∷ s) t, h .opens, word-ended (b ∷ s) t, h .fills)) refl
 
-run-reads : (w : List ℕ) (es : List Line) → Head w → Nested false (at-items false) es → run First (firstTokens (render (line 1 w ∷ es)) 0 before 0) (config start none [] []) ≡ done (recsAt 0 (line 1 w ∷ es))
+run-reads : (w : List ℕ) (es : List Line) → Head w → Nested false (at-items false) es → run (tokensFrom (render (line 1 w ∷ es)) 0 before 0) (config start none [] []) ≡ done (recsAt 0 (line 1 w ∷ es))
 unfolding render recsAt run move atStart follow config rec tok lexed modeOf stateOf frameOf Held
 run-reads w es h n =
     rw (head-step w (render es) 0 h) (trip n (suc (0 + length w)) 0 0 _ [] refl)
@@ -106,13 +104,13 @@ head-of ar f h =
     record { opens = refl; fills = ap (λ (n : ℕ). suc (suc (suc (suc (suc n))))) (eqb-true (word c) (length c) (by-kind ar f Block refl h)) }
 
 -- what the machine reads of a sound store's rendering
-lines-read : (ar : List ℕ) {a n : ℕ} {es : List Entry} → Filled ar a n es → nestedFrom es false Start ≡ true → run First (firstTokens (render (linesFor ar es)) 0 before 0) (config start none [] []) ≡ done (recsAt 0 (linesFor ar es))
+lines-read : (ar : List ℕ) {a n : ℕ} {es : List Entry} → Filled ar a n es → nestedFrom es false Start ≡ true → run (tokensFrom (render (linesFor ar es)) 0 before 0) (config start none [] []) ≡ done (recsAt 0 (linesFor ar es))
 unfolding nestedFrom ended standing follows linesFor lineFor isEnd
 lines-read ar (full e) q = absurd (false≢true q)
 lines-read ar (more {es = es} {k = k} {f = f} {next = next} h z g) q = by (eqb (numberOf k) 1) refl q
   where
     by : (t : Bool) → eqb (numberOf k) 1 ≡ t → follows (cond t (Stands false (Items false)) Falls) (λ f w. nestedFrom es f w) ≡ true
-        → run First (firstTokens (render (lineFor ar (Record k f next) ∷ linesFor ar es)) 0 before 0) (config start none [] []) ≡ done (recsAt 0 (lineFor ar (Record k f next) ∷ linesFor ar es))
+        → run (tokensFrom (render (lineFor ar (Record k f next) ∷ linesFor ar es)) 0 before 0) (config start none [] []) ≡ done (recsAt 0 (lineFor ar (Record k f next) ∷ linesFor ar es))
     by true t q = let e : k ≡ Block = unfold kindOf in of-number k 1 t in rw e (run-reads (wordFor ar Block f) (linesFor ar es) (head-of ar f (rw e at h)) (nested-lines ar g q))
     by false t q = absurd (false≢true q)
 
@@ -135,19 +133,19 @@ records st ar = recsAt 0 (linesFor ar (entries st))
 
 -- THE RENDERING IS READ, and its records say what the store's say
 record Back (st ar : List ℕ) : Type 0 where
-  read : outline First (rendering st ar) ≡ done (records st ar)
+  read : outline (rendering st ar) ≡ done (records st ar)
   same : map (told (rendering st ar)) (records st ar) ≡ sayings st ar
   store : storeSize (records st ar) ≡ length st
   area : areaSize (records st ar) ≡ length ar
 
 back : (st ar : List ℕ) → Bytes st → sound st ar ≡ true → length (rendering st ar) ≤ limit → Back st ar
-unfolding rendering outline decided records sayings
+unfolding rendering outline decided tokens records sayings
 back st ar b e l =
     let s = sound-of st ar b e in
     let t = render-lines ar (entries st) in
     let a : span isAscii (linesOf ar (entries st)) ≡ length (linesOf ar (entries st)) = all-span isAscii (linesOf ar (entries st)) (lines-ascii ar (s .filling)) in
     record {
-      read = rw (le-ltb limit _ l, le-ltb (span isAscii (linesOf ar (entries st))) (length (linesOf ar (entries st))) (omega arith), t, tokens-first) (lines-read ar (s .filling) (s .nesting));
+      read = rw (le-ltb limit _ l, le-ltb (span isAscii (linesOf ar (entries st))) (length (linesOf ar (entries st))) (omega arith), t) (lines-read ar (s .filling) (s .nesting));
       same = rw t (all-same ar (s .filling) [] 0 refl);
       store = store-same ar (s .filling) 0;
       area = omega (arith, area-same ar (s .filling) 0);

@@ -8,10 +8,8 @@ use mathlib.Core.Option.{Option, none, some}
 use borrow.Author.Tests.{eq-eqb}
 use native.Mathlib.Nat.{zero-mod}
 use lib.ListN.{length}
-use Rattle.rules.specs.declared.Reading.the-variants.{First}
 use Rattle.values.specs.Values.{Class, loop, save, tag, value, nothing, atEnd, lexed}
-use Rattle.grammar.proofs.First.{firstTokens, tokens-first}
-use Rattle.grammar.specs.Tokens.{inBlock, inFrame, lexIn, lex, after, Tok, tok, headWhy}
+use Rattle.grammar.specs.Tokens.{inBlock, inFrame, lexIn, lex, after, Tok, tok, tokensFrom, headWhy}
 use Rattle.grammar.specs.Machine.{Rec, done, State, items, names, values, wants, config, rec, loopEnd, atItem, loopEnds, atValue, noMoreNames, atName, atWant, move, follow, run, reason}
 use Rattle.grammar.proofs.Advance.{Whole, advance}
 use Rattle.grammar.proofs.Descent.{behindItem, any-detail}
@@ -37,7 +35,7 @@ pub data Nested : Bool → Where → List Line → Type 0 where
   shut : {es : List Line} (e : Bool) (w : List ℕ) → Reads true w save → Nested false (at-items false) es → Nested true (at-items e) (line 3 w ∷ es)
 
 -- a token, an LF and the rest
-pass : (f : Bool) (w t : List ℕ) (c : Class) (o : ℕ) → Reads f w c → firstTokens (w ++ 10 ∷ t) 0 (modeOf f) o ≡ tok (lexed c (length w)) o ∷ firstTokens t 0 (after c (modeOf f)) (suc (o + length w))
+pass : (f : Bool) (w t : List ℕ) (c : Class) (o : ℕ) → Reads f w c → tokensFrom (w ++ 10 ∷ t) 0 (modeOf f) o ≡ tok (lexed c (length w)) o ∷ tokensFrom t 0 (after c (modeOf f)) (suc (o + length w))
 unfolding Reads lexed modeOf lex
 pass true w t c o h = advance inFrame w t (lexed c (length w)) o h refl
 pass false w t c o h = advance inBlock w t (lexed c (length w)) o h refl
@@ -66,15 +64,15 @@ data Begins : Bool → Class → Type 0 where
   by-save : (e : Bool) → Begins e save
   by-end : (e : Bool) → Begins e (nothing atEnd)
 
-record Begun (f e : Bool) (es : List Line) (o : ℕ) : Type 0 where
+record First (f e : Bool) (es : List Line) (o : ℕ) : Type 0 where
   t : Tok
   ts : List Tok
-  reads : firstTokens (render es) 0 (modeOf f) o ≡ t ∷ ts
+  reads : tokensFrom (render es) 0 (modeOf f) o ≡ t ∷ ts
   begins : Begins e (t .class)
 
-first-token : {f e : Bool} {es : List Line} → Nested f (at-items e) es → (o : ℕ) → Begun f e es o
-unfolding render firstTokens modeOf lex lexIn lexed tok
-first-token (over e) o = record { t = tok (lex First 10 inBlock []) o; ts = []; reads = refl; begins = by-end e }
+first-token : {f e : Bool} {es : List Line} → Nested f (at-items e) es → (o : ℕ) → First f e es o
+unfolding render tokensFrom modeOf lex lexIn lexed tok
+first-token (over e) o = record { t = tok (lex inBlock []) o; ts = []; reads = refl; begins = by-end e }
 first-token (tagged {f} {es} w r n) o = record { t = _; ts = _; reads = pass f w (render es) tag o r; begins = by-tag }
 first-token (looped {f} {es} e w r n) o = record { t = _; ts = _; reads = pass f w (render es) loop o r; begins = by-loop e }
 first-token (opened {es} e w r n) o = record { t = _; ts = _; reads = pass false w (render es) save o r; begins = by-save e }
@@ -82,12 +80,12 @@ first-token (shut {es} e w r n) o = record { t = _; ts = _; reads = pass true w 
 
 -- a loop's end has no token: the next one ends it
 ends-loop : (a n j : ℕ) (fr : Option ℕ) (out held : List Rec) (t : Tok) (ts : List Tok) → j % n ≡ 0
-    → loopEnds First a n j fr out held t ≡ atItem First (behindItem fr true (t ∷ ts)) fr (out ++ held ++ (loopEnd ∷ [])) (t .class) t
+    → loopEnds a n j fr out held t ≡ atItem (behindItem fr true (t ∷ ts)) fr (out ++ held ++ (loopEnd ∷ [])) (t .class) t
 unfolding loopEnds behindItem headWhy reason
 ends-loop a n j fr out held t ts z = rw (eq-eqb (j % n) 0 z)
 
 values-end : {e : Bool} {c : Class} (a n j : ℕ) (fr : Option ℕ) (out held : List Rec) (t : Tok) (ts : List Tok) → Begins e c → j % n ≡ 0
-    → atValue First a n j fr out held c t ≡ atItem First (behindItem fr true (t ∷ ts)) fr (out ++ held ++ (loopEnd ∷ [])) (t .class) t
+    → atValue a n j fr out held c t ≡ atItem (behindItem fr true (t ∷ ts)) fr (out ++ held ++ (loopEnd ∷ [])) (t .class) t
 unfolding atValue
 values-end a n j fr out held t ts by-tag z = ends-loop a n j fr out held t ts z
 values-end a n j fr out held t ts (by-loop e) z = ends-loop a n j fr out held t ts z
@@ -95,34 +93,34 @@ values-end a n j fr out held t ts (by-save e) z = ends-loop a n j fr out held t 
 values-end a n j fr out held t ts (by-end e) z = ends-loop a n j fr out held t ts z
 
 names-end : {c : Class} (a n : ℕ) (fr : Option ℕ) (out held : List Rec) (t : Tok) (ts : List Tok) → Begins true c → t .class ≡ c
-    → atName First a (suc n) fr out held c t ≡ atItem First (behindItem fr true (t ∷ ts)) fr (out ++ held ++ (loopEnd ∷ [])) (t .class) t
+    → atName a (suc n) fr out held c t ≡ atItem (behindItem fr true (t ∷ ts)) fr (out ++ held ++ (loopEnd ∷ [])) (t .class) t
 unfolding atName noMoreNames
-names-end a n fr out held t ts (by-loop e) q = ap (λ c. atValue First a (suc n) 0 fr out held c t) q ∙ values-end a (suc n) 0 fr out held t ts (by-loop e) (zero-mod (suc n))
-names-end a n fr out held t ts (by-save e) q = ap (λ c. atValue First a (suc n) 0 fr out held c t) q ∙ values-end a (suc n) 0 fr out held t ts (by-save e) (zero-mod (suc n))
-names-end a n fr out held t ts (by-end e) q = ap (λ c. atValue First a (suc n) 0 fr out held c t) q ∙ values-end a (suc n) 0 fr out held t ts (by-end e) (zero-mod (suc n))
+names-end a n fr out held t ts (by-loop e) q = ap (λ c. atValue a (suc n) 0 fr out held c t) q ∙ values-end a (suc n) 0 fr out held t ts (by-loop e) (zero-mod (suc n))
+names-end a n fr out held t ts (by-save e) q = ap (λ c. atValue a (suc n) 0 fr out held c t) q ∙ values-end a (suc n) 0 fr out held t ts (by-save e) (zero-mod (suc n))
+names-end a n fr out held t ts (by-end e) q = ap (λ c. atValue a (suc n) 0 fr out held c t) q ∙ values-end a (suc n) 0 fr out held t ts (by-end e) (zero-mod (suc n))
 
 -- what is read behind the loop is what is read where its list has ended
 values-wait : {f e : Bool} {es : List Line} → Nested f (at-items e) es → (o a n j : ℕ) (fr : Option ℕ) (out held rs : List Rec) → j % n ≡ 0
-    → run First (firstTokens (render es) 0 (modeOf f) o) (config (items 0) fr (out ++ held ++ (loopEnd ∷ [])) []) ≡ done rs
-    → run First (firstTokens (render es) 0 (modeOf f) o) (config (values a n j) fr out held) ≡ done rs
+    → run (tokensFrom (render es) 0 (modeOf f) o) (config (items 0) fr (out ++ held ++ (loopEnd ∷ [])) []) ≡ done rs
+    → run (tokensFrom (render es) 0 (modeOf f) o) (config (values a n j) fr out held) ≡ done rs
 unfolding run move config
 values-wait {f} {es = es} d o a n j fr out held rs z h =
     let x = first-token d o in
     let y = any-detail 0 (behindItem fr true (x .t ∷ x .ts)) fr (x .t ∷ x .ts) (out ++ held ++ (loopEnd ∷ [])) rs (rw (x .reads) at h) in
-    rw (x .reads) (ap (λ m. follow m (λ c. run First (x .ts) c)) (values-end a n j fr out held (x .t) (x .ts) (x .begins) z) ∙ y)
+    rw (x .reads) (ap (λ m. follow m (λ c. run (x .ts) c)) (values-end a n j fr out held (x .t) (x .ts) (x .begins) z) ∙ y)
 
 names-wait : {f : Bool} {es : List Line} → Nested f (at-items true) es → (o a n : ℕ) (fr : Option ℕ) (out held rs : List Rec)
-    → run First (firstTokens (render es) 0 (modeOf f) o) (config (items 0) fr (out ++ held ++ (loopEnd ∷ [])) []) ≡ done rs
-    → run First (firstTokens (render es) 0 (modeOf f) o) (config (names a (suc n)) fr out held) ≡ done rs
+    → run (tokensFrom (render es) 0 (modeOf f) o) (config (items 0) fr (out ++ held ++ (loopEnd ∷ [])) []) ≡ done rs
+    → run (tokensFrom (render es) 0 (modeOf f) o) (config (names a (suc n)) fr out held) ≡ done rs
 unfolding run move config
 names-wait {f} {es} d o a n fr out held rs h =
     let x = first-token d o in
     let y = any-detail 0 (behindItem fr true (x .t ∷ x .ts)) fr (x .t ∷ x .ts) (out ++ held ++ (loopEnd ∷ [])) rs (rw (x .reads) at h) in
-    rw (x .reads) (ap (λ m. follow m (λ c. run First (x .ts) c)) (names-end a n fr out held (x .t) (x .ts) (x .begins) refl) ∙ y)
+    rw (x .reads) (ap (λ m. follow m (λ c. run (x .ts) c)) (names-end a n fr out held (x .t) (x .ts) (x .begins) refl) ∙ y)
 
 pub trip : {f : Bool} {w : Where} {es : List Line} → Nested f w es → (o a fo : ℕ) (out held : List Rec) → Held w held
-    → run First (firstTokens (render es) 0 (modeOf f) o) (config (stateOf w a) (frameOf f fo) out held) ≡ done (out ++ held ++ recsAt o es)
-unfolding run follow config stateOf frameOf render recsAt move Held tok lexed rec atItem atWant atName atValue noMoreNames after firstTokens lex lexIn modeOf
+    → run (tokensFrom (render es) 0 (modeOf f) o) (config (stateOf w a) (frameOf f fo) out held) ≡ done (out ++ held ++ recsAt o es)
+unfolding run follow config stateOf frameOf render recsAt move Held tok lexed rec atItem atWant atName atValue noMoreNames after tokensFrom lex lexIn modeOf
 trip (over e) o a fo out held h = rw h (ap done (simp append-nil))
 trip (tagged {f} {es} w r n) o a fo out held h = rw (pass f w (render es) tag o r, h) (trip n (suc (o + length w)) o fo out _ tt ∙ ap done (simp (append-assoc, append-nil)))
 trip (valued {f} {es} k w r n) o a fo out held h = rw (pass f w (render es) (value k) o r) (trip n (suc (o + length w)) a fo _ [] refl ∙ ap done (simp (append-assoc, append-nil)))

@@ -8,7 +8,6 @@ use mathlib.Core.Option.{Option, none, some}
 use native.Mathlib.Omega.{arith}
 use lib.ListN.{length, take, length-take}
 use lib.Seq.{take-take, length-take-le}
-use Rattle.rules.specs.declared.Reading.the-variants.{First}
 use Rattle.text.specs.Bytes.{is, isEol}
 use Rattle.text.specs.Runs.{span}
 use Rattle.text.proofs.Bools.{and-l, and-r, or-l, or-r}
@@ -76,7 +75,7 @@ starts-part (c ∷ k) (b ∷ s) (suc n) e = by (is c (lower b)) e (starts-part k
     by true e f = f e
     by false e f = refl
 
-reserved-part : (s : List ℕ) (n : ℕ) → reserved First s ≡ false → reserved First (take n s) ≡ false
+reserved-part : (s : List ℕ) (n : ℕ) → reserved s ≡ false → reserved (take n s) ≡ false
 unfolding reserved
 reserved-part s n e =
     let d = starts keyData s in
@@ -118,7 +117,7 @@ module _ (k n : ℕ) (low : 10 ≤ k) (high : k ≤ 13) (pos : 0 < n) where
   not-that j i f e = absurd (f (kind-is j i e .0))
 
   -- a number has another kind
-  no-number : (x : Lexed) (s : List ℕ) → Is (wordOr First x s) → (isNumber (parts (take (word s) s)) ≡ false) × Is x
+  no-number : (x : Lexed) (s : List ℕ) → Is (wordOr x s) → (isNumber (parts (take (word s) s)) ≡ false) × Is x
   unfolding Is wordOr numberOr lexed
   no-number x s = by (isNumber (parts (take (word s) s))) (within (parts (take (word s) s))) (parts (take (word s) s) .unc .here)
     where
@@ -134,7 +133,7 @@ module _ (k n : ℕ) (low : 10 ≤ k) (high : k ≤ 13) (pos : 0 < n) where
   closed-again j why (some i) o′ f e = let q = kind-is j (suc i) e in rw (f i refl (omega (arith, q .1))) e
 
   -- a bare word
-  bare-again : (s : List ℕ) → Is (wordOr First (lexed (value 10) (word s)) s) → Is (wordOr First (lexed (value 10) (word (take n s))) (take n s))
+  bare-again : (s : List ℕ) → Is (wordOr (lexed (value 10) (word s)) s) → Is (wordOr (lexed (value 10) (word (take n s))) (take n s))
   unfolding wordOr numberOr
   bare-again s e =
       let q = no-number (lexed (value 10) (word s)) s e in
@@ -143,7 +142,7 @@ module _ (k n : ℕ) (low : 10 ≤ k) (high : k ≤ 13) (pos : 0 < n) where
       let p : take (word s) (take n s) ≡ take (word s) s = take-take (word s) n s (omega arith) in
       rw (w, p) e
 
-  value-again : (b : ℕ) (t : List ℕ) → Is (lexValue First 10 b t) → Is (lexValue First 10 b (take (n - 1) t))
+  value-again : (b : ℕ) (t : List ℕ) → Is (lexValue b t) → Is (lexValue b (take (n - 1) t))
   unfolding lexValue
   value-again b t =
       along (is 46 b) _ _ _ _ (λ _ e. not-that 8 1 (λ q. omega arith) (no-number (lexed (value 8) 1) (b ∷ t) e .1))
@@ -154,11 +153,11 @@ module _ (k n : ℕ) (low : 10 ≤ k) (high : k ≤ 13) (pos : 0 < n) where
       (λ _. along (isOrdinary b) _ _ _ _ (λ _ e. rw (take-cons n b t pos) at (bare-again (b ∷ t) e)) (λ _ e. e))))))
 
   -- THE VALUE, taken out of the text, is read as before
-  pub alone-again : (s : List ℕ) → lexAsValue First 10 s ≡ lexed (value k) n → lexAsValue First 10 (take n s) ≡ lexed (value k) n
+  pub alone-again : (s : List ℕ) → lexAsValue s ≡ lexed (value k) n → lexAsValue (take n s) ≡ lexed (value k) n
   unfolding lexAsValue Is lexed
   alone-again [] e = let q : nothing atEnd ≡ value k = ap (λ (x : Lexed). x .class) e in never (cc)
-  alone-again (b ∷ t) e = rw (take-cons n b t pos) (by (reserved First (b ∷ t)) refl e)
+  alone-again (b ∷ t) e = rw (take-cons n b t pos) (by (reserved (b ∷ t)) refl e)
     where
-      by : (x : Bool) → reserved First (b ∷ t) ≡ x → cond x (lexed (nothing reservedWord) 0) (lexValue First 10 b t) ≡ lexed (value k) n → cond (reserved First (b ∷ take (n - 1) t)) (lexed (nothing reservedWord) 0) (lexValue First 10 b (take (n - 1) t)) ≡ lexed (value k) n
+      by : (x : Bool) → reserved (b ∷ t) ≡ x → cond x (lexed (nothing reservedWord) 0) (lexValue b t) ≡ lexed (value k) n → cond (reserved (b ∷ take (n - 1) t)) (lexed (nothing reservedWord) 0) (lexValue b (take (n - 1) t)) ≡ lexed (value k) n
       by true q e = let z : nothing reservedWord ≡ value k = ap (λ (x : Lexed). x .class) e in never (cc)
       by false q e = rw (rw (take-cons n b t pos) at (reserved-part (b ∷ t) n q)) (value-again b t e)

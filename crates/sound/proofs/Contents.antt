@@ -10,7 +10,6 @@ use borrow.Author.Tests.{eq-eqb, le-leb, lt-ltb, le-ltb}
 use lib.Dec.{eqb, leb, ltb}
 use lib.ListN.{length, take, drop, getD, length-drop}
 use lib.Seq.{take-suc, drop-drop, length-take-le}
-use Rattle.rules.specs.declared.Reading.the-variants.{First}
 use Rattle.text.specs.Bytes.{isAscii, endsWord}
 use Rattle.text.specs.Runs.{span}
 use Rattle.text.proofs.Bools.{and-l, and-r}
@@ -80,7 +79,7 @@ between m s t (suc n) q e =
 markOf : ℕ → ℕ
 markOf k = cond (eqb k 11) 39 (cond (eqb k 12) 34 59)
 
-read-between : (s : List ℕ) (x : Lexed) (k n : ℕ) → Read First s x → x .class ≡ value k → x .size ≡ n → 11 ≤ k → k ≤ 13 → Between s (markOf k) n
+read-between : (s : List ℕ) (x : Lexed) (k n : ℕ) → Read s x → x .class ≡ value k → x .size ≡ n → 11 ≤ k → k ≤ 13 → Between s (markOf k) n
 unfolding lexed markOf
 read-between s _ k n (missing r) e g l h = never (cc)
 read-between s _ k n (point t q) e g l h = let z : 8 ≡ k = cc in absurd (omega arith)
@@ -94,9 +93,9 @@ read-between s _ k n (number false u w p) e g l h = let z : 14 ≡ k = cc in abs
 read-between s _ k n (over p) e g l h = never (cc)
 
 -- a value taken out of the text is alone what it was
-module _ (s : List ℕ) (at n k : ℕ) (e : lexAsValue First 10 (drop at s) ≡ lexed (value k) n) where
-  lies : Lies First (drop at s) k n
-  lies = value-lies First 10 (drop at s) k n e
+module _ (s : List ℕ) (at n k : ℕ) (e : lexAsValue (drop at s) ≡ lexed (value k) n) where
+  lies : Lies (drop at s) k n
+  lies = value-lies (drop at s) k n e
 
   alone : 10 ≤ k → k ≤ 13 → isAlone k (take n (drop at s)) ≡ true
   unfolding isAlone isKind lexed
@@ -107,11 +106,11 @@ module _ (s : List ℕ) (at n k : ℕ) (e : lexAsValue First 10 (drop at s) ≡ 
   alone-between : 11 ≤ k → k ≤ 13 → (2 ≤ n) × (isAlone k (markOf k ∷ (take (n - 2) (drop (at + 1) s) ++ (markOf k ∷ []))) ≡ true)
   unfolding lexed
   alone-between l h =
-      let b = read-between (drop at s) (lexAsValue First 10 (drop at s)) k n (view First 10 (drop at s)) (ap (λ (x : Lexed). x .class) e) (ap (λ (x : Lexed). x .size) e) l h in
+      let b = read-between (drop at s) (lexAsValue (drop at s)) k n (view (drop at s)) (ap (λ (x : Lexed). x .class) e) (ap (λ (x : Lexed). x .size) e) l h in
       (b .two, rw (← drop-drop 1 at s, ← b .token) (alone (omega arith) h))
 
 -- THE CONTENT OF A VALUE
-value-readable : (s : List ℕ) (at n : ℕ) (k : Kind) → lexAsValue First 10 (drop at s) ≡ lexed (value (numberOf k)) n → isContent (shapeOf k) ≡ true → Readable s k at n
+value-readable : (s : List ℕ) (at n : ℕ) (k : Kind) → lexAsValue (drop at s) ≡ lexed (value (numberOf k)) n → isContent (shapeOf k) ≡ true → Readable s k at n
 unfolding isContent shapeOf marksOf opening readableBy markOf
 value-readable s at n NoKind e c = absurd (false≢true c)
 value-readable s at n Block e c = absurd (omega (arith, lies s at n 1 e .low))
@@ -166,7 +165,7 @@ source-readable {s} {r} (of-name f t) c =
 source-readable {s} {r} (of-end e) c = none-here (r .kind) 7 (unfold loopEnd in ap (λ (r : Rec). r .kind) e) refl c
 source-readable {s} {r} (of-value f k t) c =
     let v = value-reads f k t in
-    let l : Lies First (drop (r .at) s) k (r .size) = value-lies First 10 (drop (r .at) s) k (r .size) v in
+    let l : Lies (drop (r .at) s) k (r .size) = value-lies (drop (r .at) s) k (r .size) v in
     let q : numberOf (kindOf (r .kind)) ≡ k = kind-back (r .kind) (omega (arith, t .kind, l .low)) (omega (arith, t .kind, l .high)) ∙ t .kind in
     value-readable s (r .at) (r .size) (kindOf (r .kind)) (v ∙ ap (λ (n : ℕ). lexed (value n) (r .size)) (sym q)) c
 

@@ -9,7 +9,6 @@ use borrow.Author.Tests.{eq-eqb, le-leb, ltb-false}
 use lib.Dec.{eqb, leb, ltb}
 use lib.ListN.{length, take, drop, length-append}
 use lib.Seq.{drop-at, take-at}
-use Rattle.rules.specs.declared.Reading.the-variants.{First}
 use Rattle.text.specs.Bytes.{isAscii}
 use Rattle.text.specs.Runs.{span}
 use Rattle.text.proofs.Bools.{and-l, and-r}
@@ -101,7 +100,7 @@ filled-written s fits ascii (also {r = r} {rs = rs} p h) before a e =
     (filled-written s fits ascii h (before ++ contentOf s r) b l)
 
 -- THE RECORDS OF A TEXT THAT IS READ, as store and area, are sound
-pub records-sound : (s : List ℕ) (rs : List Rec) → outline First s ≡ done rs → sound (storeOf true s 0 rs) (areaOf s rs) ≡ true
+pub records-sound : (s : List ℕ) (rs : List Rec) → outline s ≡ done rs → sound (storeOf true s 0 rs) (areaOf s rs) ≡ true
 unfolding sound filled
 records-sound s rs e =
     let h = outline-taken s rs e in

@@ -8,7 +8,6 @@ use native.Mathlib.Nat.{zero-mod, zero-add}
 use borrow.Author.Tests.{eqb-true, eq-eqb, ne-eqb, le-leb}
 use lib.Dec.{eqb, leb}
 use lib.ListN.{drop}
-use Rattle.rules.specs.declared.Reading.the-variants.{First}
 use Rattle.entries.specs.declared.Entry.{Entry}
 use Rattle.entries.specs.declared.Entry.the-variants.{Record, Nothing}
 use Rattle.kinds.specs.Kinds.{kindOf, numberOf, shapeOf}
@@ -77,7 +76,7 @@ Among k = (8 ≤ k) × (k ≤ 15)
 
 value-kind : (s : List ℕ) (f : Bool) (r : Rec) (k : ℕ) → Took s (modeOf f) (value k) k r → Among k
 unfolding Among
-value-kind s f r k t = let l : Lies First (drop (r .at) s) k (r .size) = value-lies First 10 (drop (r .at) s) k (r .size) (value-reads f k t) in (l .low, l .high)
+value-kind s f r k t = let l : Lies (drop (r .at) s) k (r .size) = value-lies (drop (r .at) s) k (r .size) (value-reads f k t) in (l .low, l .high)
 
 tags-none : (r : Rec) (rest : List Rec) (k : ℕ) → r .kind ≡ k → eqb k 6 ≡ false → tagsOf (r ∷ rest) ≡ 0
 unfolding tagsOf

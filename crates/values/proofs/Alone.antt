@@ -1,7 +1,7 @@
 -- Laws of bytes that are one value alone: a content between its marks is one just where it keeps the rule of its kind (no mark and no line end in quotes; a line end at
 -- its end, and no `;` behind one before, in a text field); a bare value by the answer there. Assumes nothing.
 use Prim.Native.Nat.{ℕ, suc, _+_, _-_, _<_}
-use mathlib.Core.Path.{_≡_, refl, sym, ap, _∙_}
+use mathlib.Core.Path.{_≡_, refl, sym, _∙_}
 use mathlib.Core.Bool.{Bool, true, false, cond, _&&_, and-false}
 use mathlib.Core.List.{List, [], _∷_, _++_}
 use mathlib.Core.Option.{Option, none, some}
@@ -9,9 +9,7 @@ use native.Mathlib.Omega.{arith}
 use borrow.Author.Tests.{eq-eqb}
 use lib.Dec.{eqb, eqb·suc-suc}
 use lib.ListN.{length, getD, length-append}
-use Rattle.rules.specs.declared.Reading.the-variants.{First}
 use Rattle.text.specs.Bytes.{is, isEol}
-use Rattle.columns.specs.Before.{byteBefore}
 use Rattle.keywords.proofs.Keywords.{reserved-low}
 use Rattle.quotes.specs.declared.Closing.the-variants.{Behind, Nothing}
 use Rattle.quotes.specs.Quotes.{quoted, field}
@@ -20,23 +18,23 @@ use Rattle.quotes.specs.Content.{plain, lastEol, endsAt, isNone}
 use Rattle.quotes.proofs.Quotes.{field-behind, field-nothing}
 use Rattle.quotes.proofs.Content.{quoted-plain, field-content, last-eol, last-none}
 use Rattle.values.specs.declared.Found.the-variants.{Value}
-use Rattle.values.specs.Values.{Reason, openQuote, openField, Class, block, loop, save, tag, value, overLimit, nothing, Lexed, lexed, closed, lexValue, lexAsValue}
+use Rattle.values.specs.Values.{Reason, openQuote, openField, Class, block, loop, save, tag, value, overLimit, nothing, lexed, closed, lexValue, lexAsValue}
 use Rattle.values.specs.Finding.{foundAt}
 use Rattle.values.specs.Alone.{isKind, isAlone}
-use Rattle.values.proofs.Laws.{first-as-value, found-token, found-none}
+use Rattle.values.proofs.Laws.{found-token, found-none}
 
 -- behind an opening mark stands what its search finds
-pub single-value : (s : List ℕ) → lexAsValue First 10 (39 ∷ s) ≡ closed 11 openQuote (quoted 39 s)
+pub single-value : (s : List ℕ) → lexAsValue (39 ∷ s) ≡ closed 11 openQuote (quoted 39 s)
 unfolding lexAsValue lexValue is
-single-value s = rw (reserved-low First (39 ∷ s) 0 (omega arith) (omega arith))
+single-value s = rw (reserved-low (39 ∷ s) 0 (omega arith) (omega arith))
 
-pub double-value : (s : List ℕ) → lexAsValue First 10 (34 ∷ s) ≡ closed 12 openQuote (quoted 34 s)
+pub double-value : (s : List ℕ) → lexAsValue (34 ∷ s) ≡ closed 12 openQuote (quoted 34 s)
 unfolding lexAsValue lexValue is
-double-value s = rw (reserved-low First (34 ∷ s) 0 (omega arith) (omega arith))
+double-value s = rw (reserved-low (34 ∷ s) 0 (omega arith) (omega arith))
 
-pub field-value : (s : List ℕ) → lexAsValue First 10 (59 ∷ s) ≡ closed 13 openField (field s)
+pub field-value : (s : List ℕ) → lexAsValue (59 ∷ s) ≡ closed 13 openField (field s)
 unfolding lexAsValue lexValue is
-field-value s = rw (reserved-low First (59 ∷ s) 0 (omega arith) (omega arith))
+field-value s = rw (reserved-low (59 ∷ s) 0 (omega arith) (omega arith))
 
 -- it takes in so many bytes just where the search answers so
 closed-ends : (k n : ℕ) (why : Reason) (r : Option ℕ) → (isKind k (closed k why r .class) && eqb (closed k why r .size) (suc n)) ≡ endsAt n r
@@ -78,15 +76,15 @@ module _ (c : List ℕ) where
 
 -- a bare value: by the token that is found, and none where another answer is given
 module _ (c : List ℕ) where
-  pub bare-value : (k n : ℕ) → foundAt First c 0 ≡ Value k n → isAlone 10 c ≡ (eqb k 10 && eqb n (length c))
+  pub bare-value : (k n : ℕ) → foundAt c 0 ≡ Value k n → isAlone 10 c ≡ (eqb k 10 && eqb n (length c))
   unfolding isAlone isKind lexed
-  bare-value k n e = rw (first-as-value 10 (byteBefore c 0) c ∙ found-token First c 0 k n e)
+  bare-value k n e = rw (found-token c 0 k n e)
 
-  pub bare-other : ((k n : ℕ) → foundAt First c 0 ≡ Value k n → ⊥) → isAlone 10 c ≡ false
+  pub bare-other : ((k n : ℕ) → foundAt c 0 ≡ Value k n → ⊥) → isAlone 10 c ≡ false
   unfolding isAlone isKind
-  bare-other h = by (lexAsValue First 10 c .class) (λ k e. found-none First c 0 h k (ap (λ (x : Lexed). x .class) (first-as-value (byteBefore c 0) 10 c) ∙ e))
+  bare-other h = by (lexAsValue c .class) (found-none c 0 h)
     where
-      by : (x : Class) → ((k : ℕ) → x ≡ value k → ⊥) → (isKind 10 x && eqb (lexAsValue First 10 c .size) (length c)) ≡ false
+      by : (x : Class) → ((k : ℕ) → x ≡ value k → ⊥) → (isKind 10 x && eqb (lexAsValue c .size) (length c)) ≡ false
       by (value k) f = absurd (f k refl)
       by overLimit f = refl
       by block f = refl

@@ -4,8 +4,6 @@ use mathlib.Core.Bool.{Bool, false, _&&_}
 use mathlib.Core.List.{List}
 use lib.Dec.{eqb}
 use lib.ListN.{length}
-use Rattle.rules.specs.declared.Reading.the-variants.{First}
-use Rattle.text.specs.Bytes.{lineFeed}
 use Rattle.values.specs.Values.{Class, block, loop, save, tag, value, overLimit, nothing, lexAsValue}
 
 -- a class is a value of kind k
@@ -18,6 +16,6 @@ isKind k tag = false
 isKind k overLimit = false
 isKind k (nothing w) = false
 
--- w alone is a value of kind k in the first reading, and nothing stands behind it
+-- w alone is a value of kind k, and nothing stands behind it
 unfoldable pub isAlone : ℕ → List ℕ → Bool
-isAlone k w = isKind k (lexAsValue First lineFeed w .class) && eqb (lexAsValue First lineFeed w .size) (length w)
+isAlone k w = isKind k (lexAsValue w .class) && eqb (lexAsValue w .size) (length w)

@@ -8,8 +8,6 @@ use native.Mathlib.Omega.{arith}
 use borrow.Author.Tests.{ne-eqb}
 use lib.Dec.{eqb}
 use lib.ListN.{length, drop}
-use Rattle.columns.specs.Before.{byteBefore}
-use Rattle.rules.specs.declared.Reading.the-variants.{First}
 use Rattle.gaps.specs.Gaps.{gap, gapEnd}
 use Rattle.places.specs.Places.{placeAt}
 use Rattle.gaps.proofs.Gaps.{gap-none}
@@ -67,18 +65,18 @@ unfolding tagsOf
 tags-value k o n rs h = let e : eqb k 6 ≡ false = ne-eqb k 6 (λ q. omega arith) in rw e
 
 pub values-tags : (s : List ℕ) (o : ℕ) → tagsOf (valuesFrom s o ++ (loopEnd ∷ [])) ≡ 0
-values-tags s o = by (foundAt First s (gapEnd s o)) refl
+values-tags s o = by (foundAt s (gapEnd s o)) refl
   where
     none : valuesFrom s o ≡ [] → tagsOf (valuesFrom s o ++ (loopEnd ∷ [])) ≡ 0
     none e = rw e (unfold tagsOf loopEnd in refl)
 
-    by : (f : Found) → foundAt First s (gapEnd s o) ≡ f → tagsOf (valuesFrom s o ++ (loopEnd ∷ [])) ≡ 0
+    by : (f : Found) → foundAt s (gapEnd s o) ≡ f → tagsOf (valuesFrom s o ++ (loopEnd ∷ [])) ≡ 0
     by (Value k n) e = let t = value-turn s o (gapEnd s o) k n refl e in rw (t .recs) (tags-value k (gapEnd s o) n _ (t .least))
     by Over e = none (value-none s o (gapEnd s o) refl (λ k n q. let z : _≡_ {A = ℕ} 0 1 = cc in omega arith) .0)
     by (Missing w) e = none (value-none s o (gapEnd s o) refl (λ k n q. let z : _≡_ {A = ℕ} 0 1 = cc in omega arith) .0)
 
 -- the tokens behind names are those from their first on
-pub names-rest : (s : List ℕ) (o : ℕ) → o ≤ length s → behindNames s o ≡ tokensAt First inBlock s (headAt (behindNames s o))
+pub names-rest : (s : List ℕ) (o : ℕ) → o ≤ length s → behindNames s o ≡ tokensAt inBlock s (headAt (behindNames s o))
 names-rest s o h = both-spot (names-alike (both s o h) .rest) .inBlock
 
 -- names are few
@@ -111,7 +109,7 @@ count-turn s o h g t =
     record {
       onward = omega (arith, u .token .some);
       within = omega arith;
-      more = ap length r ∙ ap (λ x. suc (length (namesFrom s x))) e ∙ ap (λ x. suc (length (nameRecs x))) (sym (tokens-gap First inBlock s (wordEnd s o)));
+      more = ap length r ∙ ap (λ x. suc (length (namesFrom s x))) e ∙ ap (λ x. suc (length (nameRecs x))) (sym (tokens-gap inBlock s (wordEnd s o)));
     }
 
 pub count-none : (s : List ℕ) (o : ℕ) → gapEnd s o ≡ o → tagAt s o ≡ false → length (namesFrom s o) ≡ 0
@@ -155,10 +153,10 @@ unfolding item itemBy lexed tok after rec kindOf marksOf
 loop-parts s o h g e t =
     let m = met-loop s o g e in
     let k = tok (lexed loop 5) o in
-    let ts = tokensAt First inBlock s (o + 5) in
+    let ts = tokensAt inBlock s (o + 5) in
     let i : itemOf s o ≡ loopItem k (nameRecs ts) (afterNames ts) = rw (m .next) in
     let r = names-read k (nameRecs ts) (afterNames ts) (rw i at t) in
-    let p : afterNames ts ≡ tokensAt First inBlock s (headAt (afterNames ts)) = names-rest s (o + 5) (m .within) in
+    let p : afterNames ts ≡ tokensAt inBlock s (headAt (afterNames ts)) = names-rest s (o + 5) (m .within) in
     record {
       token = part-token s 5 o 5 h (omega arith) (loop-word s o e) (omega arith);
       recs = ap itemRecs i ∙ r .0 ∙ ap (λ (x : List Tok). rec 5 k ∷ (nameRecs ts ++ (valueRecs x ++ (loopEnd ∷ [])))) p;
@@ -216,7 +214,7 @@ module _ (full : Bool) (s : List ℕ) (d : Desk) (h : ItemHere full s d) (l : st
   -- its head, with the number of names
   pub loop-opened : (e : Desk) (n : ℕ) → n ≡ length (namesFrom s (o + 5)) → WroteOne full s n (recAt 5 o 5) (o + 5) d e → Partly full s recs d (namesFrom s (o + 5) ++ ends) e
   loop-opened e n q w =
-      let z : length (namesFrom s (o + 5)) + tagsOf ends ≡ tagsOf (namesFrom s (o + 5) ++ ends) = sym (names-count (tokensAt First inBlock s (o + 5)) ends) in
+      let z : length (namesFrom s (o + 5)) + tagsOf ends ≡ tagsOf (namesFrom s (o + 5) ++ ends) = sym (names-count (tokensAt inBlock s (o + 5)) ends) in
       partly-one full s recs d d e (recAt 5 o 5) (namesFrom s (o + 5) ++ ends) n (o + 5) loop-begun (omega (arith, values-tags s p)) w
 
   -- its names
@@ -274,28 +272,28 @@ pub record TagParts (s : List ℕ) (o w j : ℕ) : Type 0 where
   pub token : IsToken s 4 o w
   pub kind : ℕ
   pub size : ℕ
-  pub found : foundAt First s j ≡ Value kind size
+  pub found : foundAt s j ≡ Value kind size
   pub recs : itemRecs (itemOf s o) ≡ recAt 4 o w ∷ (recAt kind j size ∷ [])
   pub rest : headAt (itemRest (itemOf s o)) ≡ gapEnd s (j + size)
 
 -- a tag that is read with its value has one
-tag-found : (s : List ℕ) (o w j : ℕ) → Met First inBlock s o (lexed tag w) → j ≡ gapEnd s (o + w) → isTaken (itemOf s o) ≡ true → (k : ℕ) × (n : ℕ) × (foundAt First s j ≡ Value k n)
+tag-found : (s : List ℕ) (o w j : ℕ) → Met inBlock s o (lexed tag w) → j ≡ gapEnd s (o + w) → isTaken (itemOf s o) ≡ true → (k : ℕ) × (n : ℕ) × (foundAt s j ≡ Value k n)
 unfolding item itemBy tagItem lexed tok after lex
 tag-found s o w j m z r =
     let b : gap (drop j s) ≡ 0 = rw z (gap-none s (o + w)) in
-    let f = first s j b First inBlock in
-    let y = lexIn First (byteBefore s j) inBlock (drop j s) in
-    let u : tokensAt First inBlock s (o + w) ≡ tok y j ∷ f .0 = sym (tokens-gap First inBlock s (o + w)) ∙ rw (← z) (f .1) in
+    let f = first s j b inBlock in
+    let y = lexIn inBlock (drop j s) in
+    let u : tokensAt inBlock s (o + w) ≡ tok y j ∷ f .0 = sym (tokens-gap inBlock s (o + w)) ∙ rw (← z) (f .1) in
     let i : itemOf s o ≡ single (tok (lexed tag w) o) (y .class) (tok y j) (f .0) = rw (m .next, u) in
     let k = single-read (tok (lexed tag w) o) (y .class) (tok y j) (f .0) (rw i at r) in
     (k .0, y .size, found-wanted inBlock s j ∙ wanted-value (y .class) (k .0) (y .size) (k .1))
 
-tag-with : (s : List ℕ) (o w j k n : ℕ) → o ≤ length s → Met First inBlock s o (lexed tag w) → w ≤ word (drop o s) → j ≡ gapEnd s (o + w) → foundAt First s j ≡ Value k n → TagParts s o w j
+tag-with : (s : List ℕ) (o w j k n : ℕ) → o ≤ length s → Met inBlock s o (lexed tag w) → w ≤ word (drop o s) → j ≡ gapEnd s (o + w) → foundAt s j ≡ Value k n → TagParts s o w j
 unfolding item itemBy tagItem single itemRecs itemRest lexed tok after rec kindOf marksOf
 tag-with s o w j k n h m l z v =
     let b : gap (drop j s) ≡ 0 = rw z (gap-none s (o + w)) in
-    let a : tokensAt First inBlock s (o + w) ≡ tok (lexed (value k) n) j ∷ tokensAt First inBlock s (j + n) = sym (tokens-gap First inBlock s (o + w)) ∙ rw (← z) (met-value s j k n b v .next) in
-    let c : itemOf s o ≡ taken false (rec 4 (tok (lexed tag w) o) ∷ (rec k (tok (lexed (value k) n) j) ∷ [])) (tokensAt First inBlock s (j + n)) = rw (m .next, a) in
+    let a : tokensAt inBlock s (o + w) ≡ tok (lexed (value k) n) j ∷ tokensAt inBlock s (j + n) = sym (tokens-gap inBlock s (o + w)) ∙ rw (← z) (met-value s j k n b v .next) in
+    let c : itemOf s o ≡ taken false (rec 4 (tok (lexed tag w) o) ∷ (rec k (tok (lexed (value k) n) j) ∷ [])) (tokensAt inBlock s (j + n)) = rw (m .next, a) in
     record {
       token = part-token s 4 o w h (m .some-bytes) l (m .some-bytes);
       kind = k;
@@ -308,7 +306,7 @@ tag-with s o w j k n h m l z v =
 pub tag-parts : (s : List ℕ) (o w j : ℕ) → o ≤ length s → gap (drop o s) ≡ 0 → tagAt s o ≡ true → isTaken (itemOf s o) ≡ true → w ≡ wordEnd s o - o → j ≡ gapEnd s (o + w) → TagParts s o w j
 tag-parts s o w j h g e r q z =
     let x : w ≡ word (drop o s) = omega (arith, word-end s o) in
-    let m : Met First inBlock s o (lexed tag w) = rw x (met-tag s o g e) in
+    let m : Met inBlock s o (lexed tag w) = rw x (met-tag s o g e) in
     let f = tag-found s o w j m z r in
     tag-with s o w j (f .0) (f .1) h m (omega arith) z (f .2)
 

@@ -5,7 +5,6 @@ use mathlib.Core.Bool.{Bool, true, false}
 use mathlib.Core.List.{List, [], _∷_}
 use native.Mathlib.Omega.{arith}
 use lib.ListN.{length, drop}
-use Rattle.rules.specs.declared.Reading.the-variants.{First}
 use Rattle.gaps.specs.Gaps.{gap, gapEnd}
 use Rattle.gaps.proofs.Gaps.{gap-none}
 use Rattle.gaps.proofs.Bare.{gap-bare, gap-twice}
@@ -65,10 +64,10 @@ module _ (full : Bool) (s : List ℕ) (d₀ : Desk) where
   pub value-gap : (c e : Cursor) (l a : List ℕ) → SoFar full s (valuesFrom s) (behindValues s) d₀ (desk c l a) → e ≡ behindGap s c → SoFar full s (valuesFrom s) (behindValues s) d₀ (desk e l a)
   value-gap c e l a h q =
       let o = c .place .offset in
-      over-gap full s (valuesFrom s) (behindValues s) d₀ c e l a h q (ap valueRecs (tokens-gap First inBlock s o)) (ap afterValues (tokens-gap First inBlock s o))
+      over-gap full s (valuesFrom s) (behindValues s) d₀ c e l a h q (ap valueRecs (tokens-gap inBlock s o)) (ap afterValues (tokens-gap inBlock s o))
 
   -- the end
-  pub value-last : (d : Desk) → SoFar full s (valuesFrom s) (behindValues s) d₀ d → gap (drop (d .cursor .place .offset) s) ≡ 0 → ((k n : ℕ) → foundAt First s (d .cursor .place .offset) ≡ Value k n → ⊥)
+  pub value-last : (d : Desk) → SoFar full s (valuesFrom s) (behindValues s) d₀ d → gap (drop (d .cursor .place .offset) s) ≡ 0 → ((k n : ℕ) → foundAt s (d .cursor .place .offset) ≡ Value k n → ⊥)
       → Wrote full s (valuesFrom s (d₀ .cursor .place .offset)) (headAt (behindValues s (d₀ .cursor .place .offset))) d₀ d
   value-last d h g v =
       let o = d .cursor .place .offset in
@@ -100,7 +99,7 @@ module _ (full : Bool) (s : List ℕ) (d₀ : Desk) where
   pub name-gap : (c e : Cursor) (l a : List ℕ) → SoFar full s (namesFrom s) (behindNames s) d₀ (desk c l a) → e ≡ behindGap s c → SoFar full s (namesFrom s) (behindNames s) d₀ (desk e l a)
   name-gap c e l a h q =
       let o = c .place .offset in
-      over-gap full s (namesFrom s) (behindNames s) d₀ c e l a h q (ap nameRecs (tokens-gap First inBlock s o)) (ap afterNames (tokens-gap First inBlock s o))
+      over-gap full s (namesFrom s) (behindNames s) d₀ c e l a h q (ap nameRecs (tokens-gap inBlock s o)) (ap afterNames (tokens-gap inBlock s o))
 
   pub name-last : (d : Desk) → SoFar full s (namesFrom s) (behindNames s) d₀ d → gapEnd s (d .cursor .place .offset) ≡ d .cursor .place .offset → tagAt s (d .cursor .place .offset) ≡ false
       → Wrote full s (namesFrom s (d₀ .cursor .place .offset)) (headAt (behindNames s (d₀ .cursor .place .offset))) d₀ d

@@ -5,8 +5,6 @@ use mathlib.Core.Bool.{true, false}
 use mathlib.Core.List.{List, [], _∷_}
 use native.Mathlib.Omega.{arith}
 use lib.ListN.{length, drop}
-use Rattle.columns.specs.Before.{byteBefore}
-use Rattle.rules.specs.declared.Reading.the-variants.{First}
 use Rattle.gaps.specs.Gaps.{gap, gapEnd}
 use Rattle.places.specs.Places.{placeAt}
 use Rattle.gaps.proofs.Gaps.{gap-from, gap-within, gap-none, is-gap-end}
@@ -46,8 +44,8 @@ going-on s c e g p a =
 -- a tag stands at j, behind the space at o
 pub record NameTurn (s : List ℕ) (o j n : ℕ) : Type 0 where
   pub token : IsToken s 6 j n
-  pub recs : nameRecs (tokensAt First inBlock s o) ≡ recAt 6 j n ∷ nameRecs (tokensAt First inBlock s (j + n))
-  pub rest : afterNames (tokensAt First inBlock s o) ≡ afterNames (tokensAt First inBlock s (j + n))
+  pub recs : nameRecs (tokensAt inBlock s o) ≡ recAt 6 j n ∷ nameRecs (tokensAt inBlock s (j + n))
+  pub rest : afterNames (tokensAt inBlock s o) ≡ afterNames (tokensAt inBlock s (j + n))
 
 pub name-turn : (s : List ℕ) (o j n : ℕ) → o ≤ length s → j ≡ gapEnd s o → tagAt s j ≡ true → n ≡ wordEnd s j - j → NameTurn s o j n
 unfolding lexed tok after rec kindOf marksOf
@@ -55,9 +53,9 @@ name-turn s o j n h e t q =
     let g : gap (drop j s) ≡ 0 = rw e (gap-none s o) in
     let l : j ≤ length s = omega (arith, gap-within s o h) in
     let w : n ≡ word (drop j s) = omega (arith, word-end s j) in
-    let m : Met First inBlock s j (lexed tag n) = rw w (met-tag s j g t) in
-    let x : tokensAt First inBlock s o ≡ tok (lexed tag n) j ∷ tokensAt First inBlock s (j + n) = sym (tokens-gap First inBlock s o) ∙ rw (← e) (m .next) in
-    let y = names-more (tok (lexed tag n) j) (tokensAt First inBlock s (j + n)) refl in
+    let m : Met inBlock s j (lexed tag n) = rw w (met-tag s j g t) in
+    let x : tokensAt inBlock s o ≡ tok (lexed tag n) j ∷ tokensAt inBlock s (j + n) = sym (tokens-gap inBlock s o) ∙ rw (← e) (m .next) in
+    let y = names-more (tok (lexed tag n) j) (tokensAt inBlock s (j + n)) refl in
     record {
       token = part-token s 6 j n l (m .some-bytes) (omega arith) (m .some-bytes);
       recs = ap nameRecs x ∙ y .0;
@@ -65,13 +63,13 @@ name-turn s o j n h e t q =
     }
 
 -- none does
-pub name-none : (s : List ℕ) (o j : ℕ) → j ≡ gapEnd s o → tagAt s j ≡ false → (nameRecs (tokensAt First inBlock s o) ≡ []) × (afterNames (tokensAt First inBlock s o) ≡ tokensAt First inBlock s o)
+pub name-none : (s : List ℕ) (o j : ℕ) → j ≡ gapEnd s o → tagAt s j ≡ false → (nameRecs (tokensAt inBlock s o) ≡ []) × (afterNames (tokensAt inBlock s o) ≡ tokensAt inBlock s o)
 unfolding tagAt tok lex
 name-none s o j e t =
     let g : gap (drop j s) ≡ 0 = rw e (gap-none s o) in
-    let f = first s j g First inBlock in
-    let x : tokensAt First inBlock s o ≡ tok (lexIn First (byteBefore s j) inBlock (drop j s)) j ∷ f .0 = sym (tokens-gap First inBlock s o) ∙ rw (← e) (f .1) in
-    let y = names-none (tok (lexIn First (byteBefore s j) inBlock (drop j s)) j) (f .0) (no-name _ inBlock (drop j s) t) in
+    let f = first s j g inBlock in
+    let x : tokensAt inBlock s o ≡ tok (lexIn inBlock (drop j s)) j ∷ f .0 = sym (tokens-gap inBlock s o) ∙ rw (← e) (f .1) in
+    let y = names-none (tok (lexIn inBlock (drop j s)) j) (f .0) (no-name inBlock (drop j s) t) in
     (ap nameRecs x ∙ y .0, ap afterNames x ∙ y .1 ∙ sym x)
 
 -- a value of kind k and n bytes stands at j
@@ -79,17 +77,17 @@ pub record ValueTurn (s : List ℕ) (o j k n : ℕ) : Type 0 where
   pub token : IsToken s k j n
   pub least : 8 ≤ k
   pub most : k ≤ 15
-  pub recs : valueRecs (tokensAt First inBlock s o) ≡ recAt k j n ∷ valueRecs (tokensAt First inBlock s (j + n))
-  pub rest : afterValues (tokensAt First inBlock s o) ≡ afterValues (tokensAt First inBlock s (j + n))
+  pub recs : valueRecs (tokensAt inBlock s o) ≡ recAt k j n ∷ valueRecs (tokensAt inBlock s (j + n))
+  pub rest : afterValues (tokensAt inBlock s o) ≡ afterValues (tokensAt inBlock s (j + n))
 
-pub value-turn : (s : List ℕ) (o j k n : ℕ) → j ≡ gapEnd s o → foundAt First s j ≡ Value k n → ValueTurn s o j k n
+pub value-turn : (s : List ℕ) (o j k n : ℕ) → j ≡ gapEnd s o → foundAt s j ≡ Value k n → ValueTurn s o j k n
 unfolding lexed tok after rec
 value-turn s o j k n e f =
     let g : gap (drop j s) ≡ 0 = rw e (gap-none s o) in
-    let m : Met First inBlock s j (lexed (value k) n) = met-value s j k n g f in
-    let x : tokensAt First inBlock s o ≡ tok (lexed (value k) n) j ∷ tokensAt First inBlock s (j + n) = sym (tokens-gap First inBlock s o) ∙ rw (← e) (m .next) in
-    let y = values-more (tok (lexed (value k) n) j) (tokensAt First inBlock s (j + n)) k refl in
-    let i = found-lies First s j k n f in
+    let m : Met inBlock s j (lexed (value k) n) = met-value s j k n g f in
+    let x : tokensAt inBlock s o ≡ tok (lexed (value k) n) j ∷ tokensAt inBlock s (j + n) = sym (tokens-gap inBlock s o) ∙ rw (← e) (m .next) in
+    let y = values-more (tok (lexed (value k) n) j) (tokensAt inBlock s (j + n)) k refl in
+    let i = found-lies s j k n f in
     record {
       token = value-token s j k n f;
       least = i .low;
@@ -98,18 +96,18 @@ value-turn s o j k n e f =
       rest = ap afterValues x ∙ y .1;
     }
 
-pub value-none : (s : List ℕ) (o j : ℕ) → j ≡ gapEnd s o → ((k n : ℕ) → foundAt First s j ≡ Value k n → ⊥) → (valueRecs (tokensAt First inBlock s o) ≡ []) × (afterValues (tokensAt First inBlock s o) ≡ tokensAt First inBlock s o)
+pub value-none : (s : List ℕ) (o j : ℕ) → j ≡ gapEnd s o → ((k n : ℕ) → foundAt s j ≡ Value k n → ⊥) → (valueRecs (tokensAt inBlock s o) ≡ []) × (afterValues (tokensAt inBlock s o) ≡ tokensAt inBlock s o)
 unfolding tok lex
 value-none s o j e h =
     let g : gap (drop j s) ≡ 0 = rw e (gap-none s o) in
-    let f = first s j g First inBlock in
-    let x = lexIn First (byteBefore s j) inBlock (drop j s) in
-    let z : tokensAt First inBlock s o ≡ tok x j ∷ f .0 = sym (tokens-gap First inBlock s o) ∙ rw (← e) (f .1) in
+    let f = first s j g inBlock in
+    let x = lexIn inBlock (drop j s) in
+    let z : tokensAt inBlock s o ≡ tok x j ∷ f .0 = sym (tokens-gap inBlock s o) ∙ rw (← e) (f .1) in
     let y = values-none (tok x j) (f .0) (no-value (x .class) (x .size) (λ k n q. h k n (found-wanted inBlock s j ∙ q))) in
     (ap valueRecs z ∙ y .0, ap afterValues z ∙ y .1 ∙ sym z)
 
 -- where no space stands before it
-pub value-here : (s : List ℕ) (o k n : ℕ) → gap (drop o s) ≡ 0 → foundAt First s o ≡ Value k n → ValueHere s o k n
+pub value-here : (s : List ℕ) (o k n : ℕ) → gap (drop o s) ≡ 0 → foundAt s o ≡ Value k n → ValueHere s o k n
 value-here s o k n g f = record { bare = g; found = f }
 
 pub here-turn : (s : List ℕ) (o k n : ℕ) → ValueHere s o k n → ValueTurn s o o k n

@@ -5,7 +5,6 @@ use mathlib.Core.Path.{_≡_}
 use mathlib.Core.Bool.{Bool, true, false}
 use mathlib.Core.List.{List, [], _∷_}
 use lib.ListN.{length, drop}
-use Rattle.rules.specs.declared.Reading.the-variants.{First}
 use Rattle.gaps.specs.Gaps.{gap, gapEnd}
 use Rattle.places.specs.Places.{placeAt}
 use Rattle.records.specs.Put.{put}
@@ -60,16 +59,16 @@ pub record ValueAhead (full : Bool) (s : List ℕ) (k n : ℕ) (d : Desk) : Type
 
 -- the names, the values from an offset on, and what stands behind them
 abbrev pub namesFrom : List ℕ → ℕ → List Rec
-namesFrom s o = nameRecs (tokensAt First inBlock s o)
+namesFrom s o = nameRecs (tokensAt inBlock s o)
 
 abbrev pub behindNames : List ℕ → ℕ → List Tok
-behindNames s o = afterNames (tokensAt First inBlock s o)
+behindNames s o = afterNames (tokensAt inBlock s o)
 
 abbrev pub valuesFrom : List ℕ → ℕ → List Rec
-valuesFrom s o = valueRecs (tokensAt First inBlock s o)
+valuesFrom s o = valueRecs (tokensAt inBlock s o)
 
 abbrev pub behindValues : List ℕ → ℕ → List Tok
-behindValues s o = afterValues (tokensAt First inBlock s o)
+behindValues s o = afterValues (tokensAt inBlock s o)
 
 -- there is room for the names, for the values from the cursor on
 pub record NamesAhead (full : Bool) (s : List ℕ) (d : Desk) : Type 0 where
@@ -110,14 +109,14 @@ isTaken (broken n o) = false
 
 -- the item at an offset
 abbrev pub itemOf : List ℕ → ℕ → Item
-itemOf s o = item (tokensAt First inBlock s o)
+itemOf s o = item (tokensAt inBlock s o)
 
 -- an item that is read stands at the cursor, where no space does, no value stands behind it, and there is room for it
 pub record ItemHere (full : Bool) (s : List ℕ) (d : Desk) : Type 0 where
   pub going : Going s (d .cursor)
   pub bare : gap (drop (d .cursor .place .offset) s) ≡ 0
   pub read : isTaken (itemOf s (d .cursor .place .offset)) ≡ true
-  pub alone : (k n : ℕ) → foundAt First s (headAt (itemRest (itemOf s (d .cursor .place .offset)))) ≡ Value k n → ⊥
+  pub alone : (k n : ℕ) → foundAt s (headAt (itemRest (itemOf s (d .cursor .place .offset)))) ≡ Value k n → ⊥
   pub room : Room full (itemRecs (itemOf s (d .cursor .place .offset))) d
 
 -- it is written, and the cursor stands behind it and the space there

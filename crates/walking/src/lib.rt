@@ -13,7 +13,6 @@ ghost use Rattle.walking.specs.Walk.{behindGap, TokenAhead, ValueAhead, 
 use kinds::Kind;
 use places::Place;
 use putting::Cursor;
-use rules::Reading;
 use values::Found;
 
 // The place behind space and comments: one made of three numbers and lent, which the step moves on.
@@ -113,8 +112,7 @@ fn write_values(s: &[u8], full: bool, store: &mut [u8], area: &mut [u8], c: Curs
         let here = trimmed(s, last);
         let place = here.place;
         let offset = place.offset;
-        let Found::Value { kind, size } = Found::of(values::pack_value(Reading::First, s, offset))
-        else {
+        let Found::Value { kind, size } = Found::of(values::pack_value(s, offset)) else {
             return here;
         };
         last = write_found(s, full, store, area, here, kind, size);

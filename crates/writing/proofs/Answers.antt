@@ -4,7 +4,6 @@ use mathlib.Core.Path.{_≡_, ap, _∙_}
 use mathlib.Core.Bool.{Bool, true, false, false≢true}
 use mathlib.Core.List.{List}
 use lib.ListN.{length}
-use Rattle.rules.specs.declared.Reading.the-variants.{First}
 use Rattle.grammar.specs.Machine.{Rec, done}
 use Rattle.grammar.specs.Reading.{decided}
 use Rattle.text.specs.Limits.{limit}
@@ -13,7 +12,7 @@ use Rattle.walking.specs.Writing.{storeOf, areaOf, areaIn}
 use Rattle.putting.specs.Desk.{storeLength}
 use Rattle.writing.specs.Block.{answerRecs, isDone, recordsOf, storeBytes, areaBytes, Fits}
 
-module _ (s : List ℕ) (rs : List Rec) (e : decided First s ≡ done rs) where
+module _ (s : List ℕ) (rs : List Rec) (e : decided s ≡ done rs) where
   records-are : recordsOf s ≡ rs
   unfolding answerRecs
   records-are = ap answerRecs e

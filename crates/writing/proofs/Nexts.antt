@@ -4,7 +4,6 @@ use mathlib.Core.Path.{_≡_, refl, sym, ap, _∙_}
 use mathlib.Core.Bool.{Bool, true, false, cond}
 use mathlib.Core.List.{List}
 use lib.ListN.{drop}
-use Rattle.rules.specs.declared.Reading.the-variants.{First}
 use Rattle.gaps.specs.Gaps.{gap, gapEnd}
 use Rattle.words.specs.Words.{wordEnd}
 use Rattle.items.specs.declared.Item.the-variants.{Failed, Broken}
@@ -19,10 +18,10 @@ use Rattle.writing.specs.declared.Next.the-variants.{Item, Stop}
 use Rattle.writing.specs.Block.{nextOf}
 
 module _ (s : List ℕ) (o end stop : ℕ) where
-  tag-read : (f : Found) → gap (drop o s) ≡ 0 → tagAt s o ≡ true → end ≡ wordEnd s o → stop ≡ gapEnd s end → f ≡ foundAt First s stop → TagRead s o end stop f
+  tag-read : (f : Found) → gap (drop o s) ≡ 0 → tagAt s o ≡ true → end ≡ wordEnd s o → stop ≡ gapEnd s end → f ≡ foundAt s stop → TagRead s o end stop f
   tag-read f g t e p q = record { bare = g; tagged = t; ends = e; stops = p; finds = q }
 
-  pub next-value : (k n : ℕ) → gap (drop o s) ≡ 0 → tagAt s o ≡ true → end ≡ wordEnd s o → stop ≡ gapEnd s end → Value k n ≡ foundAt First s stop → Item ≡ nextOf (itemAt s o)
+  pub next-value : (k n : ℕ) → gap (drop o s) ≡ 0 → tagAt s o ≡ true → end ≡ wordEnd s o → stop ≡ gapEnd s end → Value k n ≡ foundAt s stop → Item ≡ nextOf (itemAt s o)
   unfolding nextOf
   next-value k n g t e p q = ap nextOf (tag-value (tag-read (Value k n) g t e p q) k n _ _ refl refl refl)
 
@@ -32,7 +31,7 @@ module _ (s : List ℕ) (o end stop : ℕ) where
   stopped true d = refl
   stopped false d = refl
 
-  pub next-alone : gap (drop o s) ≡ 0 → tagAt s o ≡ true → end ≡ wordEnd s o → stop ≡ gapEnd s end → ((k n : ℕ) → foundAt First s stop ≡ Value k n → ⊥) → Stop stop ≡ nextOf (itemAt s o)
+  pub next-alone : gap (drop o s) ≡ 0 → tagAt s o ≡ true → end ≡ wordEnd s o → stop ≡ gapEnd s end → ((k n : ℕ) → foundAt s stop ≡ Value k n → ⊥) → Stop stop ≡ nextOf (itemAt s o)
   next-alone g t e p h =
-      let f = foundAt First s stop in
+      let f = foundAt s stop in
       stopped (isOverFound f) _ ∙ ap nextOf (tag-alone (tag-read f g t e p refl) h)

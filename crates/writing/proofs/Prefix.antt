@@ -5,8 +5,7 @@ use mathlib.Core.Bool.{Bool, true, false, cond, false≢true}
 use mathlib.Core.List.{List, [], _∷_, _++_, append-assoc}
 use mathlib.Core.Option.{Option, none, some}
 use lib.Dec.{eqb}
-use Rattle.rules.specs.declared.Reading.the-variants.{First}
-use Rattle.values.specs.Values.{Class, block, loop, save, tag, value, overLimit, nothing, atEnd, reservedWord, noStart, openQuote, openField, joined}
+use Rattle.values.specs.Values.{Class, block, loop, save, tag, value, overLimit, nothing, atEnd, reservedWord, noStart, openQuote, openField}
 use Rattle.grammar.specs.Tokens.{Tok}
 use Rattle.grammar.specs.Machine.{Rec, Answer, refused, done, State, start, items, names, values, wants, config, Outcome, go, stop, loopEnd, closes, fails, atItem, loopEnds, atValue, noMoreNames, atName, atWant, move, follow, run, reason, inBlockOnly}
 
@@ -56,12 +55,12 @@ module _ (p : List Rec) where
   closes-after f out overLimit t = halt p 4 f 0
   closes-after f out (nothing w) t = halt p 4 f 0
 
-  fails-after : (n o d : ℕ) (f : Option ℕ) (out : List Rec) (t : Tok) → After p (fails First (refused n o d) f (p ++ out) t) (fails First (refused n o d) f out t)
+  fails-after : (n o d : ℕ) (f : Option ℕ) (out : List Rec) (t : Tok) → After p (fails (refused n o d) f (p ++ out) t) (fails (refused n o d) f out t)
   unfolding fails
   fails-after n o d none out t = halt p n o d
   fails-after n o d (some f) out t = closes-after f out (t .class) t
 
-  item-after : (d : ℕ) (f : Option ℕ) (out : List Rec) (c : Class) (t : Tok) → After p (atItem First d f (p ++ out) c t) (atItem First d f out c t)
+  item-after : (d : ℕ) (f : Option ℕ) (out : List Rec) (c : Class) (t : Tok) → After p (atItem d f (p ++ out) c t) (atItem d f out c t)
   unfolding atItem started
   item-after d f out loop t = step p _ f _ _ _ refl refl
   item-after d f out tag t = step p _ f _ _ _ refl refl
@@ -73,23 +72,22 @@ module _ (p : List Rec) where
   item-after d f out (nothing noStart) t = fails-after 7 (t .at) d f out t
   item-after d f out (nothing openQuote) t = fails-after 7 (t .at) d f out t
   item-after d f out (nothing openField) t = fails-after 7 (t .at) d f out t
-  item-after d f out (nothing joined) t = fails-after 7 (t .at) d f out t
   item-after d f out block t = fails-after 7 (t .at) d f out t
   item-after d f out (value k) t = fails-after 7 (t .at) d f out t
   item-after d f out overLimit t = fails-after 7 (t .at) d f out t
 
-  ends-after : (at n k : ℕ) (f : Option ℕ) (out held : List Rec) (t : Tok) → After p (loopEnds First at n k f (p ++ out) held t) (loopEnds First at n k f out held t)
+  ends-after : (at n k : ℕ) (f : Option ℕ) (out held : List Rec) (t : Tok) → After p (loopEnds at n k f (p ++ out) held t) (loopEnds at n k f out held t)
   unfolding loopEnds
   ends-after at n k f out held t = by (eqb (k % n) 0)
     where
       kept : (p ++ out) ++ held ++ (loopEnd ∷ []) ≡ p ++ (out ++ held ++ (loopEnd ∷ []))
       kept = simp append-assoc
 
-      by : (b : Bool) → After p (cond b (atItem First (inBlockOnly f (reason (t .class))) f ((p ++ out) ++ held ++ (loopEnd ∷ [])) (t .class) t) (fails First (refused 5 at (k % n)) f (p ++ out) t)) (cond b (atItem First (inBlockOnly f (reason (t .class))) f (out ++ held ++ (loopEnd ∷ [])) (t .class) t) (fails First (refused 5 at (k % n)) f out t))
+      by : (b : Bool) → After p (cond b (atItem (inBlockOnly f (reason (t .class))) f ((p ++ out) ++ held ++ (loopEnd ∷ [])) (t .class) t) (fails (refused 5 at (k % n)) f (p ++ out) t)) (cond b (atItem (inBlockOnly f (reason (t .class))) f (out ++ held ++ (loopEnd ∷ [])) (t .class) t) (fails (refused 5 at (k % n)) f out t))
       by true = rw kept (item-after _ f (out ++ held ++ (loopEnd ∷ [])) (t .class) t)
       by false = fails-after 5 at (k % n) f out t
 
-  value-after : (at n k : ℕ) (f : Option ℕ) (out held : List Rec) (c : Class) (t : Tok) → After p (atValue First at n k f (p ++ out) held c t) (atValue First at n k f out held c t)
+  value-after : (at n k : ℕ) (f : Option ℕ) (out held : List Rec) (c : Class) (t : Tok) → After p (atValue at n k f (p ++ out) held c t) (atValue at n k f out held c t)
   unfolding atValue started
   value-after at n k f out held (value kind) t = step p _ f _ _ _ refl refl
   value-after at n k f out held overLimit t = halt p 9 (t .at) 0
@@ -99,12 +97,12 @@ module _ (p : List Rec) where
   value-after at n k f out held tag t = ends-after at n k f out held t
   value-after at n k f out held (nothing w) t = ends-after at n k f out held t
 
-  no-more-after : (at n : ℕ) (f : Option ℕ) (out held : List Rec) (t : Tok) → After p (noMoreNames First at n f (p ++ out) held t) (noMoreNames First at n f out held t)
+  no-more-after : (at n : ℕ) (f : Option ℕ) (out held : List Rec) (t : Tok) → After p (noMoreNames at n f (p ++ out) held t) (noMoreNames at n f out held t)
   unfolding noMoreNames
   no-more-after at zero f out held t = halt p 8 at 0
   no-more-after at (suc n) f out held t = value-after at (suc n) 0 f out held (t .class) t
 
-  name-after : (at n : ℕ) (f : Option ℕ) (out held : List Rec) (c : Class) (t : Tok) → After p (atName First at n f (p ++ out) held c t) (atName First at n f out held c t)
+  name-after : (at n : ℕ) (f : Option ℕ) (out held : List Rec) (c : Class) (t : Tok) → After p (atName at n f (p ++ out) held c t) (atName at n f out held c t)
   unfolding atName started
   name-after at n f out held tag t = step p _ f _ _ _ refl refl
   name-after at n f out held block t = no-more-after at n f out held t
@@ -114,7 +112,7 @@ module _ (p : List Rec) where
   name-after at n f out held overLimit t = no-more-after at n f out held t
   name-after at n f out held (nothing w) t = no-more-after at n f out held t
 
-  want-after : (at : ℕ) (f : Option ℕ) (out held : List Rec) (c : Class) (t : Tok) → After p (atWant First at f (p ++ out) held c t) (atWant First at f out held c t)
+  want-after : (at : ℕ) (f : Option ℕ) (out held : List Rec) (c : Class) (t : Tok) → After p (atWant at f (p ++ out) held c t) (atWant at f out held c t)
   unfolding atWant started
   want-after at f out held (value kind) t = step p (items 0) f _ _ [] refl (simp append-assoc)
   want-after at f out held overLimit t = halt p 9 (t .at) 0
@@ -124,7 +122,7 @@ module _ (p : List Rec) where
   want-after at f out held tag t = fails-after 6 at (reason tag) f out t
   want-after at f out held (nothing w) t = fails-after 6 at (reason (nothing w)) f out t
 
-  move-after : (s : State) (f : Option ℕ) (out held : List Rec) (t : Tok) → started s ≡ true → After p (move First s f (p ++ out) held t) (move First s f out held t)
+  move-after : (s : State) (f : Option ℕ) (out held : List Rec) (t : Tok) → started s ≡ true → After p (move s f (p ++ out) held t) (move s f out held t)
   unfolding move started
   move-after start f out held t e = absurd (false≢true e)
   move-after (items d) f out held t e = item-after d f out (t .class) t
@@ -132,12 +130,12 @@ module _ (p : List Rec) where
   move-after (values a n k) f out held t e = value-after a n k f out held (t .class) t
   move-after (wants a) f out held t e = want-after a f out held (t .class) t
 
-  pub run-after : (ts : List Tok) (s : State) (f : Option ℕ) (out held : List Rec) → started s ≡ true → run First ts (config s f (p ++ out) held) ≡ prefixed p (run First ts (config s f out held))
+  pub run-after : (ts : List Tok) (s : State) (f : Option ℕ) (out held : List Rec) → started s ≡ true → run ts (config s f (p ++ out) held) ≡ prefixed p (run ts (config s f out held))
   unfolding run config
   run-after [] s f out held e = unfold prefixed in refl
-  run-after (t ∷ ts) s f out held e = by (move First s f out held t) (move-after s f out held t e) (λ s f o h b. run-after ts s f o h b)
+  run-after (t ∷ ts) s f out held e = by (move s f out held t) (move-after s f out held t e) (λ s f o h b. run-after ts s f o h b)
     where
-      by : (y : Outcome) → After p (move First s f (p ++ out) held t) y → ((s : State) (f : Option ℕ) (o h : List Rec) → started s ≡ true → run First ts (config s f (p ++ o) h) ≡ prefixed p (run First ts (config s f o h)))
-          → follow (move First s f (p ++ out) held t) (λ c. run First ts c) ≡ prefixed p (follow y (λ c. run First ts c))
+      by : (y : Outcome) → After p (move s f (p ++ out) held t) y → ((s : State) (f : Option ℕ) (o h : List Rec) → started s ≡ true → run ts (config s f (p ++ o) h) ≡ prefixed p (run ts (config s f o h)))
+          → follow (move s f (p ++ out) held t) (λ c. run ts c) ≡ prefixed p (follow y (λ c. run ts c))
       by (go c) h ih = unfold follow prefixedOut Begun in rw (h .same) (ih (c .state) (c .frame) (c .out) (c .held) (h .begun))
       by (stop a) h ih = unfold follow prefixedOut in rw (h .same)

@@ -8,8 +8,6 @@ use mathlib.Core.Option.{Option, none, some}
 use native.Mathlib.Omega.{arith}
 use lib.Dec.{eqb}
 use lib.ListN.{length, drop, length-drop}
-use Rattle.columns.specs.Before.{byteBefore}
-use Rattle.rules.specs.declared.Reading.the-variants.{First}
 use Rattle.gaps.specs.Gaps.{gap, gapEnd}
 use Rattle.gaps.proofs.Gaps.{gap-none}
 use Rattle.words.specs.Words.{word}
@@ -44,7 +42,7 @@ use Rattle.writing.proofs.Prefix.{prefixed, started, run-after}
 -- what is kept already comes before the rest
 pub left-prefix : (d : ℕ) (f : Option ℕ) (s : List ℕ) (o : ℕ) (out : List Rec) → left d f s o out ≡ prefixed out (left d f s o [])
 unfolding left started
-left-prefix d f s o out = ap (λ (x : List Rec). run First (tokensAt First (modeOf f) s o) (config (items d) f x [])) (sym (append-nil out)) ∙ run-after out (tokensAt First (modeOf f) s o) (items d) f [] [] refl
+left-prefix d f s o out = ap (λ (x : List Rec). run (tokensAt (modeOf f) s o) (config (items d) f x [])) (sym (append-nil out)) ∙ run-after out (tokensAt (modeOf f) s o) (items d) f [] [] refl
 
 -- from o in f to p in g these records are kept
 pub record Steps (s : List ℕ) (f : Option ℕ) (o : ℕ) (g : Option ℕ) (p : ℕ) (rs : List Rec) : Type 0 where
@@ -92,7 +90,7 @@ item-passed (alike-absent b) e = absurd (false≢true e)
 item-passed alike-unnamed e = absurd (false≢true e)
 item-passed alike-over e = absurd (false≢true e)
 
-pub item-passes : (s : List ℕ) (o : ℕ) → o ≤ length s → isTaken (itemOf s o) ≡ true → ItemPassed s o (itemOf s o) (item (tokensAt First inFrame s o))
+pub item-passes : (s : List ℕ) (o : ℕ) → o ≤ length s → isTaken (itemOf s o) ≡ true → ItemPassed s o (itemOf s o) (item (tokensAt inFrame s o))
 item-passes s o h e = item-passed (item-alike (both s o h)) e
 
 -- in a frame
@@ -118,7 +116,7 @@ block-taken alike-over e = absurd (false≢true e)
 pub block-item-steps : (s : List ℕ) (o : ℕ) → o < length s → gap (drop o s) ≡ 0 → startsAt keySave s o ≡ false → isDone (left 0 none s o []) ≡ true
     → (isTaken (itemOf s o) ≡ true) × Steps s none o none (headAt (itemRest (itemOf s o))) (itemRecs (itemOf s o))
 block-item-steps s o h g e d =
-    let i : left 0 none s o [] ≡ itemRun 0 none [] (itemOf s o) = block-item 0 s o [] g (plain (byteBefore s o) (drop o s) (omega (arith, length-drop o s)) (sym (starts-at keySave s o) ∙ e)) in
+    let i : left 0 none s o [] ≡ itemRun 0 none [] (itemOf s o) = block-item 0 s o [] g (plain (drop o s) (omega (arith, length-drop o s)) (sym (starts-at keySave s o) ∙ e)) in
     let t : isTaken (itemOf s o) ≡ true = block-taken (item-alike (both s o (omega arith))) (rw i at d) in
     (t, steps s none o _ none _ _ d (i ∙ item-passes s o (omega arith) t .inBlock []))
 
@@ -129,7 +127,7 @@ pub open-steps : (s : List ℕ) (o w : ℕ) → gap (drop o s) ≡ 0 → startsA
     → Steps s none o (some o) (gapEnd s (o + w)) (recAt 2 o w ∷ [])
 unfolding lexed tok rec
 open-steps s o w g e d q =
-    let m : Met First inBlock s o (lexed save w) = rw q (met-open s o g e) in
+    let m : Met inBlock s o (lexed save w) = rw q (met-open s o g e) in
     steps s none o 0 (some o) (gapEnd s (o + w)) _ d (open-reads 0 s o w [] m ∙ sym (left-gap 0 (some o) s (o + w) (recAt 2 o w ∷ [])))
 
 -- its end
@@ -188,27 +186,27 @@ value-class loop n k w e = let z : _≡_ {A = ℕ} 0 1 = cc in absurd (omega ari
 value-class save n k w e = let z : _≡_ {A = ℕ} 0 1 = cc in absurd (omega arith)
 value-class (nothing r) n k w e = let z : _≡_ {A = ℕ} 0 1 = cc in absurd (omega arith)
 
-value-refused : (f : Option ℕ) (j : ℕ) (t : Tok) (ts : List Tok) → t .class ≡ value j → isDone (run First (t ∷ ts) (config (items 0) f [] [])) ≡ false
+value-refused : (f : Option ℕ) (j : ℕ) (t : Tok) (ts : List Tok) → t .class ≡ value j → isDone (run (t ∷ ts) (config (items 0) f [] [])) ≡ false
 unfolding run follow move atItem fails closes config isDone
 value-refused none j t ts e = rw e
 value-refused (some b) j t ts e = rw e
 
-pub no-value-left : (f : Option ℕ) (s : List ℕ) (p : ℕ) → gap (drop p s) ≡ 0 → isDone (left 0 f s p []) ≡ true → (k n : ℕ) → foundAt First s p ≡ Value k n → ⊥
+pub no-value-left : (f : Option ℕ) (s : List ℕ) (p : ℕ) → gap (drop p s) ≡ 0 → isDone (left 0 f s p []) ≡ true → (k n : ℕ) → foundAt s p ≡ Value k n → ⊥
 unfolding left modeOf lex tok
 no-value-left f s p g d k n e = by f d
   where
-    class : (m : Mode) → (j : ℕ) × (lexIn First (byteBefore s p) m (drop p s) .class ≡ value j)
-    class m = value-class (lexIn First (byteBefore s p) m (drop p s) .class) (lexIn First (byteBefore s p) m (drop p s) .size) k n (sym (found-wanted m s p) ∙ e)
+    class : (m : Mode) → (j : ℕ) × (lexIn m (drop p s) .class ≡ value j)
+    class m = value-class (lexIn m (drop p s) .class) (lexIn m (drop p s) .size) k n (sym (found-wanted m s p) ∙ e)
 
     by : (f : Option ℕ) → isDone (left 0 f s p []) ≡ true → ⊥
     by none d =
-        let t = first s p g First inBlock in
+        let t = first s p g inBlock in
         let c = class inBlock in
-        false≢true (sym (value-refused none (c .0) (tok (lexIn First (byteBefore s p) inBlock (drop p s)) p) (t .0) (c .1)) ∙ rw (t .1) at d)
+        false≢true (sym (value-refused none (c .0) (tok (lexIn inBlock (drop p s)) p) (t .0) (c .1)) ∙ rw (t .1) at d)
     by (some b) d =
-        let t = first s p g First inFrame in
+        let t = first s p g inFrame in
         let c = class inFrame in
-        false≢true (sym (value-refused (some b) (c .0) (tok (lexIn First (byteBefore s p) inFrame (drop p s)) p) (t .0) (c .1)) ∙ rw (t .1) at d)
+        false≢true (sym (value-refused (some b) (c .0) (tok (lexIn inFrame (drop p s)) p) (t .0) (c .1)) ∙ rw (t .1) at d)
 
 -- The block
 
@@ -217,31 +215,31 @@ unfolding answerRecs
 end-none s o h = rw (end-answer 0 s o [] h)
 
 -- its heading
-pub heading : (s : List ℕ) (o w : ℕ) → o ≡ gapEnd s 0 → w ≡ word (drop o s) → isDone (decided First s) ≡ true
-    → (startsAt keyData s o ≡ true) × (answerRecs (decided First s) ≡ recAt 1 o w ∷ recsLeft none s (gapEnd s (o + w))) × (isDone (left 0 none s (gapEnd s (o + w)) []) ≡ true)
+pub heading : (s : List ℕ) (o w : ℕ) → o ≡ gapEnd s 0 → w ≡ word (drop o s) → isDone (decided s) ≡ true
+    → (startsAt keyData s o ≡ true) × (answerRecs (decided s) ≡ recAt 1 o w ∷ recsLeft none s (gapEnd s (o + w))) × (isDone (left 0 none s (gapEnd s (o + w)) []) ≡ true)
 heading s o w q z d = by (startsAt keyData s o) refl
   where
     g : gap (drop o s) ≡ 0
     g = rw q (gap-none s 0)
 
-    from : decided First s ≡ blockAt s o
+    from : decided s ≡ blockAt s o
     from = rw q (decided-from s)
 
-    read : startsAt keyData s o ≡ true → decided First s ≡ prefixed (recAt 1 o w ∷ []) (left 0 none s (gapEnd s (o + w)) [])
+    read : startsAt keyData s o ≡ true → decided s ≡ prefixed (recAt 1 o w ∷ []) (left 0 none s (gapEnd s (o + w)) [])
     read e =
-        let m : Met First before s o (lexed block w) = rw z (met-data s o g e) in
+        let m : Met before s o (lexed block w) = rw z (met-data s o g e) in
         from ∙ begun m ∙ sym (left-gap 0 none s (o + w) (recAt 1 o w ∷ [])) ∙ left-prefix 0 none s (gapEnd s (o + w)) (recAt 1 o w ∷ [])
       where
-        begun : Met First before s o (lexed block w) → blockAt s o ≡ left 0 none s (o + w) (recAt 1 o w ∷ [])
+        begun : Met before s o (lexed block w) → blockAt s o ≡ left 0 none s (o + w) (recAt 1 o w ∷ [])
         begun m = unfold lexed tok rec in begin-reads s o w m
 
-    rest : (a : Answer) → left 0 none s (gapEnd s (o + w)) [] ≡ a → decided First s ≡ prefixed (recAt 1 o w ∷ []) a
-        → (answerRecs (decided First s) ≡ recAt 1 o w ∷ recsLeft none s (gapEnd s (o + w))) × (isDone (left 0 none s (gapEnd s (o + w)) []) ≡ true)
+    rest : (a : Answer) → left 0 none s (gapEnd s (o + w)) [] ≡ a → decided s ≡ prefixed (recAt 1 o w ∷ []) a
+        → (answerRecs (decided s) ≡ recAt 1 o w ∷ recsLeft none s (gapEnd s (o + w))) × (isDone (left 0 none s (gapEnd s (o + w)) []) ≡ true)
     rest (done rs) e h = unfold prefixed answerRecs isDone in (rw (h, e), rw e)
     rest (refused n x y) e h =
-        let f : isDone (decided First s) ≡ false = unfold prefixed isDone in rw h in
+        let f : isDone (decided s) ≡ false = unfold prefixed isDone in rw h in
         absurd (false≢true (sym f ∙ d))
 
-    by : (t : Bool) → startsAt keyData s o ≡ t → (t ≡ true) × (answerRecs (decided First s) ≡ recAt 1 o w ∷ recsLeft none s (gapEnd s (o + w))) × (isDone (left 0 none s (gapEnd s (o + w)) []) ≡ true)
+    by : (t : Bool) → startsAt keyData s o ≡ t → (t ≡ true) × (answerRecs (decided s) ≡ recAt 1 o w ∷ recsLeft none s (gapEnd s (o + w))) × (isDone (left 0 none s (gapEnd s (o + w)) []) ≡ true)
     by true e = let r = rest (left 0 none s (gapEnd s (o + w)) []) refl (read e) in (refl, r .0, r .1)
-    by false e = absurd (told-not (decided First s) 3 o 0 (rw from (unfold told in no-data s o g e)) d)
+    by false e = absurd (told-not (decided s) 3 o 0 (rw from (unfold told in no-data s o g e)) d)

@@ -5,7 +5,6 @@ use mathlib.Core.Bool.{Bool, true, false}
 use mathlib.Core.List.{List, [], _∷_}
 use mathlib.Core.Option.{Option, none, some}
 use lib.ListN.{length, drop}
-use Rattle.rules.specs.declared.Reading.the-variants.{First}
 use Rattle.gaps.specs.Gaps.{gap}
 use Rattle.keywords.specs.Keywords.{startsAt, keySave}
 use Rattle.grammar.specs.Machine.{Rec, Answer, refused, done}
@@ -87,7 +86,7 @@ nextOf (Broken c o) = Stop o
 
 -- the records of a text that is read, and what is written of them
 abbrev pub recordsOf : List ℕ → List Rec
-recordsOf s = answerRecs (decided First s)
+recordsOf s = answerRecs (decided s)
 
 unfoldable pub storeBytes : Bool → List ℕ → List ℕ
 storeBytes full s = storeOf full s 0 (recordsOf s)
@@ -98,6 +97,6 @@ areaBytes full s = areaIn full s (recordsOf s)
 -- a text is read, and store and area have room for its records
 pub record Fits (full : Bool) (s store area : List ℕ) : Type 0 where
   pub short : length s ≤ limit
-  pub reads : isDone (decided First s) ≡ true
+  pub reads : isDone (decided s) ≡ true
   pub inStore : storeLength full (recordsOf s) ≤ length store
   pub inArea : full ≡ true → areaSize (recordsOf s) ≤ length area

@@ -14,7 +14,6 @@ ghost use Rattle.grammar.specs.Reading.{decided};
 use items::Item;
 use kinds::Kind;
 use putting::Cursor;
-use rules::Reading;
 use values::Found;
 
 // What stands next in a frame: an item that is read, or where the last one stopped.
@@ -48,8 +47,7 @@ fn next_in_frame(s: &[u8], at: usize) -> Next
     }
     let end = words::long_word_end(s, at);
     let stop = gaps::gap_end(s, end);
-    let Found::Value { kind: _, size: _ } = Found::of(values::pack_value(Reading::First, s, stop))
-    else {
+    let Found::Value { kind: _, size: _ } = Found::of(values::pack_value(s, stop)) else {
         return Next::Stop { at: stop };
     };
     Next::Item

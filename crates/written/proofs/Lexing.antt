@@ -9,7 +9,6 @@ use native.Mathlib.Omega.{arith}
 use borrow.Author.Tests.{eqb-true, leb-true}
 use lib.Dec.{eqb, leb}
 use lib.ListN.{length, take, drop}
-use Rattle.rules.specs.declared.Reading.the-variants.{First}
 use Rattle.text.specs.Bytes.{is}
 use Rattle.text.specs.Bytes.{endsWord}
 use Rattle.text.specs.Runs.{span}
@@ -61,20 +60,20 @@ alike false false false false true u z w v h = alike-self _
 alike false false false false false true z w v h = rw (h refl) (alike-none (nothing noStart) tag 0 w (λ k e. cc) (λ k e. cc))
 alike false false false false false false z w v h = alike-self _
 
-tag-none : (b : ℕ) (s : List ℕ) → is 95 b ≡ true → lexValue First 10 b s ≡ lexed (nothing noStart) 0
+tag-none : (b : ℕ) (s : List ℕ) → is 95 b ≡ true → lexValue b s ≡ lexed (nothing noStart) 0
 unfolding is lexValue isOrdinary
 tag-none b s e = rw (eqb-true b 95 e)
 
-modes-alike : (m : Mode) (s : List ℕ) → Alike (lexAsValue First 10 s) (lexIn First 10 m s)
+modes-alike : (m : Mode) (s : List ℕ) → Alike (lexAsValue s) (lexIn m s)
 unfolding lexAsValue lexIn reserved
 modes-alike m [] = alike-self _
 modes-alike m (b ∷ s) =
-    alike (starts keyData (b ∷ s)) (starts keyGlobal (b ∷ s)) (starts keyLoop (b ∷ s)) (starts keySave (b ∷ s)) (starts keyStop (b ∷ s)) (is 95 b) (saveSize m (b ∷ s)) (word (b ∷ s)) (lexValue First 10 b s) (tag-none b s)
+    alike (starts keyData (b ∷ s)) (starts keyGlobal (b ∷ s)) (starts keyLoop (b ∷ s)) (starts keySave (b ∷ s)) (starts keyStop (b ∷ s)) (is 95 b) (saveSize m (b ∷ s)) (word (b ∷ s)) (lexValue b s) (tag-none b s)
 
-pub as-value : (m : Mode) (s : List ℕ) (k n : ℕ) → lexIn First 10 m s ≡ lexed (value k) n → lexAsValue First 10 s ≡ lexed (value k) n
+pub as-value : (m : Mode) (s : List ℕ) (k n : ℕ) → lexIn m s ≡ lexed (value k) n → lexAsValue s ≡ lexed (value k) n
 as-value m s = modes-alike m s .back
 
-pub in-any-mode : (m : Mode) (s : List ℕ) (k n : ℕ) → lexAsValue First 10 s ≡ lexed (value k) n → lexIn First 10 m s ≡ lexed (value k) n
+pub in-any-mode : (m : Mode) (s : List ℕ) (k n : ℕ) → lexAsValue s ≡ lexed (value k) n → lexIn m s ≡ lexed (value k) n
 in-any-mode m s = modes-alike m s .there
 
 -- the first n bytes of s are a word that is a number, and k is its kind
@@ -87,7 +86,7 @@ pub record NumberWord (s : List ℕ) (k n : ℕ) : Type 0 where
 Numeric : List ℕ → Lexed → Type 0
 Numeric s x = (k : ℕ) → x .class ≡ value k → 14 ≤ k → NumberWord s k (x .size)
 
-word-numeric : (s : List ℕ) (x : Lexed) → Numeric s x → Numeric s (wordOr First x s)
+word-numeric : (s : List ℕ) (x : Lexed) → Numeric s x → Numeric s (wordOr x s)
 unfolding wordOr numberOr Numeric lexed
 word-numeric s x h = pick (Numeric s) (isNumber (parts (take (word s) s))) _ x (λ e. by (within (parts (take (word s) s))) refl e) (λ e. h)
   where
@@ -104,7 +103,7 @@ unfolding closed Numeric lexed
 closed-numeric s j why none h = λ k p l. never (cc)
 closed-numeric s j why (some n) h = low-numeric s j (suc n) h
 
-value-numeric : (b : ℕ) (s : List ℕ) → Numeric (b ∷ s) (lexValue First 10 b s)
+value-numeric : (b : ℕ) (s : List ℕ) → Numeric (b ∷ s) (lexValue b s)
 unfolding lexValue Numeric lexed
 value-numeric b s =
     let N = Numeric (b ∷ s) in
@@ -115,13 +114,13 @@ value-numeric b s =
     (λ g. pick N (is 59 b) _ _ (λ g. closed-numeric (b ∷ s) 13 openField (field s) (omega arith))
     (λ g. pick N (isOrdinary b) _ _ (λ g. word-numeric (b ∷ s) (lexed (value 10) (word (b ∷ s))) (low-numeric (b ∷ s) 10 (word (b ∷ s)) (omega arith))) (λ g k p l. never (cc)))))))
 
-alone-numeric : (s : List ℕ) → Numeric s (lexAsValue First 10 s)
+alone-numeric : (s : List ℕ) → Numeric s (lexAsValue s)
 unfolding lexAsValue Numeric lexed
 alone-numeric [] = λ k p l. never (cc)
-alone-numeric (b ∷ s) = pick (Numeric (b ∷ s)) (reserved First (b ∷ s)) _ _ (λ e k p l. never (cc)) (λ e. value-numeric b s)
+alone-numeric (b ∷ s) = pick (Numeric (b ∷ s)) (reserved (b ∷ s)) _ _ (λ e k p l. never (cc)) (λ e. value-numeric b s)
 
 -- A NUMBER IS A WHOLE WORD that is one, within the limits
-pub number-word : (s : List ℕ) (k n : ℕ) → lexAsValue First 10 s ≡ lexed (value k) n → 14 ≤ k → NumberWord s k n
+pub number-word : (s : List ℕ) (k n : ℕ) → lexAsValue s ≡ lexed (value k) n → 14 ≤ k → NumberWord s k n
 unfolding Numeric lexed
 number-word s k n e l = rw (ap (λ (x : Lexed). x .size) e) at (alone-numeric s k (ap (λ (x : Lexed). x .class) e) l)
 
@@ -132,7 +131,7 @@ pub record Worded (key s : List ℕ) (n : ℕ) : Type 0 where
   pub opens : starts key s ≡ true
   pub whole : n ≡ word s
 
-pub heading-word : (s : List ℕ) (n : ℕ) → lex First 10 before s ≡ lexed block n → Worded keyData s n
+pub heading-word : (s : List ℕ) (n : ℕ) → lex before s ≡ lexed block n → Worded keyData s n
 unfolding lex lexed
 heading-word s n e = by (starts keyData s) refl e
   where
@@ -144,29 +143,29 @@ heading-word s n e = by (starts keyData s) refl e
 unfoldable pub keyTag : List ℕ
 keyTag = 95 ∷ []
 
-tag-by : (m : Mode) (b : ℕ) (s : List ℕ) (n : ℕ) → lexIn First 10 m (b ∷ s) ≡ lexed tag n → Worded keyTag (b ∷ s) n
+tag-by : (m : Mode) (b : ℕ) (s : List ℕ) (n : ℕ) → lexIn m (b ∷ s) ≡ lexed tag n → Worded keyTag (b ∷ s) n
 unfolding lexed startsItem keyTag starts is lower
 tag-by m b s n e = by (is 95 b) refl (starts keyLoop (b ∷ s)) refl
   where
     by : (t : Bool) → is 95 b ≡ t → (l : Bool) → starts keyLoop (b ∷ s) ≡ l → Worded keyTag (b ∷ s) n
-    by true q l r = record { opens = rw (eqb-true b 95 q); whole = sym (ap (λ (x : Lexed). x .size) (sym (lex-tag 10 m b s q) ∙ e)) }
-    by false q true r = let z : loop ≡ tag = ap (λ (x : Lexed). x .class) (sym (lex-loop 10 m b s r) ∙ e) in never (cc)
-    by false q false r = absurd (true≢false (sym (ap (λ (x : Lexed). startsItem (x .class)) e) ∙ lex-other 10 m b s r q))
+    by true q l r = record { opens = rw (eqb-true b 95 q); whole = sym (ap (λ (x : Lexed). x .size) (sym (lex-tag m b s q) ∙ e)) }
+    by false q true r = let z : loop ≡ tag = ap (λ (x : Lexed). x .class) (sym (lex-loop m b s r) ∙ e) in never (cc)
+    by false q false r = absurd (true≢false (sym (ap (λ (x : Lexed). startsItem (x .class)) e) ∙ lex-other m b s r q))
 
-pub tag-word : (m : Mode) (s : List ℕ) (n : ℕ) → lexIn First 10 m s ≡ lexed tag n → Worded keyTag s n
+pub tag-word : (m : Mode) (s : List ℕ) (n : ℕ) → lexIn m s ≡ lexed tag n → Worded keyTag s n
 unfolding lexIn lexed
 tag-word m [] n e = let z : nothing atEnd ≡ tag = ap (λ (x : Lexed). x .class) e in never (cc)
 tag-word m (b ∷ s) n e = tag-by m b s n e
 
-opening-by : (b : ℕ) (s : List ℕ) (n : ℕ) → lexIn First 10 inBlock (b ∷ s) ≡ lexed save n → Worded keySave (b ∷ s) n
+opening-by : (b : ℕ) (s : List ℕ) (n : ℕ) → lexIn inBlock (b ∷ s) ≡ lexed save n → Worded keySave (b ∷ s) n
 unfolding lexed isPlain saveSize
 opening-by b s n e = by (starts keySave (b ∷ s)) refl
   where
     by : (t : Bool) → starts keySave (b ∷ s) ≡ t → Worded keySave (b ∷ s) n
-    by true q = record { opens = q; whole = sym (ap (λ (x : Lexed). x .size) (sym (lex-save 10 inBlock b s q) ∙ e)) }
-    by false q = absurd (false≢true (sym (ap (λ (x : Lexed). isPlain (x .class)) e) ∙ lex-plain 10 inBlock b s q))
+    by true q = record { opens = q; whole = sym (ap (λ (x : Lexed). x .size) (sym (lex-save inBlock b s q) ∙ e)) }
+    by false q = absurd (false≢true (sym (ap (λ (x : Lexed). isPlain (x .class)) e) ∙ lex-plain inBlock b s q))
 
-pub opening-word : (s : List ℕ) (n : ℕ) → lexIn First 10 inBlock s ≡ lexed save n → Worded keySave s n
+pub opening-word : (s : List ℕ) (n : ℕ) → lexIn inBlock s ≡ lexed save n → Worded keySave s n
 unfolding lexIn lexed
 opening-word [] n e = let z : nothing atEnd ≡ save = ap (λ (x : Lexed). x .class) e in never (cc)
 opening-word (b ∷ s) n e = opening-by b s n e

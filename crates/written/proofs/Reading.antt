@@ -8,7 +8,6 @@ use native.Mathlib.Omega.{arith}
 use borrow.Author.Tests.{le-ltb}
 use lib.ListN.{length, take, length-append}
 use lib.Seq.{take-at}
-use Rattle.rules.specs.declared.Reading.the-variants.{First}
 use Rattle.places.specs.Reports.{success}
 use Rattle.kinds.specs.Kinds.{kindOf, shapeOf, bodyLength}
 use Rattle.records.specs.Put.{front}
@@ -43,7 +42,7 @@ pub record Reads (s store area : List ℕ) (rs : List Rec) : Type 0 where
   pub stored : storeBytes s store area ≡ storeOf true s 0 rs
   pub contents : areaBytes s store area ≡ areaOf s rs
 
-pub reads : (s store area : List ℕ) (rs : List Rec) → outline First s ≡ done rs → storeSize rs ≤ length store → areaSize rs ≤ length area → Reads s store area rs
+pub reads : (s store area : List ℕ) (rs : List Rec) → outline s ≡ done rs → storeSize rs ≤ length store → areaSize rs ≤ length area → Reads s store area rs
 unfolding readAnswer readBy readRoom storeBytes readStore readStoreBy areaBytes readArea readAreaBy writtenIf success front
 reads s store area rs e m k =
     let f = each-map (λ r. facts) (sources (outline-taken s rs e .read .taken)) in

@@ -8,12 +8,11 @@ use native.Mathlib.Omega.{arith}
 use borrow.Author.Tests.{ltb-false}
 use lib.Dec.{ltb, eqb}
 use lib.ListN.{length}
-use Rattle.rules.specs.declared.Reading.the-variants.{First}
 use Rattle.text.specs.Bytes.{isAscii}
 use Rattle.text.specs.Runs.{span}
 use Rattle.places.specs.Places.{placeAt}
 use Rattle.places.specs.Reports.{success, refusedAt, refusedBare, noRoom}
-use Rattle.values.specs.Values.{Class, block, loop, save, tag, value, overLimit, nothing, atEnd, reservedWord, noStart, openQuote, openField, joined}
+use Rattle.values.specs.Values.{Class, block, loop, save, tag, value, overLimit, nothing, atEnd, reservedWord, noStart, openQuote, openField}
 use Rattle.grammar.specs.Tokens.{Tok, tokens}
 use Rattle.grammar.specs.Machine.{Rec, Answer, refused, done, State, start, items, names, values, wants, Config, config, Outcome, go, stop, rec, loopEnd, closes, fails, atItem, loopEnds, atValue, noMoreNames, atName, atWant, atStart, move, follow, run, reason, inBlockOnly}
 use Rattle.grammar.specs.Reading.{decided, outline}
@@ -42,12 +41,12 @@ module _ (t : Tok) where
   closes-ok f out overLimit = omega arith
   closes-ok f out (nothing w) = omega arith
 
-  fails-ok : (n o d : ℕ) (f : Option ℕ) (out : List Rec) → 1 ≤ n → Ok (fails First (refused n o d) f out t)
+  fails-ok : (n o d : ℕ) (f : Option ℕ) (out : List Rec) → 1 ≤ n → Ok (fails (refused n o d) f out t)
   unfolding Ok Numbered fails
   fails-ok n o d none out h = h
   fails-ok n o d (some f) out h = closes-ok f out (t .class)
 
-  item-ok : (d : ℕ) (f : Option ℕ) (out : List Rec) (c : Class) → Ok (atItem First d f out c t)
+  item-ok : (d : ℕ) (f : Option ℕ) (out : List Rec) (c : Class) → Ok (atItem d f out c t)
   unfolding Ok Numbered atItem
   item-ok d f out loop = tt
   item-ok d f out tag = tt
@@ -59,20 +58,19 @@ module _ (t : Tok) where
   item-ok d f out (nothing noStart) = fails-ok 7 (t .at) d f out (omega arith)
   item-ok d f out (nothing openQuote) = fails-ok 7 (t .at) d f out (omega arith)
   item-ok d f out (nothing openField) = fails-ok 7 (t .at) d f out (omega arith)
-  item-ok d f out (nothing joined) = fails-ok 7 (t .at) d f out (omega arith)
   item-ok d f out block = fails-ok 7 (t .at) d f out (omega arith)
   item-ok d f out (value k) = fails-ok 7 (t .at) d f out (omega arith)
   item-ok d f out overLimit = fails-ok 7 (t .at) d f out (omega arith)
 
-  ends-ok : (a n k : ℕ) (f : Option ℕ) (out held : List Rec) → Ok (loopEnds First a n k f out held t)
+  ends-ok : (a n k : ℕ) (f : Option ℕ) (out held : List Rec) → Ok (loopEnds a n k f out held t)
   unfolding loopEnds
   ends-ok a n k f out held = by (eqb (k % n) 0)
     where
-      by : (b : Bool) → Ok (cond b (atItem First (inBlockOnly f (reason (t .class))) f (out ++ held ++ (loopEnd ∷ [])) (t .class) t) (fails First (refused 5 a (k % n)) f out t))
+      by : (b : Bool) → Ok (cond b (atItem (inBlockOnly f (reason (t .class))) f (out ++ held ++ (loopEnd ∷ [])) (t .class) t) (fails (refused 5 a (k % n)) f out t))
       by true = item-ok _ f (out ++ held ++ (loopEnd ∷ [])) (t .class)
       by false = fails-ok 5 a (k % n) f out (omega arith)
 
-  value-ok : (a n k : ℕ) (f : Option ℕ) (out held : List Rec) (c : Class) → Ok (atValue First a n k f out held c t)
+  value-ok : (a n k : ℕ) (f : Option ℕ) (out held : List Rec) (c : Class) → Ok (atValue a n k f out held c t)
   unfolding Ok Numbered atValue
   value-ok a n k f out held (value kind) = tt
   value-ok a n k f out held overLimit = omega arith
@@ -82,12 +80,12 @@ module _ (t : Tok) where
   value-ok a n k f out held tag = ends-ok a n k f out held
   value-ok a n k f out held (nothing w) = ends-ok a n k f out held
 
-  more-ok : (a n : ℕ) (f : Option ℕ) (out held : List Rec) → Ok (noMoreNames First a n f out held t)
+  more-ok : (a n : ℕ) (f : Option ℕ) (out held : List Rec) → Ok (noMoreNames a n f out held t)
   unfolding Ok Numbered noMoreNames
   more-ok a zero f out held = omega arith
   more-ok a (suc n) f out held = value-ok a (suc n) 0 f out held (t .class)
 
-  name-ok : (a n : ℕ) (f : Option ℕ) (out held : List Rec) (c : Class) → Ok (atName First a n f out held c t)
+  name-ok : (a n : ℕ) (f : Option ℕ) (out held : List Rec) (c : Class) → Ok (atName a n f out held c t)
   unfolding Ok atName
   name-ok a n f out held tag = tt
   name-ok a n f out held block = more-ok a n f out held
@@ -97,7 +95,7 @@ module _ (t : Tok) where
   name-ok a n f out held overLimit = more-ok a n f out held
   name-ok a n f out held (nothing w) = more-ok a n f out held
 
-  want-ok : (a : ℕ) (f : Option ℕ) (out held : List Rec) (c : Class) → Ok (atWant First a f out held c t)
+  want-ok : (a : ℕ) (f : Option ℕ) (out held : List Rec) (c : Class) → Ok (atWant a f out held c t)
   unfolding Ok Numbered atWant
   want-ok a f out held (value kind) = tt
   want-ok a f out held overLimit = omega arith
@@ -107,7 +105,7 @@ module _ (t : Tok) where
   want-ok a f out held tag = fails-ok 6 a (reason tag) f out (omega arith)
   want-ok a f out held (nothing w) = fails-ok 6 a (reason (nothing w)) f out (omega arith)
 
-  start-ok : (c : Class) → Ok (atStart First c t)
+  start-ok : (c : Class) → Ok (atStart c t)
   unfolding Ok Numbered atStart
   start-ok block = tt
   start-ok loop = omega arith
@@ -117,7 +115,7 @@ module _ (t : Tok) where
   start-ok overLimit = omega arith
   start-ok (nothing w) = omega arith
 
-  move-ok : (s : State) (f : Option ℕ) (out held : List Rec) → Ok (move First s f out held t)
+  move-ok : (s : State) (f : Option ℕ) (out held : List Rec) → Ok (move s f out held t)
   unfolding move
   move-ok start f out held = start-ok (t .class)
   move-ok (items d) f out held = item-ok d f out (t .class)
@@ -125,37 +123,37 @@ module _ (t : Tok) where
   move-ok (values a n k) f out held = value-ok a n k f out held (t .class)
   move-ok (wants a) f out held = want-ok a f out held (t .class)
 
-run-ok : (ts : List Tok) (c : Config) → Numbered (run First ts c)
+run-ok : (ts : List Tok) (c : Config) → Numbered (run ts c)
 unfolding run Numbered
 run-ok [] c = omega arith
-run-ok (t ∷ ts) c = by (move First (c .state) (c .frame) (c .out) (c .held) t) (move-ok t (c .state) (c .frame) (c .out) (c .held)) (run-ok ts)
+run-ok (t ∷ ts) c = by (move (c .state) (c .frame) (c .out) (c .held) t) (move-ok t (c .state) (c .frame) (c .out) (c .held)) (run-ok ts)
   where
-    by : (x : Outcome) → Ok x → ((c : Config) → Numbered (run First ts c)) → Numbered (follow x (λ c. run First ts c))
+    by : (x : Outcome) → Ok x → ((c : Config) → Numbered (run ts c)) → Numbered (follow x (λ c. run ts c))
     by (go c) h f = unfold follow in f c
     by (stop a) h f = unfold follow Ok in h
 
 -- A REFUSAL HAS A NUMBER
-outline-refuses : (s : List ℕ) → Numbered (outline First s)
+outline-refuses : (s : List ℕ) → Numbered (outline s)
 unfolding outline decided Numbered
 outline-refuses s = by (ltb limit (length s)) (ltb (span isAscii s) (length s))
   where
-    by : (t u : Bool) → Numbered (cond t (refused 1 0 0) (cond u (refused 2 (span isAscii s) 0) (decided First s)))
+    by : (t u : Bool) → Numbered (cond t (refused 1 0 0) (cond u (refused 2 (span isAscii s) 0) (decided s)))
     by true u = omega arith
     by false true = omega arith
-    by false false = run-ok (tokens First s) (config start none [] [])
+    by false false = run-ok (tokens s) (config start none [] [])
 
 -- Read is done: the text's records, and room for them
 pub record Done (s : List ℕ) (m k : ℕ) : Type 0 where
   pub records : List Rec
-  pub read : outline First s ≡ done records
+  pub read : outline s ≡ done records
   pub store : storeSize records ≤ m
   pub area : areaSize records ≤ k
 
 pub read-done : (s : List ℕ) (m k : ℕ) → readAnswer s m k .number ≡ 0 → Done s m k
 unfolding readAnswer
-read-done s m k e = by (outline First s) refl (outline-refuses s) e
+read-done s m k e = by (outline s) refl (outline-refuses s) e
   where
-    room : (rs : List Rec) → outline First s ≡ done rs → (x : Bool) → ltb m (storeSize rs) ≡ x → (y : Bool) → ltb k (areaSize rs) ≡ y
+    room : (rs : List Rec) → outline s ≡ done rs → (x : Bool) → ltb m (storeSize rs) ≡ x → (y : Bool) → ltb k (areaSize rs) ≡ y
         → cond x (noRoom 10 (storeSize rs) (areaSize rs)) (cond y (noRoom 11 (storeSize rs) (areaSize rs)) (success (storeSize rs) (areaSize rs))) .number ≡ 0 → Done s m k
     room rs q true p y r e = absurd (unfold noRoom in omega arith)
     room rs q false p true r e = absurd (unfold noRoom in omega arith)
@@ -165,6 +163,6 @@ read-done s m k e = by (outline First s) refl (outline-refuses s) e
     number n o d true h e = unfold refusedBare in omega arith
     number n o d false h e = unfold refusedAt in omega arith
 
-    by : (x : Answer) → outline First s ≡ x → Numbered x → readBy s m k x .number ≡ 0 → Done s m k
+    by : (x : Answer) → outline s ≡ x → Numbered x → readBy s m k x .number ≡ 0 → Done s m k
     by (refused n o d) q h e = absurd (number n o d (eqb n 1) (unfold Numbered in h) (unfold readBy refusal in e))
     by (done rs) q h e = room rs q (ltb m (storeSize rs)) refl (ltb k (areaSize rs)) refl (unfold readBy readRoom in e)

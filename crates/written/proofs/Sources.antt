@@ -6,7 +6,6 @@ use mathlib.Core.Path.{_≡_, refl, sym, ap, _∙_}
 use mathlib.Core.List.{List, [], _∷_, _++_}
 use native.Mathlib.Omega.{arith}
 use lib.ListN.{length, drop, length-drop}
-use Rattle.rules.specs.declared.Reading.the-variants.{First}
 use Rattle.text.specs.Bytes.{endsWord}
 use Rattle.words.specs.Words.{inWord}
 use Rattle.values.specs.Values.{Class, block, loop, save, tag, value, Lexed, lexed, lexAsValue}
@@ -77,8 +76,8 @@ module _ {s : List ℕ} {r : Rec} where
   took-within : {m : Mode} {k : ℕ} (c : Class) → Took s m c k r → r .at + r .size ≤ length s
   unfolding lexed
   took-within {m} c t =
-      let n : (lex First 10 m (drop (r .at) s)) .size ≡ r .size = ap (λ (x : Lexed). x .size) (t .reads) in
-      omega (arith, lex-fits First 10 m (drop (r .at) s), length-drop (r .at) s, t .within)
+      let n : (lex m (drop (r .at) s)) .size ≡ r .size = ap (λ (x : Lexed). x .size) (t .reads) in
+      omega (arith, lex-fits m (drop (r .at) s), length-drop (r .at) s, t .within)
 
   took-facts : {m : Mode} (c : Class) (k : ℕ) → 1 ≤ k → k < 14 → (k ≡ 6 → 0 < r .size) → Took s m c k r → Facts s r
   took-facts c k l h g t =
@@ -93,7 +92,7 @@ module _ {s : List ℕ} {r : Rec} where
   name-some true t = worded-some (drop (r .at) s) (r .size) (tag-word inFrame (drop (r .at) s) (r .size) (t .reads))
   name-some false t = worded-some (drop (r .at) s) (r .size) (tag-word inBlock (drop (r .at) s) (r .size) (t .reads))
 
-  pub value-reads : (f : Bool) (k : ℕ) → Took s (modeOf f) (value k) k r → lexAsValue First 10 (drop (r .at) s) ≡ lexed (value k) (r .size)
+  pub value-reads : (f : Bool) (k : ℕ) → Took s (modeOf f) (value k) k r → lexAsValue (drop (r .at) s) ≡ lexed (value k) (r .size)
   unfolding modeOf lex
   value-reads true k t = as-value inFrame (drop (r .at) s) k (r .size) (t .reads)
   value-reads false k t = as-value inBlock (drop (r .at) s) k (r .size) (t .reads)
@@ -112,7 +111,7 @@ module _ {s : List ℕ} {r : Rec} where
   facts (of-end e) = end-facts e
   facts (of-value f k t) =
       let v = value-reads f k t in
-      let l : Lies First (drop (r .at) s) k (r .size) = value-lies First 10 (drop (r .at) s) k (r .size) v in
+      let l : Lies (drop (r .at) s) k (r .size) = value-lies (drop (r .at) s) k (r .size) v in
       let e = t .kind in
       record {
         low = omega (arith, l .low);

@@ -12,14 +12,12 @@ use borrow.Author.Tests.{eqb-true, ltb-false}
 use lib.Dec.{ltb, eqb}
 use lib.ListN.{length, drop, length-drop}
 use lib.Seq.{drop-drop}
-use Rattle.rules.specs.declared.Reading.the-variants.{First}
 use Rattle.text.specs.Bytes.{isAscii}
 use Rattle.text.specs.Runs.{span}
 use Rattle.gaps.specs.Gaps.{gap}
 use Rattle.gaps.proofs.Gaps.{gap-fits}
-use Rattle.values.specs.Values.{Class, block, loop, save, tag, value, overLimit, nothing, atEnd, reservedWord, noStart, openQuote, openField, joined, Lexed, lexed}
-use Rattle.grammar.proofs.First.{firstTokens, tokens-first}
-use Rattle.grammar.specs.Tokens.{Mode, before, inBlock, inFrame, lex, after, Tok, tok, emit, step, tokens}
+use Rattle.values.specs.Values.{Class, block, loop, save, tag, value, overLimit, nothing, atEnd, reservedWord, noStart, openQuote, openField, Lexed, lexed}
+use Rattle.grammar.specs.Tokens.{Mode, before, inBlock, inFrame, lex, after, Tok, tok, emit, step, tokensFrom, tokens}
 use Rattle.grammar.specs.Machine.{Rec, Answer, refused, done, State, start, items, names, values, wants, Config, config, Outcome, go, stop, rec, loopEnd, closes, fails, atItem, loopEnds, atValue, noMoreNames, atName, atWant, atStart, move, follow, run, reason, inBlockOnly}
 use Rattle.grammar.specs.Reading.{decided, outline}
 use Rattle.text.specs.Limits.{limit}
@@ -39,7 +37,7 @@ bytes-append (r ∷ a) b = omega (arith, bytes-append a b)
 -- the record r, of kind k, was made of a token of class c that stands where r says, read in mode m
 pub record Took (s : List ℕ) (m : Mode) (c : Class) (k : ℕ) (r : Rec) : Type 0 where
   pub kind : r .kind ≡ k
-  pub reads : lex First 10 m (drop (r .at) s) ≡ lexed c (r .size)
+  pub reads : lex m (drop (r .at) s) ≡ lexed c (r .size)
   pub within : r .at ≤ length s
 
 -- in a frame or not: the mode of its tokens and the machine's frame
@@ -109,7 +107,7 @@ rows-last : {s : List ℕ} {f : Bool} {out : List Rec} (e : Bool) → (e ≡ tru
 rows-last true n h = absurd (n refl)
 rows-last false n h = h
 
-module _ (s : List ℕ) (m : Mode) (t : Tok) (reads : lex First 10 m (drop (t .at) s) ≡ lexed (t .class) (t .size)) (within : t .at ≤ length s) where
+module _ (s : List ℕ) (m : Mode) (t : Tok) (reads : lex m (drop (t .at) s) ≡ lexed (t .class) (t .size)) (within : t .at ≤ length s) where
   Ok : ℕ → Outcome → Type 0
   Ok o (go c) = Good s (after (t .class) m) (o + t .size) c
   Ok o (stop (done rs)) = Read s o rs
@@ -133,14 +131,14 @@ module _ (s : List ℕ) (m : Mode) (t : Tok) (reads : lex First 10 m (drop (t .a
   closes-ok o a e out overLimit q p h b = tt
   closes-ok o a e out (nothing w) q p h b = tt
 
-  fails-ok : (o n a d : ℕ) {f e : Bool} (fr : Option ℕ) (out : List Rec) → In f m fr → Taken s f e out → bytesOf out ≤ o → Ok o (fails First (refused n a d) fr out t)
+  fails-ok : (o n a d : ℕ) {f e : Bool} (fr : Option ℕ) (out : List Rec) → In f m fr → Taken s f e out → bytesOf out ≤ o → Ok o (fails (refused n a d) fr out t)
   unfolding Ok fails
   fails-ok o n a d none out i h b = tt
   fails-ok o n a d {f} {e} (some x) out i h b =
       let j = in-frame i in
       closes-ok o x e out (t .class) (j .mode) refl (rw (j .frame) at h) b
 
-  item-ok : (o d : ℕ) {f e : Bool} (fr : Option ℕ) (out : List Rec) (c : Class) → In f m fr → Taken s f e out → bytesOf out ≤ o → t .class ≡ c → (e ≡ true → c ≡ tag → ⊥) → Ok o (atItem First d fr out c t)
+  item-ok : (o d : ℕ) {f e : Bool} (fr : Option ℕ) (out : List Rec) (c : Class) → In f m fr → Taken s f e out → bytesOf out ≤ o → t .class ≡ c → (e ≡ true → c ≡ tag → ⊥) → Ok o (atItem d fr out c t)
   unfolding Ok atItem config after bytesOf rec
   item-ok o d fr out loop i h b p n =
       record { has = rw p (at-names i h (opens (rw (in-mode i) at (took loop 5 p)))); spent = omega arith }
@@ -161,7 +159,6 @@ module _ (s : List ℕ) (m : Mode) (t : Tok) (reads : lex First 10 m (drop (t .a
   item-ok o d fr out (nothing noStart) i h b p n = fails-ok o 7 (t .at) d fr out i h b
   item-ok o d fr out (nothing openQuote) i h b p n = fails-ok o 7 (t .at) d fr out i h b
   item-ok o d fr out (nothing openField) i h b p n = fails-ok o 7 (t .at) d fr out i h b
-  item-ok o d fr out (nothing joined) i h b p n = fails-ok o 7 (t .at) d fr out i h b
   item-ok o d fr out block i h b p n = fails-ok o 7 (t .at) d fr out i h b
   item-ok o d fr out (value k) i h b p n = fails-ok o 7 (t .at) d fr out i h b
   item-ok o d fr out overLimit i h b p n = fails-ok o 7 (t .at) d fr out i h b
@@ -171,15 +168,15 @@ module _ (s : List ℕ) (m : Mode) (t : Tok) (reads : lex First 10 m (drop (t .a
   unfolding bytesOf loopEnd
   ended-spent o out held b = omega (arith, bytes-append (out ++ held) (loopEnd ∷ []), bytes-append out held)
 
-  rows-ok : (o a n j : ℕ) {f e : Bool} (fr : Option ℕ) (out held : List Rec) → In f m fr → Taken s f e out → Rows s f (suc n) (suc j) held → bytesOf out + bytesOf held ≤ o → Ok o (loopEnds First a (suc n) (suc j) fr out held t)
+  rows-ok : (o a n j : ℕ) {f e : Bool} (fr : Option ℕ) (out held : List Rec) → In f m fr → Taken s f e out → Rows s f (suc n) (suc j) held → bytesOf out + bytesOf held ≤ o → Ok o (loopEnds a (suc n) (suc j) fr out held t)
   unfolding loopEnds
   rows-ok o a n j {f} {e} fr out held i h g b = pick (eqb (suc j % suc n) 0) refl
     where
-      pick : (x : Bool) → eqb (suc j % suc n) 0 ≡ x → Ok o (cond x (atItem First (inBlockOnly fr (reason (t .class))) fr (out ++ held ++ (loopEnd ∷ [])) (t .class) t) (fails First (refused 5 a (suc j % suc n)) fr out t))
+      pick : (x : Bool) → eqb (suc j % suc n) 0 ≡ x → Ok o (cond x (atItem (inBlockOnly fr (reason (t .class))) fr (out ++ held ++ (loopEnd ∷ [])) (t .class) t) (fails (refused 5 a (suc j % suc n)) fr out t))
       pick true q = item-ok o _ fr (out ++ held ++ (loopEnd ∷ [])) (t .class) i (rows h g (eqb-true (suc j % suc n) 0 q)) (ended-spent o out held b) refl (λ z w. true≢false (sym z))
       pick false q = fails-ok o 5 a (suc j % suc n) fr out i h (omega arith)
 
-  value-ok : (o a n j : ℕ) {f e : Bool} (fr : Option ℕ) (out held : List Rec) (c : Class) → In f m fr → Taken s f e out → Rows s f (suc n) (suc j) held → bytesOf out + bytesOf held ≤ o → t .class ≡ c → Ok o (atValue First a (suc n) (suc j) fr out held c t)
+  value-ok : (o a n j : ℕ) {f e : Bool} (fr : Option ℕ) (out held : List Rec) (c : Class) → In f m fr → Taken s f e out → Rows s f (suc n) (suc j) held → bytesOf out + bytesOf held ≤ o → t .class ≡ c → Ok o (atValue a (suc n) (suc j) fr out held c t)
   unfolding Ok atValue config after bytesOf rec
   value-ok o a n j fr out held (value k) i h g b p =
       record { has = rw p (at-values i h (next k g (rw (in-mode i) at (took (value k) k p)))); spent = omega (arith, bytes-append held (rec k t ∷ [])) }
@@ -190,14 +187,14 @@ module _ (s : List ℕ) (m : Mode) (t : Tok) (reads : lex First 10 m (drop (t .a
   value-ok o a n j fr out held tag i h g b p = rows-ok o a n j fr out held i h g b
   value-ok o a n j fr out held (nothing w) i h g b p = rows-ok o a n j fr out held i h g b
 
-  bare-ok : (o a n : ℕ) {f e : Bool} (fr : Option ℕ) (out held : List Rec) → In f m fr → Taken s f e out → Tags s f (suc n) held → bytesOf out + bytesOf held ≤ o → (t .class ≡ tag → ⊥) → Ok o (loopEnds First a (suc n) 0 fr out held t)
+  bare-ok : (o a n : ℕ) {f e : Bool} (fr : Option ℕ) (out held : List Rec) → In f m fr → Taken s f e out → Tags s f (suc n) held → bytesOf out + bytesOf held ≤ o → (t .class ≡ tag → ⊥) → Ok o (loopEnds a (suc n) 0 fr out held t)
   unfolding loopEnds
   bare-ok o a n {f} {e} fr out held i h g b z =
       let q : 0 % suc n ≡ 0 = zero-mod (suc n) in
       rw q (item-ok o _ fr (out ++ held ++ (loopEnd ∷ [])) (t .class) i (no-rows h g) (ended-spent o out held b) refl (λ w. z))
 
   -- the first value, or none
-  first-ok : (o a n : ℕ) {f e : Bool} (fr : Option ℕ) (out held : List Rec) (c : Class) → In f m fr → Taken s f e out → Tags s f (suc n) held → bytesOf out + bytesOf held ≤ o → t .class ≡ c → (c ≡ tag → ⊥) → Ok o (atValue First a (suc n) 0 fr out held c t)
+  first-ok : (o a n : ℕ) {f e : Bool} (fr : Option ℕ) (out held : List Rec) (c : Class) → In f m fr → Taken s f e out → Tags s f (suc n) held → bytesOf out + bytesOf held ≤ o → t .class ≡ c → (c ≡ tag → ⊥) → Ok o (atValue a (suc n) 0 fr out held c t)
   unfolding Ok atValue config after bytesOf rec
   first-ok o a n fr out held (value k) i h g b p z =
       record { has = rw p (at-values i h (first k g (rw (in-mode i) at (took (value k) k p)))); spent = omega (arith, bytes-append held (rec k t ∷ [])) }
@@ -208,12 +205,12 @@ module _ (s : List ℕ) (m : Mode) (t : Tok) (reads : lex First 10 m (drop (t .a
   first-ok o a n fr out held tag i h g b p z = absurd (z refl)
   first-ok o a n fr out held (nothing w) i h g b p z = bare-ok o a n fr out held i h g b (λ w. z (sym p ∙ w))
 
-  more-ok : (o a n : ℕ) {f e : Bool} (fr : Option ℕ) (out held : List Rec) (c : Class) → In f m fr → Taken s f e out → Tags s f n held → bytesOf out + bytesOf held ≤ o → t .class ≡ c → (c ≡ tag → ⊥) → Ok o (noMoreNames First a n fr out held t)
+  more-ok : (o a n : ℕ) {f e : Bool} (fr : Option ℕ) (out held : List Rec) (c : Class) → In f m fr → Taken s f e out → Tags s f n held → bytesOf out + bytesOf held ≤ o → t .class ≡ c → (c ≡ tag → ⊥) → Ok o (noMoreNames a n fr out held t)
   unfolding Ok noMoreNames
   more-ok o a zero fr out held c i h g b p z = tt
   more-ok o a (suc n) fr out held c i h g b p z = first-ok o a n fr out held (t .class) i h g b refl (λ w. z (sym p ∙ w))
 
-  name-ok : (o a n : ℕ) {f e : Bool} (fr : Option ℕ) (out held : List Rec) (c : Class) → In f m fr → Taken s f e out → Tags s f n held → bytesOf out + bytesOf held ≤ o → t .class ≡ c → Ok o (atName First a n fr out held c t)
+  name-ok : (o a n : ℕ) {f e : Bool} (fr : Option ℕ) (out held : List Rec) (c : Class) → In f m fr → Taken s f e out → Tags s f n held → bytesOf out + bytesOf held ≤ o → t .class ≡ c → Ok o (atName a n fr out held c t)
   unfolding Ok atName config after bytesOf rec
   name-ok o a n fr out held tag i h g b p =
       record { has = rw p (at-names i h (named g (rw (in-mode i) at (took tag 6 p)))); spent = omega (arith, bytes-append held (rec 6 t ∷ [])) }
@@ -224,7 +221,7 @@ module _ (s : List ℕ) (m : Mode) (t : Tok) (reads : lex First 10 m (drop (t .a
   name-ok o a n fr out held overLimit i h g b p = more-ok o a n fr out held overLimit i h g b p (λ z. never (cc))
   name-ok o a n fr out held (nothing w) i h g b p = more-ok o a n fr out held (nothing w) i h g b p (λ z. never (cc))
 
-  want-ok : (o a : ℕ) {f : Bool} (fr : Option ℕ) (out : List Rec) (r : Rec) (c : Class) → In f m fr → Taken s f false out → Took s (modeOf f) tag 4 r → bytesOf out + bytesOf (r ∷ []) ≤ o → t .class ≡ c → Ok o (atWant First a fr out (r ∷ []) c t)
+  want-ok : (o a : ℕ) {f : Bool} (fr : Option ℕ) (out : List Rec) (r : Rec) (c : Class) → In f m fr → Taken s f false out → Took s (modeOf f) tag 4 r → bytesOf out + bytesOf (r ∷ []) ≤ o → t .class ≡ c → Ok o (atWant a fr out (r ∷ []) c t)
   unfolding Ok atWant config after bytesOf rec
   want-ok o a fr out r (value k) i h g b p =
       record {
@@ -238,7 +235,7 @@ module _ (s : List ℕ) (m : Mode) (t : Tok) (reads : lex First 10 m (drop (t .a
   want-ok o a fr out r tag i h g b p = fails-ok o 6 a (reason tag) fr out i h (omega arith)
   want-ok o a fr out r (nothing w) i h g b p = fails-ok o 6 a (reason (nothing w)) fr out i h (omega arith)
 
-  start-ok : (o : ℕ) (c : Class) → m ≡ before → t .class ≡ c → Ok o (atStart First c t)
+  start-ok : (o : ℕ) (c : Class) → m ≡ before → t .class ≡ c → Ok o (atStart c t)
   unfolding Ok atStart config after bytesOf rec
   start-ok o block q p = record { has = rw p (at-items block-mode (heading (rw q at (took block 1 p)))); spent = omega arith }
   start-ok o loop q p = tt
@@ -249,8 +246,8 @@ module _ (s : List ℕ) (m : Mode) (t : Tok) (reads : lex First 10 m (drop (t .a
   start-ok o (nothing w) q p = tt
 
 -- one token
-move-ok : (s : List ℕ) (m : Mode) (t : Tok) (reads : lex First 10 m (drop (t .at) s) ≡ lexed (t .class) (t .size)) (within : t .at ≤ length s)
-    → (o : ℕ) {st : State} {fr : Option ℕ} {out held : List Rec} → Has s m st fr out held → bytesOf out + bytesOf held ≤ o → Ok s m t reads within o (move First st fr out held t)
+move-ok : (s : List ℕ) (m : Mode) (t : Tok) (reads : lex m (drop (t .at) s) ≡ lexed (t .class) (t .size)) (within : t .at ≤ length s)
+    → (o : ℕ) {st : State} {fr : Option ℕ} {out held : List Rec} → Has s m st fr out held → bytesOf out + bytesOf held ≤ o → Ok s m t reads within o (move st fr out held t)
 unfolding move bytesOf
 move-ok s _ t reads within o at-start b = start-ok s before t reads within o (t .class) refl refl
 move-ok s m t reads within o (at-items {fr = fr} {d = d} {out = out} i h) b = item-ok s m t reads within o d fr out (t .class) i h (omega arith) refl (λ z w. true≢false (sym z))
@@ -259,12 +256,12 @@ move-ok s m t reads within o (at-values {fr = fr} {a = a} {n = n} {j = j} {out =
 move-ok s m t reads within o (at-wants {fr = fr} {a = a} {out = out} {r = r} i h g) b = want-ok s m t reads within o a fr out r (t .class) i h g b refl
 
 -- what a token leads to: the end, or what is read on
-onward : (s : List ℕ) (m : Mode) (t : Tok) (ts : List Tok) (o : ℕ) (c : Config) (rs : List Rec) → lex First 10 m (drop (t .at) s) ≡ lexed (t .class) (t .size) → t .at ≤ length s → o ≤ length s → Good s m o c
-    → ((c′ : Config) → Good s (after (t .class) m) (o + t .size) c′ → run First ts c′ ≡ done rs → Read s (length s) rs) → run First (t ∷ ts) c ≡ done rs → Read s (length s) rs
+onward : (s : List ℕ) (m : Mode) (t : Tok) (ts : List Tok) (o : ℕ) (c : Config) (rs : List Rec) → lex m (drop (t .at) s) ≡ lexed (t .class) (t .size) → t .at ≤ length s → o ≤ length s → Good s m o c
+    → ((c′ : Config) → Good s (after (t .class) m) (o + t .size) c′ → run ts c′ ≡ done rs → Read s (length s) rs) → run (t ∷ ts) c ≡ done rs → Read s (length s) rs
 unfolding run follow Ok
-onward s m t ts o c rs reads within l g more e = by (move First (c .state) (c .frame) (c .out) (c .held) t) (move-ok s m t reads within o (g .has) (g .spent)) e
+onward s m t ts o c rs reads within l g more e = by (move (c .state) (c .frame) (c .out) (c .held) t) (move-ok s m t reads within o (g .has) (g .spent)) e
   where
-    by : (x : Outcome) → Ok s m t reads within o x → follow x (λ c′. run First ts c′) ≡ done rs → Read s (length s) rs
+    by : (x : Outcome) → Ok s m t reads within o x → follow x (λ c′. run ts c′) ≡ done rs → Read s (length s) rs
     by (go c′) k q = more c′ k q
     by (stop (done r)) k q = let z : rs ≡ r = cc in rw z (record { rowless = k .rowless; taken = k .taken; spent = omega (arith, k .spent) })
     by (stop (refused n a d)) k q = never (cc)
@@ -273,11 +270,11 @@ rest-of : (s u : List ℕ) (b o : ℕ) → drop o s ≡ b ∷ u → drop (suc o)
 rest-of s u b o q = rw (← add-one o, ← drop-drop 1 o s) (ap (drop 1) q)
 
 -- the tokens of the text from o on, of which k bytes belong to what was read
-walk : (s u : List ℕ) (k : ℕ) (m : Mode) (o : ℕ) (c : Config) (rs : List Rec) → drop o s ≡ u → o ≤ length s → k ≤ length u → Good s m (o + k) c → run First (firstTokens u k m o) c ≡ done rs → Read s (length s) rs
-unfolding firstTokens step emit tok lexed
+walk : (s u : List ℕ) (k : ℕ) (m : Mode) (o : ℕ) (c : Config) (rs : List Rec) → drop o s ≡ u → o ≤ length s → k ≤ length u → Good s m (o + k) c → run (tokensFrom u k m o) c ≡ done rs → Read s (length s) rs
+unfolding tokensFrom step emit tok lexed
 walk s [] k m o c rs q l h g e =
     let z : o + k ≡ o = omega arith in
-    onward s m (tok (lex First 10 m []) o) [] o c rs (rw q) l l (rw z at g) (λ c′ _ w. never (unfold run in cc)) e
+    onward s m (tok (lex m []) o) [] o c rs (rw q) l l (rw z at g) (λ c′ _ w. never (unfold run in cc)) e
 walk s (b ∷ u) (suc k) m o c rs q l h g e =
     let z : o + suc k ≡ suc o + k = omega arith in
     walk s u k m (suc o) c rs (rest-of s u b o q) (omega (arith, length-drop o s, ap length q)) (omega arith) (rw z at g) e
@@ -289,16 +286,16 @@ walk s (b ∷ u) zero m o c rs q l h g e = by (gap (b ∷ u)) (gap-fits (b ∷ u
     here : Good s m o c
     here = record { has = g .has; spent = omega (arith, g .spent) }
 
-    token : (n : ℕ) (f : ℕ → List Tok) → (lex First 10 m (b ∷ u)) .size ≡ n → n ≤ suc (length u)
-        → ((k : ℕ) (c : Config) → k ≤ length u → Good s (after ((lex First 10 m (b ∷ u)) .class) m) (suc o + k) c → run First (f k) c ≡ done rs → Read s (length s) rs) → run First (emit n (tok (lex First 10 m (b ∷ u)) o) f) c ≡ done rs → Read s (length s) rs
-    token zero f z w r e = onward s m (tok (lex First 10 m (b ∷ u)) o) [] o c rs (rw q) l l here (λ c′ _ w. never (unfold run in cc)) e
+    token : (n : ℕ) (f : ℕ → List Tok) → (lex m (b ∷ u)) .size ≡ n → n ≤ suc (length u)
+        → ((k : ℕ) (c : Config) → k ≤ length u → Good s (after ((lex m (b ∷ u)) .class) m) (suc o + k) c → run (f k) c ≡ done rs → Read s (length s) rs) → run (emit n (tok (lex m (b ∷ u)) o) f) c ≡ done rs → Read s (length s) rs
+    token zero f z w r e = onward s m (tok (lex m (b ∷ u)) o) [] o c rs (rw q) l l here (λ c′ _ w. never (unfold run in cc)) e
     token (suc n) f z w r e =
-        let y : o + (lex First 10 m (b ∷ u)) .size ≡ suc o + n = omega arith in
-        onward s m (tok (lex First 10 m (b ∷ u)) o) (f n) o c rs (rw q) l l here (λ c′ x. r n c′ (omega arith) (rw y at x)) e
+        let y : o + (lex m (b ∷ u)) .size ≡ suc o + n = omega arith in
+        onward s m (tok (lex m (b ∷ u)) o) (f n) o c rs (rw q) l l here (λ c′ x. r n c′ (omega arith) (rw y at x)) e
 
-    by : (x : ℕ) → x ≤ suc (length u) → ((k : ℕ) (m′ : Mode) (c : Config) (rs : List Rec) → drop (suc o) s ≡ u → suc o ≤ length s → k ≤ length u → Good s m′ (suc o + k) c → run First (firstTokens u k m′ (suc o)) c ≡ done rs → Read s (length s) rs)
-        → run First (step x (lex First 10 m (b ∷ u)) m o (λ k m′. firstTokens u k m′ (suc o))) c ≡ done rs → Read s (length s) rs
-    by zero w r e = token ((lex First 10 m (b ∷ u)) .size) _ refl (lex-fits First 10 m (b ∷ u)) (λ k c x g. r k (after ((lex First 10 m (b ∷ u)) .class) m) c rs (rest-of s u b o q) behind x g) e
+    by : (x : ℕ) → x ≤ suc (length u) → ((k : ℕ) (m′ : Mode) (c : Config) (rs : List Rec) → drop (suc o) s ≡ u → suc o ≤ length s → k ≤ length u → Good s m′ (suc o + k) c → run (tokensFrom u k m′ (suc o)) c ≡ done rs → Read s (length s) rs)
+        → run (step x (lex m (b ∷ u)) m o (λ k m′. tokensFrom u k m′ (suc o))) c ≡ done rs → Read s (length s) rs
+    by zero w r e = token ((lex m (b ∷ u)) .size) _ refl (lex-fits m (b ∷ u)) (λ k c x g. r k (after ((lex m (b ∷ u)) .class) m) c rs (rest-of s u b o q) behind x g) e
     by (suc x) w r e = r x m c rs (rest-of s u b o q) behind (omega arith) (record { has = g .has; spent = omega (arith, g .spent) }) e
 
 -- a text that is read is within the limit and ASCII, and its tokens give its records
@@ -307,16 +304,16 @@ pub record Outline (s : List ℕ) (rs : List Rec) : Type 0 where
   pub ascii : length s ≤ span isAscii s
   pub read : Read s (length s) rs
 
-decided-taken : (s : List ℕ) (rs : List Rec) → decided First s ≡ done rs → Read s (length s) rs
-unfolding decided config bytesOf
-decided-taken s rs e = walk s s 0 before 0 _ rs refl (omega arith) (omega arith) (record { has = at-start; spent = omega arith }) (rw (tokens-first s) at e)
+decided-taken : (s : List ℕ) (rs : List Rec) → decided s ≡ done rs → Read s (length s) rs
+unfolding decided tokens config bytesOf
+decided-taken s rs e = walk s s 0 before 0 _ rs refl (omega arith) (omega arith) (record { has = at-start; spent = omega arith }) e
 
 -- THE RECORDS OF A TEXT THAT IS READ
-pub outline-taken : (s : List ℕ) (rs : List Rec) → outline First s ≡ done rs → Outline s rs
+pub outline-taken : (s : List ℕ) (rs : List Rec) → outline s ≡ done rs → Outline s rs
 unfolding outline limit
 outline-taken s rs e = by (ltb limit (length s)) refl (ltb (span isAscii s) (length s)) refl e
   where
-    by : (x : Bool) → ltb limit (length s) ≡ x → (y : Bool) → ltb (span isAscii s) (length s) ≡ y → cond x (refused 1 0 0) (cond y (refused 2 (span isAscii s) 0) (decided First s)) ≡ done rs → Outline s rs
+    by : (x : Bool) → ltb limit (length s) ≡ x → (y : Bool) → ltb (span isAscii s) (length s) ≡ y → cond x (refused 1 0 0) (cond y (refused 2 (span isAscii s) 0) (decided s)) ≡ done rs → Outline s rs
     by true p y r q = never (cc)
     by false p true r q = never (cc)
     by false p false r q = record { fits = ltb-false limit (length s) p; ascii = ltb-false (span isAscii s) (length s) r; read = decided-taken s rs q }

@@ -9,7 +9,6 @@ use native.Mathlib.Nat.{pow-le-pow-right}
 use borrow.Author.Tests.{eqb-true}
 use lib.Dec.{eqb}
 use lib.ListN.{length, drop, length-append}
-use Rattle.rules.specs.declared.Reading.the-variants.{First}
 use Rattle.places.specs.Places.{placeAt}
 use Rattle.places.proofs.Places.{line-bound, column-bound}
 use Rattle.text.proofs.Ranges.{passes}
@@ -111,7 +110,7 @@ module _ (s : List ℕ) (fits : length s ≤ 16777216) (r : Rec) (h : Facts s r)
 
   pub bounded : 14 ≤ r .kind → Bounded (decimalOf s r)
   unfolding decimalOf tokenText numberIn judged
-  bounded l = let w = h .number l in number-facts First (tokenText s r) (decimalOf s r) (rw (w .number, w .kept))
+  bounded l = let w = h .number l in number-facts (tokenText s r) (decimalOf s r) (rw (w .number, w .kept))
 
   small : 14 ≤ r .kind → Small (decimalOf s r)
   small l =

@@ -2,7 +2,6 @@
 use mathlib.Core.Path.{_≡_, sym, _∙_}
 use borrow.Author.Needs.{needs}
 use borrow.Author.Tests.{eq-eqb, ne-eqb}
-use Rattle.rules.specs.declared.Reading.the-variants.{First}
 use Rattle.values.specs.Finding.{foundAt}
 use Rattle.values.proofs.Choices.{not-value}
 use Rattle.values.proofs.Packs.{found-packed}
@@ -12,8 +11,8 @@ use Rattle.contents.proofs.is_bare.Statement.{statement}
 use Rattle.contents.proofs.is_bare.Tie as tie
 
 -- what is found
-found : (b : tie.After-of) → b .of .result ≡ foundAt First (b .before .before .before .args .content .now) 0
-found b = found-packed _ _ _ _ _ (b .before .pack-value .ensures) (b .of .ensures)
+found : (b : tie.After-of) → b .of .result ≡ foundAt (b .before .before .before .args .content .now) 0
+found b = found-packed _ _ _ _ (b .before .pack-value .ensures) (b .of .ensures)
 
 pack-value-requires : tie.Need-pack-value-requires
 pack-value-requires c κs = search needs

@@ -3,7 +3,6 @@ use Prim.Native.Nat.{_-_, _*_}
 use mathlib.Core.Path.{_≡_, sym, _∙_}
 use native.Mathlib.Omega.{arith}
 use lib.ListN.{length}
-use Rattle.rules.specs.declared.Reading.the-variants.{First}
 use Rattle.text.specs.Limits.{limit}
 use Rattle.values.specs.Finding.{foundAt}
 use Rattle.values.proofs.Choices.{not-value, over-left}
@@ -21,8 +20,8 @@ abbrev μ-loop : tie.MeasureT-loop
 μ-loop s from at₀ count₀ sizes₀ at count sizes = length s - at
 
 -- what is found
-found : (b : tie.After-of Inv-loop μ-loop) → b .of .result ≡ foundAt First (b .before .before .before .before .before .args .s .now) (b .before .before .loop .at)
-found b = found-packed _ _ _ _ _ (b .before .pack-value .ensures) (b .of .ensures)
+found : (b : tie.After-of Inv-loop μ-loop) → b .of .result ≡ foundAt (b .before .before .before .before .before .args .s .now) (b .before .before .loop .at)
+found b = found-packed _ _ _ _ (b .before .pack-value .ensures) (b .of .ensures)
 
 none-requires : tie.Need-none-requires Inv-loop μ-loop
 none-requires c κs = tt
@@ -63,7 +62,7 @@ add-value-requires c κs =
     let ready = c .before .before .before .before .before .before .before .before .pre in
     let e = sym (found (c .before .before .before)) ∙ c .before .found .given .1 in
     let v = value-step _ (l .at) _ _ (l .inv .bare) e in
-    let f = found-lies First _ (l .at) _ _ e in
+    let f = found-lies _ (l .at) _ _ e in
     (upto-more (l .at) (limit * limit) (l .sizes) (l .inv .fits) (omega (arith, l .inv .within, ready .small)), omega (arith, v .within, ready .small), f .low, f .high, f .marks)
 
 add-count : tie.Need-add-count Inv-loop μ-loop

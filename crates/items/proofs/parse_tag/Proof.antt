@@ -2,7 +2,6 @@
 use Prim.Native.Nat.{_*_, _-_}
 use mathlib.Core.Path.{sym, _∙_}
 use native.Mathlib.Omega.{arith}
-use Rattle.rules.specs.declared.Reading.the-variants.{First}
 use Rattle.text.specs.Limits.{limit}
 use Rattle.sizes.specs.Sizes.{noSizes}
 use Rattle.values.proofs.Choices.{not-value, over-left}
@@ -30,7 +29,7 @@ tag-read b =
       tagged = p .1;
       ends = b .before .before .before .long-word-end .ensures;
       stops = b .before .before .gap-end .ensures;
-      finds = found-packed _ _ _ _ _ (b .before .pack-value .ensures) (b .of .ensures);
+      finds = found-packed _ _ _ _ (b .before .pack-value .ensures) (b .of .ensures);
     }
 
 long-word-end-requires : tie.Need-long-word-end-requires
@@ -70,7 +69,7 @@ add-value-requires c κs =
     let small = b .before .before .before .before .before .pre .0 .small in
     let w = tag-onward (tag-read b) in
     let v = tag-value-within (tag-read b) _ _ (c .before .before .before .found .given .1) in
-    let f = found-lies First _ _ _ _ (sym (tag-read b .finds) ∙ c .before .before .before .found .given .1) in
+    let f = found-lies _ _ _ _ (sym (tag-read b .finds) ∙ c .before .before .before .found .given .1) in
     (rw (c .add .ensures, c .before .none .ensures) (upto-added 0 4 _ (limit * limit) noSizes (upto-none 0) (omega arith) (omega (arith, w .1, small))), omega (arith, v .1, small), f .low, f .high, f .marks)
 
 add-gap-end : tie.Need-add-gap-end

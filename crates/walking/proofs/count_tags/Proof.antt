@@ -3,7 +3,6 @@ use Prim.Native.Nat.{_+_, _-_, _≤_}
 use mathlib.Core.Path.{_≡_, sym, ap, _∙_}
 use native.Mathlib.Omega.{arith}
 use lib.ListN.{length}
-use Rattle.rules.specs.declared.Reading.the-variants.{First}
 use Rattle.gaps.specs.Gaps.{gapEnd}
 use Rattle.gaps.proofs.Gaps.{gap-from, gap-within}
 use Rattle.words.specs.Words.{wordEnd}
@@ -29,7 +28,7 @@ loop-holds : tie.Need-loop-holds Inv-loop μ-loop
 loop-holds c =
     let a = c .before .before .args in
     let e = c .gap-end .ensures in
-    (omega (arith, e, gap-within (a .s .now) (a .from) (c .before .before .pre)), rw e (gap-twice (a .s .now) (a .from)), omega arith, rw e (omega (arith, ap (λ x. length (nameRecs x)) (tokens-gap First inBlock (a .s .now) (a .from)))))
+    (omega (arith, e, gap-within (a .s .now) (a .from) (c .before .before .pre)), rw e (gap-twice (a .s .now) (a .from)), omega arith, rw e (omega (arith, ap (λ x. length (nameRecs x)) (tokens-gap inBlock (a .s .now) (a .from)))))
 
 at-tag-requires : tie.Need-at-tag-requires Inv-loop μ-loop
 at-tag-requires c κs = tt

@@ -3,7 +3,6 @@ use Prim.Native.Nat.{_-_}
 use mathlib.Core.Path.{_≡_, sym, _∙_}
 use native.Mathlib.Omega.{arith}
 use lib.ListN.{length}
-use Rattle.rules.specs.declared.Reading.the-variants.{First}
 use Rattle.gaps.proofs.Gaps.{gap-from}
 use Rattle.text.specs.Limits.{limit}
 use Rattle.values.specs.Finding.{foundAt}
@@ -33,8 +32,8 @@ trimmed-requires : tie.Need-trimmed-requires Inv-loop μ-loop
 trimmed-requires c κs = c .loop .inv .going .place
 
 -- what is found
-found : (b : tie.After-of Inv-loop μ-loop) → b .of .result ≡ foundAt First (b .before .before .before .before .before .before .before .before .args .s .now) (b .before .before .before .trimmed .result .place .offset)
-found b = found-packed _ _ _ _ _ (b .before .pack-value .ensures) (b .of .ensures)
+found : (b : tie.After-of Inv-loop μ-loop) → b .of .result ≡ foundAt (b .before .before .before .before .before .before .before .before .args .s .now) (b .before .before .before .trimmed .result .place .offset)
+found b = found-packed _ _ _ _ (b .before .pack-value .ensures) (b .of .ensures)
 
 pack-value-requires : tie.Need-pack-value-requires Inv-loop μ-loop
 unfolding limit

@@ -3,7 +3,6 @@ use borrow.Author.Needs.{needs}
 use mathlib.Core.Path.{_≡_, refl, sym, ap, _∙_}
 use borrow.Author.Tests.{not-false}
 use native.Mathlib.Omega.{arith}
-use Rattle.rules.specs.declared.Reading.the-variants.{First}
 use Rattle.text.specs.Limits.{limit}
 use Rattle.values.specs.Finding.{foundAt}
 use Rattle.values.proofs.Choices.{not-value}
@@ -29,8 +28,8 @@ gap-end-requires : tie.Need-gap-end-requires
 gap-end-requires c κs = search needs
 
 -- what is found
-found : (b : tie.After-of) → b .of .result ≡ foundAt First (b .before .before .before .before .before .before .before .args .s .now) (b .before .before .gap-end .result)
-found b = found-packed _ _ _ _ _ (b .before .pack-value .ensures) (b .of .ensures)
+found : (b : tie.After-of) → b .of .result ≡ foundAt (b .before .before .before .before .before .before .before .args .s .now) (b .before .before .gap-end .result)
+found b = found-packed _ _ _ _ (b .before .pack-value .ensures) (b .of .ensures)
 
 pack-value-requires : tie.Need-pack-value-requires
 unfolding limit
