@@ -1,5 +1,6 @@
--- NAME CHECK (document 01): within one scope (the block's own tags, or one frame's) no two names of kinds 4 and 6 are the same; document 02, Two: once A to Z is taken as a to z. 13 gives the number of the
--- first record of that name, then of the earliest record that repeats one. Records count from 0 over the whole store. Assumes nothing.
+-- NAME CHECK (document 01): within one scope (the block's own tags, or one frame's) no two names of kinds 4 and 6 are the same, which they are once A to Z is taken
+-- as a to z (document 02, Two). 13 gives the number of the first record of that name, then of the earliest record that repeats one. Records count from 0 over the
+-- whole store. Assumes nothing.
 use Prim.Native.Nat.{ℕ}
 use mathlib.Core.Bool.{cond}
 use mathlib.Core.List.{List, [], _∷_, _++_}
