@@ -104,16 +104,9 @@ const AROUND_BYTES: [Around; 6] = [
     ("data_x _a ;", "\n; _b 1"),
 ];
 
-const STRICT_AROUND_BYTES: [Around; 8] = [
-    ("", "data_x"),
-    ("data_", ""),
-    ("data_x ", " 1"),
-    ("data_x _a ", ""),
-    ("data_x _a '", "' _b 1"),
-    ("data_x _a ;", "\n; _b 1"),
-    ("data_x _a\n;", "\n; _b 1"),
-    ("data_x _a\n;b\n;", " _b 1"),
-];
+/// Further ones for the strict reading: in a field of column 1, and behind one.
+const STRICT_AROUND_BYTES: [Around; 2] =
+    [("data_x _a\n;", "\n; _b 1"), ("data_x _a\n;b\n;", " _b 1")];
 
 /// How far the exhaustive texts go: pieces in a row, and letters of a word.
 pub struct Depth {
@@ -141,13 +134,14 @@ impl Depth {
 
 /// Gives every exhaustive text to `use_text` until that answers false.
 pub fn each(mix: Reading, depth: &Depth, use_text: &mut dyn FnMut(&[u8]) -> bool) -> bool {
-    let (around_fragments, around_bytes): (&[Around], &[Around]) = match mix {
-        Reading::First => (&AROUND_FRAGMENTS, &AROUND_BYTES),
+    let (around_fragments, further_bytes): (&[Around], &[Around]) = match mix {
+        Reading::First => (&AROUND_FRAGMENTS, &[]),
         Reading::Strict => (&STRICT_AROUND_FRAGMENTS, &STRICT_AROUND_BYTES),
     };
     sequences(around_fragments, fragments(mix), depth.fragments, use_text)
         && sequences(&AROUND_WORDS, &LETTERS, depth.letters, use_text)
-        && byte_pairs(around_bytes, use_text)
+        && byte_pairs(&AROUND_BYTES, use_text)
+        && byte_pairs(further_bytes, use_text)
 }
 
 /// All rows of at most so many pieces, in each surrounding.

@@ -9,6 +9,8 @@ mod lines;
 mod numbers;
 #[cfg(test)]
 mod strict_tests;
+#[cfg(test)]
+mod told;
 mod values;
 
 use crate::answer::{mark_bytes, Answer, Body, Place, Record, Refusal};

@@ -1,5 +1,6 @@
 //! The readings of document 01, and the reasons that document 02 adds to them.
 
+use super::told::{told, Told};
 use super::*;
 use crate::answer::Decimal;
 use crate::stores;
@@ -12,16 +13,8 @@ fn number(word: &str) -> Number {
     super::number(Reading::First, word.as_bytes())
 }
 
-fn refused(text: &str) -> (u8, usize, usize, usize, usize) {
-    let refusal = read(text.as_bytes()).expect_err(text);
-    let place = refusal.place;
-    (
-        refusal.number,
-        place.offset,
-        place.line,
-        place.column,
-        refusal.detail,
-    )
+fn refused(text: &str) -> Told {
+    told(read(text.as_bytes()).expect_err(text))
 }
 
 fn kinds(text: &str) -> Vec<u8> {

@@ -6,6 +6,7 @@ mod numbers;
 mod structure;
 mod tokens;
 
+use super::told::{told, Told};
 use super::*;
 
 fn read(text: &str) -> Vec<Record> {
@@ -13,18 +14,9 @@ fn read(text: &str) -> Vec<Record> {
         .unwrap_or_else(|stop| panic!("{text:?}: {stop:?}"))
 }
 
-/// Number, offset, line, column and detail of a refusal.
-fn refused(text: &str) -> (u8, usize, usize, usize, usize) {
+fn refused(text: &str) -> Told {
     let answer = super::read(Reading::Strict, text.as_bytes());
-    let refusal = answer.expect_err(text);
-    let place = refusal.place;
-    (
-        refusal.number,
-        place.offset,
-        place.line,
-        place.column,
-        refusal.detail,
-    )
+    told(answer.expect_err(text))
 }
 
 fn kinds(text: &str) -> Vec<u8> {

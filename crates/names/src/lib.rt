@@ -7,6 +7,7 @@ ghost use Rattle.names.specs.Names.{sameBoth, blockAfter, scopeAfter, is
 ghost use Rattle.names.specs.Order.{lessName};
 ghost use Rattle.names.specs.Numbers.{mix as mixOf, hashOf};
 ghost use Rattle.names.specs.Parts.{nameOf, Inside};
+use kinds::Kind;
 
 // A name: its record's offset and number, its scope, and the part of the area that holds it.
 pub struct Named {
@@ -52,17 +53,17 @@ pub fn is_before(area: &[u8], a: usize, n: usize, b: usize, m: usize) -> bool
 pub fn is_name(kind: u8) -> bool
     ensures { λ r. ⌜ r ≡ isNameKind kind ⌝ }
 {
-    if kind == 4 {
+    if kind == Kind::TAG {
         return true;
     }
-    kind == 6
+    kind == Kind::LOOP_TAG
 }
 
 // The block behind a record: its number is that of its own record.
 pub fn block_after(kind: u8, number: usize, block: usize) -> usize
     ensures { λ r. ⌜ r ≡ blockAfter kind number block ⌝ }
 {
-    if kind == 1 {
+    if kind == Kind::BLOCK {
         return number;
     }
     block
@@ -72,13 +73,13 @@ pub fn block_after(kind: u8, number: usize, block: usize) -> usize
 pub fn scope_after(kind: u8, number: usize, block: usize, scope: usize) -> usize
     ensures { λ r. ⌜ r ≡ scopeAfter kind number block scope ⌝ }
 {
-    if kind == 1 {
+    if kind == Kind::BLOCK {
         return number;
     }
-    if kind == 2 {
+    if kind == Kind::FRAME_OPEN {
         return number;
     }
-    if kind == 3 {
+    if kind == Kind::FRAME_CLOSE {
         return block;
     }
     scope

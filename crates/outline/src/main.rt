@@ -88,7 +88,7 @@ fn say_outline(text: &[u8]) {
         say(b"input over 65536 bytes\n");
         return;
     }
-    let mut store = io::large_buffer();
+    let mut store = io::large_buffer(); // it has LIMIT bytes
     let report = outlining::outline(text, &mut store).report();
     if report.number != 0 {
         say_refusal(report);

@@ -5,12 +5,12 @@ use mathlib.Core.Bool.{Bool, true, false}
 use mathlib.Core.List.{List, [], _∷_}
 use native.Mathlib.Omega.{arith}
 use native.Mathlib.Numerals.{add-one}
-use native.Mathlib.Nat.{zero-min, min-zero, suc-min-suc, min-le-right}
+use native.Mathlib.Nat.{min-le-right}
 use borrow.Author.Tests.{eqb-true, leb-true, leb-false}
 use lib.Dec.{eqb, leb}
-use lib.ListN.{length, take, drop, length-drop, drop-of-length-le}
-use lib.Seq.{take-nil}
+use lib.ListN.{length, drop}
 use Rattle.text.proofs.Bools.{or-cases}
+use Rattle.text.proofs.Parts.{part-is, part-none, part-clamped, part-past}
 use Rattle.kinds.specs.declared.Kind.{Kind}
 use Rattle.entries.specs.declared.Fields.{Fields}
 use Rattle.entries.specs.declared.Entry.the-variants.{Record, Nothing}
@@ -29,23 +29,6 @@ use Rattle.steps.specs.declared.Spot.{Spot}
 use Rattle.steps.specs.declared.Next.{Next}
 use Rattle.steps.specs.declared.Next.the-variants.{Met, End}
 use Rattle.steps.specs.Steps.{Holds, namesAt, Counted, first, listed, Kept, Ahead, Reached, heldBy, heldAt, HeldAt, Before}
-
-take-min : (n : ℕ) (l : List ℕ) → take (min n (length l)) l ≡ take n l
-take-min zero l = rw zero-min
-take-min (suc n) [] = rw min-zero
-take-min (suc n) (x ∷ l) = rw suc-min-suc (ap (λ (r : List ℕ). x ∷ r) (take-min n l))
-
--- a part that would reach past the area ends there
-pub part-clamped : (ar : List ℕ) (from size : ℕ) → part ar from (min size (length ar - from)) ≡ part ar from size
-unfolding part
-part-clamped ar from size = rw (← length-drop from ar) (take-min size (drop from ar))
-
-pub part-past : (ar : List ℕ) (from size : ℕ) → length ar < from → part ar 0 0 ≡ part ar from size
-unfolding part
-part-past ar from size h =
-    let l : length ar ≤ from = omega arith in
-    let d : drop from ar ≡ [] = drop-of-length-le ar l in
-    rw d (sym (take-nil size))
 
 -- the names from an offset on, with a record's number, block and scope
 unfoldable pub namesOn : List ℕ → List ℕ → ℕ → ℕ → ℕ → ℕ → List Name
@@ -160,13 +143,13 @@ meets-less st ar s x after m =
 
 -- a record's name, cut off at the area's end
 pub holds-past : (ar : List ℕ) (k : Kind) (f : Fields) (at i scope : ℕ) → length ar < f .number → Holds ar k f i scope (record { at = at; number = i; scope = scope; from = 0; size = 0 })
-holds-past ar k f at i scope h = record { name = rw (part-past ar (f .number) (f .token .length - marksOf k) h, content-bytes ar k f) (unfold part in refl); inside = omega arith }
+holds-past ar k f at i scope h = record { name = rw (part-past ar (f .number) (f .token .length - marksOf k) h, content-bytes ar k f) (rw (part-is ar (f .number) (f .token .length - marksOf k))); inside = omega arith }
 
 pub holds-within : (ar : List ℕ) (k : Kind) (f : Fields) (at i scope n : ℕ) → f .number ≤ length ar → n ≡ min (f .token .length - marksOf k) (length ar - f .number) →
     Holds ar k f i scope (record { at = at; number = i; scope = scope; from = f .number; size = n })
 holds-within ar k f at i scope n h e =
     record {
-      name = rw (e, part-clamped ar (f .number) (f .token .length - marksOf k), content-bytes ar k f) (unfold part in refl);
+      name = rw (e, part-clamped ar (f .number) (f .token .length - marksOf k), content-bytes ar k f) (rw (part-is ar (f .number) (f .token .length - marksOf k)));
       inside = rw e (omega (arith, min-le-right (f .token .length - marksOf k) (length ar - f .number)));
     }
 
@@ -176,5 +159,5 @@ unfolding heldAt heldBy
 held-record st ar at i scope k f next r e h = record { bytes = ap (λ (x : Name). x .bytes) (h .name) ∙ rw e; inside = h .inside }
 
 pub held-none : (st ar : List ℕ) (at : ℕ) (r : Named) → entryAt st at ≡ Nothing → r .from ≡ 0 → r .size ≡ 0 → HeldAt st ar at r
-unfolding heldAt heldBy part
-held-none st ar at r e f s = record { bytes = rw (e, f, s); inside = omega arith }
+unfolding heldAt heldBy
+held-none st ar at r e f s = record { bytes = rw (e, f, s) (part-none ar 0); inside = omega arith }
