@@ -74,6 +74,9 @@ fn modules(root: &Path, package: &Path) -> String {
 
 /// Tells the linker where the proved library stands.
 fn link_library() {
+    if env::var("CARGO_CFG_TARGET_ARCH").is_ok_and(|arch| arch != "x86_64") {
+        panic!("the feature library links for x86-64 alone: build for x86_64-unknown-linux-gnu (cargo's --target)");
+    }
     let Some(folder) = env::var_os("CHUNTAREK_LIB_DIR") else {
         panic!("the feature library needs CHUNTAREK_LIB_DIR, the folder of libchuntarek.a");
     };

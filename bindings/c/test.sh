@@ -7,30 +7,35 @@ root=$(cd "$here/../.." && pwd)
 library=${CHUNTAREK_LIB_DIR:-$root/target/staticlib}/libchuntarek.a
 work=$(mktemp -d)
 trap 'rm -rf "$work"' EXIT
+. "$root/.ci/machine"
 
 fail() { echo "bindings/c/test.sh: $*" >&2; exit 1; }
 
+has_tools || fail "$missing"
 if [ ! -f "$library" ] && [ -z "${CHUNTAREK_LIB_DIR:-}" ]; then
     (cd "$root" && rt staticlib chuntarek) >&2 || fail "rt staticlib chuntarek failed"
 fi
 [ -f "$library" ] || fail "no library at $library"
 
 # build SOURCE PROGRAM
-build() { "${CC:-gcc}" -O2 -Wall -Wextra -Werror -std=c11 -pthread -I "$here" "$1" "$library" -o "$work/$2"; }
+build() { "${CC:-$c_compiler}" -O2 -Wall -Wextra -Werror -std=c11 -pthread -I "$here" "$1" "$library" -o "$work/$2"; }
+
+# run PROGRAM ARGUMENTS
+run() { "${emulator[@]}" "$work/$1" "${@:2}"; }
 
 # A refused file has status 1, any other 0.
 expected_status() { if grep -q '^refused' "$1"; then echo 1; else echo 0; fi; }
 
 outline_matches() {
     local outline=$1 file=${1%.outline}.cif status=0
-    "$work/outline" "$file" >"$work/got" || status=$?
+    run outline "$file" >"$work/got" || status=$?
     diff -u "$outline" "$work/got" || fail "outline of ${file#"$root"/} differs"
     [ "$status" -eq "$(expected_status "$outline")" ] || fail "outline of ${file#"$root"/} ended with status $status"
 }
 
 build "$here/calls.c" calls
 build "$here/outline.c" outline
-"$work/calls" || fail "calls failed"
+run calls || fail "calls failed"
 count=0
 for outline in "$root"/examples/*.outline "$root"/examples/refused/*.outline; do
     outline_matches "$outline"
@@ -38,13 +43,13 @@ for outline in "$root"/examples/*.outline "$root"/examples/refused/*.outline; do
 done
 
 status=0
-"$work/outline" "$root/examples/no-such-file" 2>/dev/null || status=$?
+run outline "$root/examples/no-such-file" 2>/dev/null || status=$?
 [ "$status" -eq 2 ] || fail "a missing file ended with status $status"
 
 # shellcheck disable=SC2016 # the marks are the README's own
 sed -n '/^```c$/,/^```$/{/^```/!p}' "$root/README.md" >"$work/readme.c"
 build "$work/readme.c" readme
-"$work/readme" >"$work/got" || fail "the README's example failed"
+run readme >"$work/got" || fail "the README's example failed"
 diff -u - "$work/got" <<'TEXT' || fail "the README's example prints something else"
 kind 1 at line 1, column 1
 kind 4 at line 1, column 8
@@ -52,5 +57,5 @@ kind 15 at line 1, column 11
 TEXT
 
 build "$here/stack.c" stack
-"$work/stack" 96 "$root"/examples/*.cif "$root"/examples/refused/*.cif >"$work/got" || fail "a service needs more stack than it may"
+run stack 96 "$root"/examples/*.cif "$root"/examples/refused/*.cif >"$work/got" || fail "a service needs more stack than it may"
 echo "bindings/c: every function called, $count outlines as expected"

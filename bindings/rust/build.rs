@@ -23,7 +23,8 @@ fn main() {
 fn folder() -> Result<PathBuf, String> {
     if env::var("CARGO_CFG_TARGET_ARCH").is_ok_and(|arch| arch != "x86_64") {
         return Err(format!(
-            "{ARCHIVE} is made for x86-64 and links into no other program"
+            "{ARCHIVE} is made for x86-64 and links into no other program: build for x86_64-unknown-linux-gnu \
+             (cargo's --target), and run what is built under an emulator"
         ));
     }
     match env::var_os("CHUNTAREK_LIB_DIR") {

@@ -9,12 +9,15 @@ program=$(readlink -f "${1:-$root/target/bin/outline}")
 work=$(mktemp -d)
 trap 'rm -rf "$work"' EXIT
 count=0
+. "$root/.ci/machine"
 
 fail() { echo "crates/outline/cases.sh: $*" >&2; exit 1; }
 
+has_tools || fail "$missing"
+
 # expect NAME TEXT-FILE PRINTED-FILE
 expect() {
-    "$program" <"$2" >"$work/got" || fail "$1: ended with status $?"
+    "${emulator[@]}" "$program" <"$2" >"$work/got" || fail "$1: ended with status $?"
     diff "$3" "$work/got" >"$work/difference" || { head -n 10 "$work/difference" >&2; fail "$1: expected <, printed >"; }
     count=$((count + 1))
 }
@@ -73,7 +76,7 @@ says "store one record short" "$(table 3853)" 'refused 10 0 0 0\n'
 says "7 behind a full store" "$(table 3853) 'b" 'refused 7 7722 1 7723\n'
 
 # A text that arrives piece by piece is one text.
-{ printf 'da'; sleep 0.1; printf 'ta_x'; sleep 0.1; printf '\n_a ?'; } | "$program" >"$work/got"
+{ printf 'da'; sleep 0.1; printf 'ta_x'; sleep 0.1; printf '\n_a ?'; } | "${emulator[@]}" "$program" >"$work/got"
 printf '1 0 6 1 1\n4 7 2 2 1\n9 10 1 2 4\nend\n' | cmp -s - "$work/got" || fail "a text in pieces"
 
 for outline in "$root"/examples/*.outline "$root"/examples/refused/*.outline; do

@@ -1,5 +1,6 @@
 //! The command: its output, its messages and its exit statuses.
 
+use std::env;
 use std::fs;
 use std::io::{Read, Write};
 use std::path::{Path, PathBuf};
@@ -8,10 +9,19 @@ use std::process::{Command, Stdio};
 /// What a run of the command leaves: exit status, standard output, standard error.
 type Run = (i32, String, String);
 
+/// The words before a program that cargo built, as cargo itself takes them: an emulator where the machine is not x86-64.
+fn runner() -> Vec<String> {
+    let words = env::var("CARGO_TARGET_X86_64_UNKNOWN_LINUX_GNU_RUNNER").unwrap_or_default();
+    words.split_whitespace().map(String::from).collect()
+}
+
 /// The command, run where the examples stand below `examples`.
 fn command(words: &[&str]) -> Command {
-    let mut command = Command::new(env!("CARGO_BIN_EXE_chuntarek"));
+    let mut program = runner();
+    program.push(env!("CARGO_BIN_EXE_chuntarek").into());
+    let mut command = Command::new(&program[0]);
     command
+        .args(&program[1..])
         .args(words)
         .current_dir(Path::new(env!("CARGO_MANIFEST_DIR")).join("../.."));
     command
