@@ -11,6 +11,7 @@ use numbers::Number;
 use places::Place;
 use quotes::Closing;
 use records::Token;
+use rules::Reading;
 use values::Value;
 use values::Why;
 
@@ -62,8 +63,8 @@ fn decimal(d: Decimal) {
     say::number(d.uncertainty as u64);
 }
 
-pub fn number(w: &[u8]) {
-    let n = numbers::parse_numeric(w);
+pub fn number(reading: Reading, w: &[u8]) {
+    let n = numbers::parse_numeric(reading, w);
     match n {
         Number::Not => say::bytes(b" no number"),
         Number::Over => say::bytes(b" over"),
@@ -78,15 +79,16 @@ fn reason(w: Why) {
         Why::NoStart => say::bytes(b" none: no start"),
         Why::OpenQuote => say::bytes(b" none: open quote"),
         Why::OpenField => say::bytes(b" none: open field"),
+        Why::Joined => say::bytes(b" none: joined"),
     }
 }
 
-// The value that a text starts with. Lengths of values take four bytes.
-pub fn value(s: &[u8]) {
+// The value at an offset of a text. Lengths of values take four bytes.
+pub fn value(reading: Reading, s: &[u8], at: usize) {
     if 4294967295 < s.len() {
         return;
     }
-    let v = values::parse_value(s, 0);
+    let v = values::parse_value(reading, s, at);
     match v {
         Value::Token { kind, size } => {
             say::number(kind as u64);
@@ -109,7 +111,7 @@ struct Written {
 }
 
 fn integer_of(w: &[u8]) -> u32 {
-    let n = numbers::parse_numeric(w);
+    let n = numbers::parse_numeric(Reading::First, w);
     match n {
         Number::Is(d) => d.integer,
         _ => 0,
@@ -179,7 +181,7 @@ fn write(rest: &mut [u8], kind: u8, token: Token, last: u32)
 
 // A number's record into a store of 40 bytes, one more than it takes at most.
 pub fn number_record(w: &[u8]) {
-    let n = numbers::parse_numeric(w);
+    let n = numbers::parse_numeric(Reading::First, w);
     let Number::Is(d) = n else {
         return;
     };

@@ -2,10 +2,11 @@
 // for a byte; it is written back with what the leaf answers. Lines that are empty or start with `#` are written back as they are.
 mod leaves;
 
-use harness::lines;
+use harness::lines as vectors;
 use harness::parts;
 use harness::say;
 use libc::STDIN_FILENO;
+use rules::Reading;
 
 fn leaves_of_text(leaf: u8, s: &[u8]) {
     match leaf {
@@ -21,12 +22,23 @@ fn leaves_of_text(leaf: u8, s: &[u8]) {
 fn leaves_of_words(leaf: u8, s: &[u8]) {
     match leaf {
         b'w' => say::size(words::parse_identifier(s, 0)),
-        b'r' => say::flag(keywords::is_reserved(s, 0)),
+        b'r' => say::flag(keywords::is_reserved(Reading::First, s, 0)),
         b'q' => leaves::closing(quotes::parse_enclosed(s, 1, b'\'')),
         b'd' => leaves::closing(quotes::parse_enclosed(s, 1, b'"')),
         b'f' => leaves::closing(quotes::parse_multiline_string(s, 1)),
-        b'n' => leaves::number(s),
-        b'v' => leaves::value(s),
+        b'n' => leaves::number(Reading::First, s),
+        b'v' => leaves::value(Reading::First, s, 0),
+        _ => (),
+    }
+}
+
+// The same in the strict reading; `W` looks for a value behind the text's first byte.
+fn strict_leaves(leaf: u8, s: &[u8]) {
+    match leaf {
+        b'R' => say::flag(keywords::is_reserved(Reading::Strict, s, 0)),
+        b'N' => leaves::number(Reading::Strict, s),
+        b'V' => leaves::value(Reading::Strict, s, 0),
+        b'W' => leaves::value(Reading::Strict, s, 1),
         _ => (),
     }
 }
@@ -44,17 +56,18 @@ fn leaves_of_records(leaf: u8, s: &[u8]) {
 // What the leaf answers to the text that a line has.
 fn answer(leaf: u8, s: &[u8]) {
     let mut buffer = io::buffer();
-    let end = lines::unfold(s, &mut buffer, 0);
+    let end = vectors::unfold(s, &mut buffer, 0);
     let text = parts::part(&buffer, 0, end);
     leaves_of_text(leaf, text);
     leaves_of_words(leaf, text);
+    strict_leaves(leaf, text);
     leaves_of_records(leaf, text);
 }
 
 // A line: written back, and behind it what its leaf answers.
 fn run_line(s: &[u8]) {
     say::bytes(s);
-    let from = lines::text_start(s);
+    let from = vectors::text_start(s);
     if 0 < from {
         say::arrow();
         answer(s[0], &s[from..]);
@@ -65,7 +78,7 @@ fn run_line(s: &[u8]) {
 fn run(s: &[u8]) {
     let mut at = 0;
     while at < s.len() {
-        let end = lines::line_end(s, at);
+        let end = vectors::line_end(s, at);
         run_line(&s[at..end]);
         at = end + 1;
     }

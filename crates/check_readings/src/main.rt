@@ -3,11 +3,12 @@
 // counted kept their values, the records of the store, field by field, and the area. Lines that are empty or start with `#` are written back as they are.
 mod shown;
 
-use harness::lines;
+use harness::lines as vectors;
 use harness::parts;
 use harness::say;
 use libc::STDIN_FILENO;
 use places::Report;
+use rules::Reading;
 
 // The bytes of the store and of the area, and what stands in them before.
 const ROOM: usize = 512;
@@ -54,64 +55,76 @@ fn say_outline(report: Report, store: &[u8]) {
 }
 
 // Read, with so much room of what is lent.
-fn read(text: &[u8], store: &mut [u8], m: usize, area: &mut [u8], k: usize) -> Report {
+fn read(
+    reading: Reading,
+    text: &[u8],
+    store: &mut [u8],
+    m: usize,
+    area: &mut [u8],
+    k: usize,
+) -> Report {
     let stores = parts::least(m, store.len());
     let areas = parts::least(k, area.len());
-    reading::read(text, &mut store[..stores], &mut area[..areas]).report()
+    reading::read(reading, text, &mut store[..stores], &mut area[..areas]).report()
 }
 
-fn outline(text: &[u8], store: &mut [u8], m: usize) -> Report {
+fn outline(reading: Reading, text: &[u8], store: &mut [u8], m: usize) -> Report {
     let stores = parts::least(m, store.len());
-    outlining::outline(text, &mut store[..stores]).report()
+    outlining::outline(reading, text, &mut store[..stores]).report()
 }
 
-fn try_read(text: &[u8], m: usize, k: usize) {
+fn try_read(reading: Reading, text: &[u8], m: usize, k: usize) {
     let mut store = [BEFORE; ROOM];
     let mut area = [BEFORE; ROOM];
-    let report = read(text, &mut store, m, &mut area, k);
+    let report = read(reading, text, &mut store, m, &mut area, k);
     say_read(report, &store, &area);
 }
 
-fn try_outline(text: &[u8], m: usize) {
+fn try_outline(reading: Reading, text: &[u8], m: usize) {
     let mut store = [BEFORE; ROOM];
-    let report = outline(text, &mut store, m);
+    let report = outline(reading, text, &mut store, m);
     say_outline(report, &store);
 }
 
 // A vector's text, unfolded, with so much room for the store and the area.
-fn read_vector(s: &[u8], m: usize, k: usize) {
+fn read_vector(reading: Reading, s: &[u8], m: usize, k: usize) {
     let mut buffer = io::buffer();
-    let end = lines::unfold(s, &mut buffer, 0);
-    try_read(parts::part(&buffer, 0, end), m, k);
+    let end = vectors::unfold(s, &mut buffer, 0);
+    try_read(reading, parts::part(&buffer, 0, end), m, k);
 }
 
-fn outline_vector(s: &[u8], m: usize) {
+fn outline_vector(reading: Reading, s: &[u8], m: usize) {
     let mut buffer = io::buffer();
-    let end = lines::unfold(s, &mut buffer, 0);
-    try_outline(parts::part(&buffer, 0, end), m);
+    let end = vectors::unfold(s, &mut buffer, 0);
+    try_outline(reading, parts::part(&buffer, 0, end), m);
 }
 
 // The rooms stand before the text.
-fn read_in_rooms(s: &[u8]) {
-    let store = lines::number(s, 0);
-    let area = lines::number(s, store.next);
+fn read_in_rooms(reading: Reading, s: &[u8]) {
+    let store = vectors::number(s, 0);
+    let area = vectors::number(s, store.next);
     let from = area.next;
-    read_vector(&s[from..], store.number, area.number);
+    read_vector(reading, &s[from..], store.number, area.number);
 }
 
-fn outline_in_room(s: &[u8]) {
-    let store = lines::number(s, 0);
+fn outline_in_room(reading: Reading, s: &[u8]) {
+    let store = vectors::number(s, 0);
     let from = store.next;
-    outline_vector(&s[from..], store.number);
+    outline_vector(reading, &s[from..], store.number);
 }
 
-// r: Read. o: Outline. R and O: the same, with so much room for the store, and for Read the area.
+// r: Read. o: Outline. R and O: the same, with so much room for the store, and for Read the area. s, p, S and P: as these, by the strict
+// reading.
 fn run_vector(letter: u8, s: &[u8]) {
     match letter {
-        b'r' => read_vector(s, ROOM, ROOM),
-        b'o' => outline_vector(s, ROOM),
-        b'R' => read_in_rooms(s),
-        b'O' => outline_in_room(s),
+        b'r' => read_vector(Reading::First, s, ROOM, ROOM),
+        b'o' => outline_vector(Reading::First, s, ROOM),
+        b's' => read_vector(Reading::Strict, s, ROOM, ROOM),
+        b'p' => outline_vector(Reading::Strict, s, ROOM),
+        b'R' => read_in_rooms(Reading::First, s),
+        b'O' => outline_in_room(Reading::First, s),
+        b'S' => read_in_rooms(Reading::Strict, s),
+        b'P' => outline_in_room(Reading::Strict, s),
         _ => (),
     }
 }
@@ -119,7 +132,7 @@ fn run_vector(letter: u8, s: &[u8]) {
 fn run_line(s: &[u8]) {
     say::bytes(s);
     say::byte(b'\n');
-    let from = lines::text_start(s);
+    let from = vectors::text_start(s);
     if from == 0 {
         return;
     }
@@ -129,7 +142,7 @@ fn run_line(s: &[u8]) {
 fn run(s: &[u8]) {
     let mut at = 0;
     while at < s.len() {
-        let end = lines::line_end(s, at);
+        let end = vectors::line_end(s, at);
         run_line(&s[at..end]);
         at = end + 1;
     }

@@ -8,11 +8,12 @@ use harness::parts::least;
 use harness::parts::part;
 use harness::say;
 use places::Report;
+use rules::Reading;
 use stores::Content;
 use stores::Walked;
 
-pub fn judged(store: &[u8], area: &[u8]) {
-    let judged = services::judge(store, area, true);
+pub fn judged(reading: Reading, store: &[u8], area: &[u8]) {
+    let judged = services::judge(reading, store, area, true);
     say::arrow();
     match judged {
         Judged::Sound => say::bytes(b" sound"),
@@ -21,9 +22,9 @@ pub fn judged(store: &[u8], area: &[u8]) {
     }
 }
 
-pub fn names(store: &[u8], area: &[u8]) {
+pub fn names(reading: Reading, store: &[u8], area: &[u8]) {
     say::arrow();
-    say::report(naming::check_names(store, area).report());
+    say::report(naming::check_names(reading, store, area).report());
 }
 
 // The answer, and of a part where it starts and how long it is.
@@ -37,10 +38,10 @@ fn found(content: Content) {
 }
 
 // Content: the answer, and the part's bytes.
-pub fn content(store: &[u8], area: &[u8], number: usize) {
+pub fn content(reading: Reading, store: &[u8], area: &[u8], number: usize) {
     say::arrow();
-    found(stores::find_content(store, area, number));
-    say::bracketed(stores::content_part(store, area, number));
+    found(stores::find_content(reading, store, area, number));
+    say::bracketed(stores::content_part(reading, store, area, number));
 }
 
 fn decimal(p: Parts) {
@@ -87,9 +88,9 @@ pub fn walked(store: &[u8], area: &[u8], at: usize) {
 // What stands in the text before it is rendered.
 const BEFORE: u8 = 170;
 
-fn render(store: &[u8], area: &[u8], text: &mut [u8], room: usize) -> Report {
+fn render(reading: Reading, store: &[u8], area: &[u8], text: &mut [u8], room: usize) -> Report {
     let size = least(room, text.len());
-    rendering::render(store, area, &mut text[..size]).report()
+    rendering::render(reading, store, area, &mut text[..size]).report()
 }
 
 // How much of the text is counted: nothing, if it is refused.
@@ -101,9 +102,9 @@ fn counted(answer: Report) -> usize {
 }
 
 // Render with so much room: the answer, whether all bytes that are not counted kept their values, and the text.
-pub fn rendered(store: &[u8], area: &[u8], room: usize) {
+pub fn rendered(reading: Reading, store: &[u8], area: &[u8], room: usize) {
     let mut text = [BEFORE; 512];
-    let answer = render(store, area, &mut text, room);
+    let answer = render(reading, store, area, &mut text, room);
     let length = counted(answer);
     say::arrow();
     say::report(answer);

@@ -5,6 +5,7 @@ use crate::services;
 use crate::services::Judged;
 use harness::fields;
 use harness::say;
+use rules::Reading;
 
 // What came of a number of stores.
 struct Tally {
@@ -54,16 +55,16 @@ fn say_count(count: u32) {
 }
 
 // What is damaged is the store, or the area of another one. The name check and the way back from the rendering are tried at 20 of the values.
-fn judge(damaged: &[u8], other: &[u8], is_store: bool, value: u8) -> Judged {
+fn judge(reading: Reading, damaged: &[u8], other: &[u8], is_store: bool, value: u8) -> Judged {
     let by_all = value % 13 == 1;
     if is_store {
-        return services::judge(damaged, other, by_all);
+        return services::judge(reading, damaged, other, by_all);
     }
-    services::judge(other, damaged, by_all)
+    services::judge(reading, other, damaged, by_all)
 }
 
 // All values of the byte at an offset, which is put back then; how many are sound is written.
-fn try_byte(damaged: &mut [u8], at: usize, other: &[u8], is_store: bool) -> Tally
+fn try_byte(reading: Reading, damaged: &mut [u8], at: usize, other: &[u8], is_store: bool) -> Tally
     requires { ⌜ at < length (now damaged) ⌝ }
 {
     let before = damaged[at];
@@ -72,7 +73,10 @@ fn try_byte(damaged: &mut [u8], at: usize, other: &[u8], is_store: bool) -> Tall
     let mut left: u32 = 256;
     while 0 < left {
         damaged[at] = value;
-        tally = sum(tally, tally_of(judge(damaged, other, is_store, value)));
+        tally = sum(
+            tally,
+            tally_of(judge(reading, damaged, other, is_store, value)),
+        );
         value = std::num::wrapping_add_u8(value, 1);
         left -= 1;
     }
@@ -89,39 +93,39 @@ fn say_mark(kind: u8, at: usize) {
 }
 
 // A record, a line: its kind, and the counts of its bytes, field by field.
-fn try_record(store: &mut [u8], area: &[u8], at: usize, end: usize) -> Tally
+fn try_record(reading: Reading, store: &mut [u8], area: &[u8], at: usize, end: usize) -> Tally
     requires { ⌜ (at < end) × (end ≤ length (now store)) ⌝ }
 {
     let kind = store[at];
     say::kind(kind);
-    let mut tally = try_byte(store, at, area, true);
+    let mut tally = try_byte(reading, store, at, area, true);
     let body = at + 1;
     let mut i = body;
     while i < end {
         say_mark(kind, i - body);
-        tally = sum(tally, try_byte(store, i, area, true));
+        tally = sum(tally, try_byte(reading, store, i, area, true));
         i += 1;
     }
     say::byte(b'\n');
     tally
 }
 
-fn try_store(store: &mut [u8], area: &[u8]) -> Tally {
+fn try_store(reading: Reading, store: &mut [u8], area: &[u8]) -> Tally {
     let mut tally = nothing();
     let mut at = 0;
     while at < store.len() {
         let end = fields::body_end(store, at + 1, kinds::Kind::body_length(store[at]));
-        tally = sum(tally, try_record(store, area, at, end));
+        tally = sum(tally, try_record(reading, store, area, at, end));
         at = end;
     }
     tally
 }
 
-fn try_area(area: &mut [u8], store: &[u8]) -> Tally {
+fn try_area(reading: Reading, area: &mut [u8], store: &[u8]) -> Tally {
     let mut tally = nothing();
     let mut at = 0;
     while at < area.len() {
-        tally = sum(tally, try_byte(area, at, store, false));
+        tally = sum(tally, try_byte(reading, area, at, store, false));
         at += 1;
     }
     tally
@@ -137,10 +141,10 @@ fn say_all(all: Tally) {
     say::byte(b'\n');
 }
 
-pub fn run(store: &mut [u8], area: &mut [u8]) {
-    let stores = try_store(store, area);
+pub fn run(reading: Reading, store: &mut [u8], area: &mut [u8]) {
+    let stores = try_store(reading, store, area);
     say::bytes(b"   area");
-    let areas = try_area(area, store);
+    let areas = try_area(reading, area, store);
     say::byte(b'\n');
     say_all(sum(stores, areas));
 }

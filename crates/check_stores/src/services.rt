@@ -1,6 +1,8 @@
 // All services on one store and its area: whether they agree on what is sound, and whether a sound store is read back from its rendering.
+use crate::ROOM;
 use harness::fields::body_end;
 use harness::parts::part;
+use rules::Reading;
 use stores::Walked;
 
 pub enum Judged {
@@ -19,12 +21,12 @@ fn agrees(is_sound: bool, number: usize) -> bool {
 }
 
 // Whether the first record, which is the block's in a sound store, has its content, and otherwise none.
-fn has_part(is_sound: bool, store: &[u8], area: &[u8]) -> bool {
-    let answer = stores::find_content(store, area, 0).report();
+fn has_part(reading: Reading, is_sound: bool, store: &[u8], area: &[u8]) -> bool {
+    let answer = stores::find_content(reading, store, area, 0).report();
     if !agrees(is_sound, answer.number) {
         return false;
     }
-    let content = stores::content_part(store, area, 0);
+    let content = stores::content_part(reading, store, area, 0);
     if is_sound {
         return check::same(content, part(area, 0, content.len()));
     }
@@ -91,10 +93,10 @@ fn same_but_places(a: &[u8], b: &[u8]) -> bool {
 }
 
 // Whether a rendered text is read as the store and the area that it comes from.
-fn reads_back(text: &[u8], store: &[u8], area: &[u8]) -> bool {
-    let mut again = [0u8; 1024];
-    let mut contents = [0u8; 1024];
-    let read = reading::read(text, &mut again, &mut contents).report();
+fn reads_back(reading: Reading, text: &[u8], store: &[u8], area: &[u8]) -> bool {
+    let mut again = [0u8; ROOM];
+    let mut contents = [0u8; ROOM];
+    let read = reading::read(reading, text, &mut again, &mut contents).report();
     if read.number != 0 {
         return false;
     }
@@ -105,9 +107,9 @@ fn reads_back(text: &[u8], store: &[u8], area: &[u8]) -> bool {
 }
 
 // Whether a store is rendered where it is sound, and, if that is asked, read back.
-fn renders(is_sound: bool, store: &[u8], area: &[u8], and_back: bool) -> bool {
-    let mut text = [0u8; 2048];
-    let rendered = rendering::render(store, area, &mut text).report();
+fn renders(reading: Reading, is_sound: bool, store: &[u8], area: &[u8], and_back: bool) -> bool {
+    let mut text = [0u8; 2 * ROOM];
+    let rendered = rendering::render(reading, store, area, &mut text).report();
     if !is_sound {
         return rendered.number == 12;
     }
@@ -117,29 +119,29 @@ fn renders(is_sound: bool, store: &[u8], area: &[u8], and_back: bool) -> bool {
     if !and_back {
         return true;
     }
-    reads_back(part(&text, 0, rendered.first), store, area)
+    reads_back(reading, part(&text, 0, rendered.first), store, area)
 }
 
 // The name check takes long, since it clears a large table: it is made only if that is asked.
-fn names(is_sound: bool, store: &[u8], area: &[u8], asked: bool) -> bool {
+fn names(reading: Reading, is_sound: bool, store: &[u8], area: &[u8], asked: bool) -> bool {
     if !asked {
         return true;
     }
-    let answer = naming::check_names(store, area).report();
+    let answer = naming::check_names(reading, store, area).report();
     agrees(is_sound, answer.number)
 }
 
 // Is it sound, and do the services agree on that? The name check and the way back from the rendering are asked only if all are.
-pub fn judge(store: &[u8], area: &[u8], by_all: bool) -> Judged {
-    let is_sound = stores::is_sound(store, area);
+pub fn judge(reading: Reading, store: &[u8], area: &[u8], by_all: bool) -> Judged {
+    let is_sound = stores::is_sound(reading, store, area);
     let walked = walks(store, area);
-    if !has_part(is_sound, store, area) {
+    if !has_part(reading, is_sound, store, area) {
         return Judged::Disagree;
     }
-    if !renders(is_sound, store, area, by_all) {
+    if !renders(reading, is_sound, store, area, by_all) {
         return Judged::Disagree;
     }
-    if !names(is_sound, store, area, by_all) {
+    if !names(reading, is_sound, store, area, by_all) {
         return Judged::Disagree;
     }
     if !is_sound {

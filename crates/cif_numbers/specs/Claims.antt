@@ -15,9 +15,9 @@ use Rattle.record_lines.specs.Lines.{decimalOf}
 unfoldable pub tokenIn : List ℕ → Fields → List ℕ
 tokenIn s f = take (f .token .length) (drop (f .token .offset) s)
 
--- the kinds of numbers
+-- the kinds of numbers: 14, and 15 with uncertainty
 unfoldable pub IsNumber : Kind → Type 0
-IsNumber k = 14 ≤ numberOf k
+IsNumber k = (14 ≤ numberOf k) × (numberOf k ≤ 15)
 
 -- a record of kind k says what a numeric of CIF 1.1 with these pieces means
 pub record SaysNumeric (k : Kind) (f : Fields) (sg int frac esg e u : List ℕ) (b : Bool) : Type 0 where

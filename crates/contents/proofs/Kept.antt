@@ -13,7 +13,9 @@ use Rattle.kinds.specs.declared.Kind.{Kind}
 use Rattle.kinds.specs.Kinds.{shapeOf, isContent, marksOf}
 use Rattle.entries.specs.declared.Fields.{Fields}
 use Rattle.entries.specs.declared.Parts.{Parts}
-use Rattle.contents.specs.Contents.{readable, exponentKept, partsKept, contentLength, contentBytes, lies, isInside, isReadable, ownRule}
+use Rattle.rules.specs.declared.Reading.{Reading}
+use Rattle.readable.specs.Readable.{readable}
+use Rattle.contents.specs.Contents.{exponentKept, partsKept, contentLength, contentBytes, lies, isInside, isReadable, ownRule}
 
 -- a content's length and its bytes
 pub content-length : (k : Kind) (f : Fields) → contentLength k f ≡ f .token .length - marksOf k
@@ -45,21 +47,21 @@ content-size ar k f h =
     (omega (arith, h .marked, h .inside, length-take (f .token .length - marksOf k) (drop (f .number) ar), length-drop (f .number) ar))
 
 -- the own rule as it is judged: by the parts where there is no content, else by where it lies and then by its bytes
-module _ (ar : List ℕ) (k : Kind) (f : Fields) where
-  pub rule-parts : isContent (shapeOf k) ≡ false → ownRule ar k f ≡ partsKept (f .parts)
+module _ (r : Reading) (ar : List ℕ) (k : Kind) (f : Fields) where
+  pub rule-parts : isContent (shapeOf k) ≡ false → ownRule r ar k f ≡ partsKept (f .parts)
   unfolding ownRule isInside isReadable
   rule-parts e = rw e
 
-  pub rule-outside : isContent (shapeOf k) ≡ true → lies (length ar) k f ≡ false → ownRule ar k f ≡ false
+  pub rule-outside : isContent (shapeOf k) ≡ true → lies (length ar) k f ≡ false → ownRule r ar k f ≡ false
   unfolding ownRule isInside
   rule-outside e o = rw (e, o)
 
-  pub rule-read : isContent (shapeOf k) ≡ true → lies (length ar) k f ≡ true → ownRule ar k f ≡ readable k (contentBytes ar k f)
+  pub rule-read : isContent (shapeOf k) ≡ true → lies (length ar) k f ≡ true → ownRule r ar k f ≡ readable r k (contentBytes ar k f)
   unfolding ownRule isInside isReadable
   rule-read e o = rw (e, o)
 
 -- what the own rule of a record with content says, and what that of any other
-module _ (ar : List ℕ) (k : Kind) (f : Fields) (h : ownRule ar k f ≡ true) where
+module _ (r : Reading) (ar : List ℕ) (k : Kind) (f : Fields) (h : ownRule r ar k f ≡ true) where
   pub own-lies : isContent (shapeOf k) ≡ true → lies (length ar) k f ≡ true
   unfolding ownRule isInside
   own-lies e = rw e at (and-l (isInside (length ar) k f) _ h)
@@ -67,9 +69,22 @@ module _ (ar : List ℕ) (k : Kind) (f : Fields) (h : ownRule ar k f ≡ true) w
   pub own-inside : isContent (shapeOf k) ≡ true → Lies (length ar) k f
   own-inside e = lies-in (length ar) k f (own-lies e)
 
+  pub own-readable : isContent (shapeOf k) ≡ true → readable r k (contentBytes ar k f) ≡ true
+  unfolding ownRule isReadable
+  own-readable e = rw e at (and-r (isInside (length ar) k f) _ h)
+
   pub own-parts : isContent (shapeOf k) ≡ false → partsKept (f .parts) ≡ true
   unfolding ownRule isReadable
   own-parts e = rw e at (and-r (isInside (length ar) k f) _ h)
+
+-- a record's content, if it has one, lies inside the area
+pub own-placed : (r : Reading) (ar : List ℕ) (k : Kind) (f : Fields) → ownRule r ar k f ≡ true → isInside (length ar) k f ≡ true
+unfolding ownRule
+own-placed r ar k f h = and-l (isInside (length ar) k f) _ h
+
+pub placed-in : (size : ℕ) (k : Kind) (f : Fields) → isInside size k f ≡ true → isContent (shapeOf k) ≡ true → Lies size k f
+unfolding isInside
+placed-in size k f h e = lies-in size k f (rw e at h)
 
 -- the limits that decimal parts keep; an exponent by its size
 pub record Limits (p : Parts) : Type 0 where

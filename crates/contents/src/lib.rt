@@ -1,101 +1,31 @@
 // One record by itself: whether its content could be read as its kind and lies inside the area, and whether its
 // decimal parts keep the limits.
 ghost use mathlib.Core.Path.{_≡_};
-ghost use mathlib.Core.List.{_∷_, [], _++_};
+ghost use mathlib.Core.Bool.{true};
 ghost use Prim.Native.Nat.{_+_, _^_, _≤_, _<_};
 ghost use lib.ListN.{length};
 ghost use Rattle.kinds.specs.Kinds.{shapeOf, isContent};
-ghost use Rattle.contents.specs.Contents.{isName, readableBy, readable, exponentKept, partsKept, contentLength, lies, ownRule};
-ghost use Rattle.values.specs.Alone.{isAlone};
-ghost use Rattle.quotes.specs.Content.{plain};
+ghost use Rattle.readable.specs.Tokens.{isLed};
+ghost use Rattle.readable.specs.Readable.{readable};
+ghost use Rattle.contents.specs.Contents.{exponentKept, partsKept, contentLength, contentBytes, lies, ownRule};
 use entries::Fields;
 use entries::Parts;
 use kinds::Kind;
 use kinds::Shape;
-use quotes::Closing;
-use values::Found;
-
-// One word, perhaps an empty one.
-fn is_name(content: &[u8]) -> bool
-    ensures { λ r. ⌜ r ≡ isName (now (content .entry)) ⌝ }
-{
-    words::parse_identifier(content, 0) == content.len()
-}
-
-// A bare value and nothing behind it.
-fn is_bare(content: &[u8]) -> bool
-    requires { ⌜ length (now content) < 2 ^ 32 ⌝ }
-    ensures { λ r. ⌜ r ≡ isAlone 10 (now (content .entry)) ⌝ }
-{
-    let Found::Value { kind, size } = Found::of(values::pack_value(content, 0)) else {
-        return false;
-    };
-    if kind != Kind::BARE {
-        return false;
-    }
-    size == content.len()
-}
-
-// Neither the mark nor a line end: the content of a quoted value.
-fn is_plain(content: &[u8], mark: u8) -> bool
-    ensures { λ r. ⌜ r ≡ plain mark (now (content .entry)) ⌝ }
-{
-    let mut at = 0;
-    while at < content.len() {
-        let b = content[at];
-        if b == mark {
-            return false;
-        }
-        if text::is_eol(b) {
-            return false;
-        }
-        at += 1;
-    }
-    true
-}
-
-// The content of a text field: its line end is the first that a `;` can follow.
-fn is_field(content: &[u8]) -> bool
-    ensures { λ r. ⌜ r ≡ isAlone 13 (59 ∷ (now (content .entry) ++ (59 ∷ []))) ⌝ }
-{
-    let size = content.len();
-    if size == 0 {
-        return false;
-    }
-    if !text::is_eol(content[size - 1]) {
-        return false;
-    }
-    let closing = quotes::parse_multiline_string(content, 0);
-    let Closing::Nothing = closing else {
-        return false;
-    };
-    true
-}
-
-// Whether a content could be read as its kind, if it is all ASCII.
-fn is_readable_by(kind: Kind, content: &[u8]) -> bool
-    requires { ⌜ length (now content) < 2 ^ 32 ⌝ }
-    ensures { λ r. ⌜ r ≡ readableBy kind (now (content .entry)) ⌝ }
-{
-    match kind {
-        Kind::Block | Kind::FrameOpen | Kind::Tag | Kind::LoopTag => is_name(content),
-        Kind::Bare => is_bare(content),
-        Kind::SingleQuoted => is_plain(content, b'\''),
-        Kind::DoubleQuoted => is_plain(content, b'"'),
-        Kind::Multiline => is_field(content),
-        _ => false,
-    }
-}
+use rules::Reading;
 
 // Whether a content could be read as its kind: only ASCII is.
-fn is_readable(kind: Kind, content: &[u8]) -> bool
+fn is_readable(reading: Reading, kind: Kind, content: &[u8]) -> bool
     requires { ⌜ length (now content) < 2 ^ 32 ⌝ }
-    ensures { λ r. ⌜ r ≡ readable kind (now (content .entry)) ⌝ }
+    ensures { λ r. ⌜ r ≡ readable reading kind (now (content .entry)) ⌝ }
 {
     if text::ascii_end(content) != content.len() {
         return false;
     }
-    is_readable_by(kind, content)
+    match reading {
+        Reading::First => readable::is_first(kind, content),
+        Reading::Strict => readable_strict::is_kept(kind, content),
+    }
 }
 
 // Within nine digits, as it is stored in two's complement.
@@ -184,8 +114,8 @@ pub fn lies_inside(size: usize, kind: Kind, fields: Fields) -> bool
 
 // A record's own rule: its content lies inside the area and could be read as its kind; its decimal parts keep the
 // limits.
-pub fn keeps_rule(area: &[u8], kind: Kind, fields: Fields) -> bool
-    ensures { λ r. ⌜ r ≡ ownRule (now (area .entry)) kind fields ⌝ }
+pub fn keeps_rule(reading: Reading, area: &[u8], kind: Kind, fields: Fields) -> bool
+    ensures { λ r. ⌜ r ≡ ownRule reading (now (area .entry)) kind fields ⌝ }
 {
     if !has_content(kind) {
         return keeps_parts(fields.parts);
@@ -195,5 +125,18 @@ pub fn keeps_rule(area: &[u8], kind: Kind, fields: Fields) -> bool
     }
     let from = fields.number as usize;
     let end = from + content_length(kind, fields);
-    is_readable(kind, &area[from..end])
+    is_readable(reading, kind, &area[from..end])
+}
+
+// Whether rendering puts a space before a record's token.
+pub fn is_led(reading: Reading, area: &[u8], kind: Kind, fields: Fields) -> bool
+    requires { ⌜ ownRule reading (now area) kind fields ≡ true ⌝ }
+    ensures { λ r. ⌜ r ≡ isLed reading kind (contentBytes (now (area .entry)) kind fields) ⌝ }
+{
+    let Kind::Bare = kind else {
+        return false;
+    };
+    let from = fields.number as usize;
+    let end = from + content_length(kind, fields);
+    readable_strict::is_led(reading, kind, &area[from..end])
 }

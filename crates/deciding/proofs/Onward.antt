@@ -1,152 +1,291 @@
--- Reading on: an item, a frame and the block as the code passes over them, against what the machine still answers. Assumes nothing.
+-- Reading on: an item, a heading, a frame and the blocks as the code passes over them, against what the machine still answers. Assumes nothing.
 use Prim.Native.Nat.{ℕ, _+_, _-_, _≤_, _<_}
 use mathlib.Core.Path.{_≡_, refl, sym, ap, _∙_}
-use mathlib.Core.Bool.{Bool, true, false, cond, true≢false}
+use mathlib.Core.Bool.{Bool, true, false, cond, _&&_, _||_, true≢false, false≢true}
 use mathlib.Core.List.{List, [], _∷_, _++_, append-assoc}
 use mathlib.Core.Option.{Option, none, some}
 use native.Mathlib.Omega.{arith}
+use borrow.Author.Tests.{eqb-true, leb-true, leb-false}
+use lib.Dec.{eqb, leb}
 use lib.ListN.{length, drop, length-drop, drop-of-length-le}
+use Rattle.rules.specs.declared.Reading.{Reading}
+use Rattle.rules.specs.declared.Reading.the-variants.{First, Strict}
+use Rattle.rules.specs.Rules.{readingNumber}
+use Rattle.text.proofs.Bools.{or-l, or-r, and-l, and-r}
+use Rattle.columns.specs.Before.{byteBefore, isParted}
 use Rattle.gaps.specs.Gaps.{gap, gapEnd}
 use Rattle.gaps.proofs.Gaps.{gap-from, gap-within, gap-none}
 use Rattle.words.specs.Words.{word, wordEnd}
-use Rattle.words.proofs.Words.{word-end}
-use Rattle.keywords.specs.Keywords.{starts, startsAt, keyData, keySave}
-use Rattle.keywords.proofs.Starts.{starts-at}
-use Rattle.values.specs.Values.{Class, block, loop, save, tag, value, overLimit, nothing, lexed}
+use Rattle.words.specs.Names.{headingFits}
+use Rattle.words.proofs.Words.{word-end, word-size}
+use Rattle.keywords.specs.Keywords.{starts, stands, keyData, keySave}
+use Rattle.keywords.proofs.Starts.{stands-starts, word-is, word-stands}
+use Rattle.values.specs.Values.{Class, block, loop, save, tag, value, overLimit, nothing, atEnd, reservedWord, noStart, openQuote, openField, joined as joinedTo, lexed}
 use Rattle.sizes.specs.declared.Sizes.{Sizes}
 use Rattle.grammar.specs.declared.Cause.{Cause}
-use Rattle.grammar.specs.declared.Cause.the-variants.{NoData}
+use Rattle.grammar.specs.declared.Cause.the-variants.{NoData, NoItem, NotParted, OpenFrame, BadName}
+use Rattle.grammar.specs.Causes.{causeOf}
 use Rattle.deciding.specs.declared.Decision.the-variants.{Fits, Refused as RefusedText}
 use Rattle.deciding.specs.declared.Step.{Step}
 use Rattle.deciding.specs.declared.Step.the-variants.{Read, Refused}
 use Rattle.items.specs.declared.Item.{Item as Answered}
+use Rattle.items.specs.declared.Item.the-variants.{Absent}
 use Rattle.deciding.specs.declared.Inside.{Inside}
 use Rattle.deciding.specs.declared.Inside.the-variants.{Read as ReadInside, Dropped, Refused as RefusedInside}
-use Rattle.grammar.specs.Tokens.{before, inBlock, inFrame, lexIn, lex, after, Tok, tok, tokens, tokensFrom, tokensAt, headAt}
-use Rattle.grammar.specs.Machine.{Rec, Answer, refused, done, run, config, items, rec, follow, move, atStart, atItem, fails, closes, stop, inBlockOnly}
+use Rattle.grammar.specs.Tokens.{before, inBlock, inFrame, lexIn, lex, after, Tok, tok, tokens, tokensFrom, tokensAt, headAt, saveAt, closeAt, dataAt, saveLength, saveSize}
+use Rattle.grammar.specs.Machine.{Rec, Answer, refused, done, run, config, items, rec, follow, move, atStart, atItem, fails, closes, go, stop, inBlockOnly, isJoined}
 use Rattle.sizes.specs.Sizes.{sizesOf, noSizes, added, joined, Upto}
 use Rattle.grammar.specs.Reading.{decided}
 use Rattle.grammar.specs.Descent.{Item, item}
-use Rattle.deciding.specs.Decisions.{told, tells}
+use Rattle.deciding.specs.Decisions.{told, tells, refusal}
 use Rattle.items.specs.Answers.{itemAnswer, itemAt}
-use Rattle.deciding.specs.Frames.{inBlockOf, inFrameOf, frameEnd, modeOf, left, blockAt, Passed, Stepped, Framed}
-use Rattle.grammar.proofs.Descent.{isPlain, failedRun, behindItem, itemRun, item-in-frame, item-in-block, any-detail}
-use Rattle.grammar.proofs.Lexes.{lex-plain}
-use Rattle.grammar.proofs.Offsets.{tokens-gap, tokens-ends, Met, met-open, met-close, met-data, first, Spot, Both, both-last, both-save, both-more, both, both-spot}
-use Rattle.items.proofs.Passes.{AlikeItem, alike-taken, alike-ragged, alike-alone, alike-absent, alike-unnamed, alike-over, item-alike}
+use Rattle.deciding.specs.Frames.{absentOf, inBlockOf, inFrameOf, headingOf, leavesOpen, unclosed, frameEnd, headsBlock, modeOf, left, blockAt, Passed, Stepped, Framed}
+use Rattle.grammar.proofs.Causes.{Says, cause-says}
+use Rattle.grammar.proofs.Descent.{failedRun, behindItem, itemRun, item-run, any-detail}
+use Rattle.grammar.proofs.Lexes.{startsItem, isHeading, isEnd, class-by, lex-save, lex-unheaded, first-unheaded, lex-parted, lex-apart}
+use Rattle.grammar.proofs.Offsets.{tokens-gap, tokens-start, tokens-ends, tokens-anywhere, lex-in, Met, met-open, met-close, met-data, met-heading, first, Spot, Both, both-last, both-save, both-more, both, both-spot}
+use Rattle.items.proofs.Passes.{NoItem as NoneStarts, AlikeItem, alike-taken, alike-failed, alike-absent, alike-broken, item-alike}
 use Rattle.sizes.proofs.Room.{sizes-append, sizes-one, added-none, upto-none, upto-added, upto-joined, upto-more}
 
--- what is answered where a frame's item was dropped: the token there must close the frame
-unfoldable pub closing : ℕ → List Rec → List Tok → Answer
-closing a out ts = failedRun (refused 7 0 0) (some a) out ts
+-- the token at the start of the text from o on, in the mode of f
+headOf : Reading → Option ℕ → List ℕ → ℕ → Class
+headOf r f s o = lexIn r (byteBefore s o) (modeOf f) (drop o s) .class
 
-pub failed-closing : (x : Answer) (a : ℕ) (out : List Rec) (ts : List Tok) → failedRun x (some a) out ts ≡ closing a out ts
+pub first-left : (r : Reading) (f : Option ℕ) (s : List ℕ) (o : ℕ) → gap (drop o s) ≡ 0 → (ts : List Tok) × (tokensAt r (modeOf f) s o ≡ tok (lexIn r (byteBefore s o) (modeOf f) (drop o s)) o ∷ ts)
+unfolding modeOf
+first-left r none s o g = let f = first s o g r inBlock in (f .0, f .1 ∙ rw (lex-in r (byteBefore s o) (drop o s) .0))
+first-left r (some a) s o g = let f = first s o g r inFrame in (f .0, f .1 ∙ rw (lex-in r (byteBefore s o) (drop o s) .1))
+
+-- the machine at an item
+pub left-item : (r : Reading) (c : ℕ) (f : Option ℕ) (s : List ℕ) (o : ℕ) (out : List Rec) → gap (drop o s) ≡ 0 → left r c f s o out ≡ itemRun r c f out (item r (tokensAt r (modeOf f) s o))
+unfolding left
+left-item r c f s o out g =
+    let n = first-left r f s o g in
+    rw (n .1) (item-run r c (tok (lexIn r (byteBefore s o) (modeOf f) (drop o s)) o) (n .0) f out (rw (n .1) at (tokens-ends r (modeOf f) s o)))
+
+-- a cause that an item fails by says what the machine refuses
+cause-told : {n d : ℕ} (o : ℕ) → Says n d → told (RefusedText (causeOf n d) o) ≡ tells (refused n o d)
+unfolding told tells
+cause-told o y = rw (cause-says y .0, cause-says y .1)
+
+-- what is answered in a frame where no item is read: in the first reading the token there must close the frame; in the strict one it is judged as what stands for an item
+unfoldable pub closing : Reading → ℕ → List Rec → List Tok → Answer
+closing First a out ts = failedRun First (refused 7 0 0) (some a) out ts
+closing Strict a out ts = run Strict ts (config (items 0) (some a) out [])
+
+failed-closing : (x : Answer) (a : ℕ) (out : List Rec) (ts : List Tok) → failedRun First x (some a) out ts ≡ closing First a out ts
 unfolding closing failedRun fails
 failed-closing x a out [] = refl
 failed-closing x a out (t ∷ ts) = refl
 
--- an item in the frame that opened at a
-pub record DroppedAt (s : List ℕ) (a o p : ℕ) : Type 0 where
-  pub reads : (c : ℕ) (out : List Rec) → left c (some a) s o out ≡ closing a out (tokensAt inFrame s p)
+-- in the first reading what is no item in a frame must close it too
+none-closes : (c a : ℕ) (out : List Rec) (t : Tok) → startsItem (t .class) ≡ false → atItem First c (some a) out (t .class) t ≡ closes a out (t .class) t
+unfolding startsItem atItem fails closes
+none-closes c a out t e = by (t .class) refl e
+  where
+    by : (k : Class) → t .class ≡ k → startsItem k ≡ false → atItem First c (some a) out k t ≡ closes a out k t
+    by loop q e = absurd (true≢false e)
+    by tag q e = absurd (true≢false e)
+    by save q e = refl
+    by (nothing atEnd) q e = refl
+    by (nothing reservedWord) q e = rw q
+    by (nothing noStart) q e = rw q
+    by (nothing openQuote) q e = rw q
+    by (nothing openField) q e = rw q
+    by (nothing joinedTo) q e = rw q
+    by block q e = rw q
+    by (value k) q e = rw q
+    by overLimit q e = rw q
+
+absent-closing : (r : Reading) (a : ℕ) (out : List Rec) (t : Tok) (ts : List Tok) → startsItem (t .class) ≡ false → run r (t ∷ ts) (config (items 0) (some a) out []) ≡ closing r a out (t ∷ ts)
+unfolding closing failedRun run move config fails follow
+absent-closing First a out t ts e = rw (none-closes 0 a out t e)
+absent-closing Strict a out t ts e = refl
+
+apart : {A : Type 0} → First ≡ Strict → A
+apart e = let z : _≡_ {A = ℕ} 1 2 = ap readingNumber e in absurd (omega arith)
+
+-- in the frame that opened at a, from o on no item is read before p; in the strict reading none starts there
+pub record DroppedAt (r : Reading) (s : List ℕ) (a o p : ℕ) : Type 0 where
+  pub reads : (out : List Rec) → left r 0 (some a) s o out ≡ closing r a out (tokensAt r inFrame s p)
+  pub absent : r ≡ Strict → startsItem (lexIn r (byteBefore s p) inFrame (drop p s) .class) ≡ false
   pub onward : o ≤ p
   pub within : p ≤ length s
   pub bare : gap (drop p s) ≡ 0
 
-unfoldable pub PassedInside : List ℕ → ℕ → ℕ → Inside → Type 0
-PassedInside s a o (ReadInside p z) = Passed s (some a) o (some a) p z 0
-PassedInside s a o (Dropped p) = DroppedAt s a o p
-PassedInside s a o (RefusedInside c e) = (out : List Rec) → told (RefusedText c e) ≡ tells (left 0 (some a) s o out)
-
--- the machine at an item
-pub frame-item : (c : ℕ) (s : List ℕ) (a o : ℕ) (out : List Rec) → gap (drop o s) ≡ 0 → left c (some a) s o out ≡ itemRun c (some a) out (item (tokensAt inFrame s o))
-unfolding left modeOf
-frame-item c s a o out g =
-    let f = first s o g inFrame in
-    rw (f .1) (item-in-frame c (tok (lex inFrame (drop o s)) o) (f .0) a out (rw (f .1) at (tokens-ends inFrame s o)))
-
-pub block-item : (c : ℕ) (s : List ℕ) (o : ℕ) (out : List Rec) → gap (drop o s) ≡ 0 → isPlain (lexIn inBlock (drop o s) .class) ≡ true → left c none s o out ≡ itemRun c none out (item (tokensAt inBlock s o))
-unfolding left modeOf lex tok
-block-item c s o out g e =
-    let f = first s o g inBlock in
-    rw (f .1) (item-in-block c (tok (lexIn inBlock (drop o s)) o) (f .0) out (rw (f .1) at (tokens-ends inBlock s o)) e)
+unfoldable pub PassedInside : Reading → List ℕ → ℕ → ℕ → Inside → Type 0
+PassedInside r s a o (ReadInside p z) = Passed r s (some a) o (some a) p z 0
+PassedInside r s a o (Dropped p) = DroppedAt r s a o p
+PassedInside r s a o (RefusedInside c e) = (out : List Rec) → told (RefusedText c e) ≡ tells (left r 0 (some a) s o out)
 
 -- an item that is read
-taken-passed : {ts us : List Tok} (s : List ℕ) (f : Option ℕ) (o to d : ℕ) (rs : List Rec) → Spot s to ts us → o < to → Upto (to - o) (sizesOf rs)
-    → ((c : ℕ) (out : List Rec) → left c f s o out ≡ left d f s (headAt ts) (out ++ rs)) → Passed s f o f (headAt ts) (sizesOf rs) d
-taken-passed s f o to d rs p l h r =
+taken-passed : {ts us : List Tok} (r : Reading) (s : List ℕ) (f : Option ℕ) (o to d : ℕ) (rs : List Rec) → Spot r s to ts us → o < to → Upto (to - o) (sizesOf rs)
+    → ((c : ℕ) (out : List Rec) → left r c f s o out ≡ left r d f s (headAt ts) (out ++ rs)) → Passed r s f o f (headAt ts) (sizesOf rs) d
+taken-passed r s f o to d rs p l h q =
     record {
       kept = rs;
       sizes = refl;
-      reads = r;
+      reads = q;
       onward = omega (arith, p .onward);
       within = p .within;
       bare = p .bare;
       fits = upto-more (to - o) _ _ h (omega (arith, p .onward));
     }
 
-dropped-at : {ts us : List Tok} (s : List ℕ) (a o : ℕ) (x : ℕ → Answer) → Spot s o ts us → ((c : ℕ) (out : List Rec) → left c (some a) s o out ≡ failedRun (x c) (some a) out us) → DroppedAt s a o (headAt ts)
-dropped-at s a o x p r =
+-- in a frame an item that fails in the first reading, or none
+failed-at : {ts us : List Tok} (s : List ℕ) (a o : ℕ) (x : Answer) → Spot First s o ts us → ((out : List Rec) → left First 0 (some a) s o out ≡ failedRun First x (some a) out us) → DroppedAt First s a o (headAt ts)
+failed-at s a o x p q =
     record {
-      reads = λ c out. r c out ∙ failed-closing (x c) a out _ ∙ rw (p .inFrame);
+      reads = λ out. q out ∙ failed-closing x a out _ ∙ rw (p .inFrame);
+      absent = λ e. apart e;
       onward = p .onward;
       within = p .within;
       bare = p .bare;
     }
 
-pub left-from : (d : ℕ) (f : Option ℕ) (s : List ℕ) (p : ℕ) (us : List Tok) (out : List Rec) → us ≡ tokensAt (modeOf f) s p → run us (config (items d) f out []) ≡ left d f s p out
+none-at : (r : Reading) {ts us : List Tok} (s : List ℕ) (a o : ℕ) → Spot r s o ts us → NoneStarts us → ((out : List Rec) → left r 0 (some a) s o out ≡ run r us (config (items 0) (some a) out [])) → DroppedAt r s a o (headAt ts)
+unfolding NoneStarts modeOf tok
+none-at r {ts = ts} {us = us} s a o p n q =
+    let f = first-left r (some a) s (headAt ts) (p .bare) in
+    let x = lexIn r (byteBefore s (headAt ts)) inFrame (drop (headAt ts) s) in
+    let n′ : NoneStarts (tok x (headAt ts) ∷ f .0) = rw (p .inFrame, f .1) at n in
+    record {
+      reads = λ out. q out ∙ rw (p .inFrame, f .1) (absent-closing r a out (tok x (headAt ts)) (f .0) n′);
+      absent = λ e. n′;
+      onward = p .onward;
+      within = p .within;
+      bare = p .bare;
+    }
+
+pub left-from : (r : Reading) (d : ℕ) (f : Option ℕ) (s : List ℕ) (p : ℕ) (us : List Tok) (out : List Rec) → us ≡ tokensAt r (modeOf f) s p → run r us (config (items d) f out []) ≡ left r d f s p out
 unfolding left
-left-from d f s p us out e = ap (λ (x : List Tok). run x (config (items d) f out [])) e
+left-from r d f s p us out e = ap (λ (x : List Tok). run r x (config (items d) f out [])) e
 
 -- an item in a frame
-inside : {s : List ℕ} {o : ℕ} {x y : Item} (a : ℕ) → AlikeItem s o x y → ((c : ℕ) (out : List Rec) → left c (some a) s o out ≡ itemRun c (some a) out y) → PassedInside s a o (inFrameOf (itemAnswer x))
-unfolding PassedInside itemAnswer itemRun behindItem inBlockOnly modeOf told tells
-inside {s = s} {o = o} a (alike-taken {b = true} {rs = rs} to l b h) r =
-    taken-passed s (some a) o to 0 rs (both-spot b) l h (λ c out. r c out ∙ left-from 0 (some a) s _ _ (out ++ rs) (both-spot b .inFrame))
-inside {s = s} {o = o} a (alike-taken {b = false} {rs = rs} to l b h) r =
-    taken-passed s (some a) o to 0 rs (both-spot b) l h (λ c out. r c out ∙ left-from 0 (some a) s _ _ (out ++ rs) (both-spot b .inFrame))
-inside {s = s} {o = o} a (alike-ragged b) r = dropped-at s a o (λ c. _) (both-spot b) r
-inside {s = s} {o = o} a (alike-alone b) r = dropped-at s a o (λ c. _) (both-spot b) r
-inside {s = s} {o = o} a (alike-absent b) r = dropped-at s a o (λ c. refused 7 _ c) (both-spot b) r
-inside a alike-unnamed r = λ out. rw (r 0 out)
-inside a alike-over r = λ out. rw (r 0 out)
+inside : {r : Reading} {s : List ℕ} {o : ℕ} {vs ws : List Tok} {x y : Item} (a : ℕ) → AlikeItem r s o vs ws x y → ((c : ℕ) (out : List Rec) → left r c (some a) s o out ≡ itemRun r c (some a) out y) → PassedInside r s a o (inFrameOf (itemAnswer x))
+unfolding PassedInside itemAnswer itemRun behindItem inBlockOnly modeOf
+inside {r = r} {s = s} {o = o} a (alike-taken {b = true} {rs = rs} to l b h) q =
+    taken-passed r s (some a) o to 0 rs (both-spot b) l h (λ c out. q c out ∙ left-from r 0 (some a) s _ _ (out ++ rs) (both-spot b .inFrame))
+inside {r = r} {s = s} {o = o} a (alike-taken {b = false} {rs = rs} to l b h) q =
+    taken-passed r s (some a) o to 0 rs (both-spot b) l h (λ c out. q c out ∙ left-from r 0 (some a) s _ _ (out ++ rs) (both-spot b .inFrame))
+inside {r = First} {s = s} {o = o} a (alike-failed e y b) q = failed-at s a o _ (both-spot b) (q 0)
+inside {r = Strict} a (alike-failed e y b) q = apart (sym e)
+inside {r = r} {s = s} {o = o} a (alike-absent m n b) q = none-at r s a o (both-spot b) n (q 0)
+inside a (alike-broken {a = e} y) q = λ out. cause-told e y ∙ rw (q 0 out)
 
-pub item-inside : (s : List ℕ) (a o : ℕ) → o ≤ length s → gap (drop o s) ≡ 0 → PassedInside s a o (inFrameOf (itemAt s o))
+pub item-inside : (r : Reading) (s : List ℕ) (a o : ℕ) → o ≤ length s → gap (drop o s) ≡ 0 → PassedInside r s a o (inFrameOf (itemAt r s o))
 unfolding itemAt
-item-inside s a o h g = inside a (item-alike (both s o h)) (λ c out. frame-item c s a o out g)
+item-inside r s a o h g = inside a (item-alike (both r s o h)) (λ c out. unfold modeOf in left-item r c (some a) s o out g)
 
 -- in the block a failed item is the answer
-pub failed-stops : {s : List ℕ} {o : ℕ} {ts us : List Tok} → Both s o ts us → (x : Answer) (out : List Rec) → failedRun x none out ts ≡ x
+pub failed-stops : {s : List ℕ} {o : ℕ} {ts us : List Tok} → Both First s o ts us → (x : Answer) (out : List Rec) → failedRun First x none out ts ≡ x
 unfolding failedRun fails follow
 failed-stops (both-last h w e) x out = refl
 failed-stops (both-save h a e f) x out = refl
 failed-stops (both-more h z b) x out = refl
 
--- an item in the block
-stepped : {s : List ℕ} {o : ℕ} {x y : Item} (d : ℕ) → AlikeItem s o x y → ((c : ℕ) (out : List Rec) → left c none s o out ≡ itemRun c none out x) → Stepped d s o (inBlockOf d (itemAnswer x))
-unfolding Stepped itemAnswer itemRun behindItem inBlockOnly modeOf told tells
-stepped {s = s} {o = o} d (alike-taken {b = true} {rs = rs} to l b h) r =
-    taken-passed s none o to _ rs (both-spot b) l h (λ c out. r c out ∙ left-from _ none s _ _ (out ++ rs) (both-spot b .inBlock))
-stepped {s = s} {o = o} d (alike-taken {b = false} {rs = rs} to l b h) r =
-    taken-passed s none o to 0 rs (both-spot b) l h (λ c out. r c out ∙ left-from 0 none s _ _ (out ++ rs) (both-spot b .inBlock))
-stepped d (alike-ragged b) r = λ out. rw (r d out, failed-stops b)
-stepped d (alike-alone b) r = λ out. rw (r d out, failed-stops b)
-stepped d (alike-absent b) r = λ out. rw (r d out, failed-stops b)
-stepped d alike-unnamed r = λ out. rw (r d out)
-stepped d alike-over r = λ out. rw (r d out)
+-- what is neither an item nor a heading, nor the end, fails
+none-stops : (r : Reading) (d : ℕ) (f : Option ℕ) (out : List Rec) (t : Tok) (k : Class) → startsItem k ≡ false → isHeading k ≡ false → isEnd k ≡ false → atItem r d f out k t ≡ fails r (refused 7 (t .at) d) f out t
+unfolding startsItem isHeading isEnd atItem
+none-stops r d f out t loop e g h = absurd (true≢false e)
+none-stops r d f out t tag e g h = absurd (true≢false e)
+none-stops r d f out t save e g h = absurd (true≢false g)
+none-stops r d f out t block e g h = absurd (true≢false g)
+none-stops r d f out t (nothing atEnd) e g h = absurd (true≢false h)
+none-stops r d f out t (nothing reservedWord) e g h = refl
+none-stops r d f out t (nothing noStart) e g h = refl
+none-stops r d f out t (nothing openQuote) e g h = refl
+none-stops r d f out t (nothing openField) e g h = refl
+none-stops r d f out t (nothing joinedTo) e g h = refl
+none-stops r d f out t (value k) e g h = refl
+none-stops r d f out t overLimit e g h = refl
 
-pub plain : (u : List ℕ) → 0 < length u → starts keySave u ≡ false → isPlain (lexIn inBlock u .class) ≡ true
-plain [] h e = absurd (omega arith)
-plain (b ∷ s) h e = lex-plain inBlock b s e
+-- where bytes stand and neither an item nor a heading: 7, or 15 where no space parts it
+pub record NoneHere (r : Reading) (f : Option ℕ) (s : List ℕ) (o : ℕ) : Type 0 where
+  pub bare : gap (drop o s) ≡ 0
+  pub some-bytes : o < length s
+  pub itemless : startsItem (lexIn r (byteBefore s o) (modeOf f) (drop o s) .class) ≡ false
+  pub unheaded : isHeading (lexIn r (byteBefore s o) (modeOf f) (drop o s) .class) ≡ false
 
-pub item-stepped : (d : ℕ) (s : List ℕ) (o : ℕ) → o < length s → gap (drop o s) ≡ 0 → startsAt keySave s o ≡ false → Stepped d s o (inBlockOf d (itemAt s o))
-unfolding itemAt
-item-stepped d s o h g e =
-    let p = plain (drop o s) (omega (arith, length-drop o s)) (sym (starts-at keySave s o) ∙ e) in
-    stepped d (item-alike (both s o (omega arith))) (λ c out. block-item c s o out g p)
+none-token : (r : Reading) (p : ℕ) (f : Option ℕ) (u : List ℕ) → 0 < length u → isParted r p ≡ true → (isJoined (lexIn r p (modeOf f) u .class) ≡ false) × (isEnd (lexIn r p (modeOf f) u .class) ≡ false)
+none-token r p f [] h e = absurd (omega arith)
+none-token r p f (b ∷ u) h e = lex-parted r p (modeOf f) b u e
+
+joined-token : (p : ℕ) (f : Option ℕ) (u : List ℕ) → 0 < length u → isParted Strict p ≡ false → lexIn Strict p (modeOf f) u ≡ lexed (nothing joinedTo) 0
+joined-token p f [] h e = absurd (omega arith)
+joined-token p f (b ∷ u) h e = lex-apart p (modeOf f) b u e
+
+-- in the block, and in the strict reading in a frame, that is the answer
+Counts : Reading → Option ℕ → Type 0
+Counts First none = Unit {0}
+Counts First (some a) = ⊥
+Counts Strict f = Unit {0}
+
+none-left : (r : Reading) (d : ℕ) (f : Option ℕ) (s : List ℕ) (o : ℕ) → Counts r f → NoneHere r f s o → (out : List Rec) → left r d f s o out ≡ cond (isParted r (byteBefore s o)) (refused 7 o d) (refused 15 o 0)
+unfolding left run move config tok follow fails Counts lexed isJoined atItem
+none-left r d f s o k n out =
+    let g = first-left r f s o (n .bare) in
+    rw (g .1) (by r (isParted r (byteBefore s o)) refl k (n .itemless) (n .unheaded) (none-token r (byteBefore s o) f (drop o s) (omega (arith, length-drop o s, n .some-bytes))) (g .0))
+  where
+    by : (r : Reading) (b : Bool) → isParted r (byteBefore s o) ≡ b → Counts r f → startsItem (lexIn r (byteBefore s o) (modeOf f) (drop o s) .class) ≡ false → isHeading (lexIn r (byteBefore s o) (modeOf f) (drop o s) .class) ≡ false
+        → (isParted r (byteBefore s o) ≡ true → (isJoined (lexIn r (byteBefore s o) (modeOf f) (drop o s) .class) ≡ false) × (isEnd (lexIn r (byteBefore s o) (modeOf f) (drop o s) .class) ≡ false))
+        → (ts : List Tok)
+        → follow (atItem r d f out (lexIn r (byteBefore s o) (modeOf f) (drop o s) .class) (tok (lexIn r (byteBefore s o) (modeOf f) (drop o s)) o)) (λ c. run r ts c) ≡ cond (isParted r (byteBefore s o)) (refused 7 o d) (refused 15 o 0)
+    by First b e k i u p ts = rw (none-stops First d f out (tok (lexIn First (byteBefore s o) (modeOf f) (drop o s)) o) _ i u (p refl .1)) (here f k)
+      where
+        here : (f : Option ℕ) → Counts First f → follow (fails First (refused 7 o d) f out (tok (lexIn First (byteBefore s o) (modeOf f) (drop o s)) o)) (λ c. run First ts c) ≡ refused 7 o d
+        here none k = refl
+        here (some a) k = absurd k
+    by Strict true e k i u p ts = rw (none-stops Strict d f out (tok (lexIn Strict (byteBefore s o) (modeOf f) (drop o s)) o) _ i u (p e .1), e, p e .0)
+    by Strict false e k i u p ts = rw (joined-token (byteBefore s o) f (drop o s) (omega (arith, length-drop o s, n .some-bytes)) e, e)
+
+absent-told : (r : Reading) (d : ℕ) (f : Option ℕ) (s : List ℕ) (o : ℕ) → Counts r f → NoneHere r f s o → (out : List Rec) → (b : Bool) → isParted r (byteBefore s o) ≡ b → tells (left r d f s o out) ≡ cond b (refusal 7 o d) (refusal 15 o 0)
+unfolding tells
+absent-told r d f s o k n out true e = rw (none-left r d f s o k n out, e)
+absent-told r d f s o k n out false e = rw (none-left r d f s o k n out, e)
+
+-- it is refused so in the block; in a frame of the strict reading too
+none-stepped : (r : Reading) (d : ℕ) (s : List ℕ) (o : ℕ) → NoneHere r none s o → Stepped r d s o (absentOf r s d o)
+unfolding Counts Stepped told
+none-stepped r d s o n = by (isParted r (byteBefore s o)) refl
+  where
+    counts : (r : Reading) → Counts r none
+    counts First = tt
+    counts Strict = tt
+
+    by : (b : Bool) → isParted r (byteBefore s o) ≡ b → Stepped r d s o (cond b (Refused (NoItem d) o) (Refused NotParted o))
+    by true e = λ out. sym (absent-told r d none s o (counts r) n out true e)
+    by false e = λ out. sym (absent-told r d none s o (counts r) n out false e)
+
+-- an item in the block; `here` is what is known where none starts
+stepped : {r : Reading} {s : List ℕ} {o : ℕ} {vs ws : List Tok} {x y : Item} (d : ℕ) → AlikeItem r s o vs ws x y → ((c : ℕ) (out : List Rec) → left r c none s o out ≡ itemRun r c none out x) → (NoneStarts vs → NoneHere r none s o) → headAt vs ≡ o → Stepped r d s o (inBlockOf r s d (itemAnswer x))
+unfolding Stepped itemAnswer itemRun behindItem inBlockOnly modeOf
+stepped {r = r} {s = s} {o = o} d (alike-taken {b = true} {rs = rs} to l b h) q here z =
+    taken-passed r s none o to _ rs (both-spot b) l h (λ c out. q c out ∙ left-from r _ none s _ _ (out ++ rs) (both-spot b .inBlock))
+stepped {r = r} {s = s} {o = o} d (alike-taken {b = false} {rs = rs} to l b h) q here z =
+    taken-passed r s none o to 0 rs (both-spot b) l h (λ c out. q c out ∙ left-from r 0 none s _ _ (out ++ rs) (both-spot b .inBlock))
+stepped {r = First} d (alike-failed {a = e} f y b) q here z = λ out. cause-told e y ∙ rw (q d out, failed-stops b)
+stepped {r = Strict} d (alike-failed f y b) q here z = apart (sym f)
+stepped {r = r} {s = s} {o = o} d (alike-absent m k b) q here z = rw z (none-stepped r d s o (here m))
+stepped d (alike-broken {a = e} y) q here z = λ out. cause-told e y ∙ rw (q d out)
+
+-- where no `save_` stands, nor in the strict reading `data_`, the token is no heading
+unheaded : (r : Reading) (s : List ℕ) (o : ℕ) → saveAt r s o ≡ false → headsBlock r s o ≡ false → isHeading (lexIn r (byteBefore s o) inBlock (drop o s) .class) ≡ false
+unfolding saveAt dataAt
+unheaded First s o e d = first-unheaded (byteBefore s o) inBlock (drop o s) e
+unheaded Strict s o e d = lex-unheaded Strict (byteBefore s o) inBlock (drop o s) e d
+
+pub item-stepped : (r : Reading) (d : ℕ) (s : List ℕ) (o : ℕ) → o < length s → gap (drop o s) ≡ 0 → saveAt r s o ≡ false → headsBlock r s o ≡ false → Stepped r d s o (inBlockOf r s d (itemAt r s o))
+unfolding itemAt modeOf
+item-stepped r d s o h g e k =
+    let f = first-left r none s o g in
+    stepped d (item-alike (both r s o (omega arith))) (λ c out. left-item r c none s o out g)
+    (λ n. record { bare = g; some-bytes = h; itemless = unfold NoneStarts tok in rw (f .1) at n; unheaded = unheaded r s o e k })
+    (unfold headAt tok in rw (f .1))
 
 -- one part after another
-pub passed-then : (s : List ℕ) (f g h : Option ℕ) (o p q : ℕ) (z y : Sizes) (d e : ℕ) → Passed s f o g p z d → Passed s g p h q y e → Passed s f o h q (joined z y) e
-passed-then s f g h o p q z y d e a b =
+pub passed-then : (r : Reading) (s : List ℕ) (f g h : Option ℕ) (o p q : ℕ) (z y : Sizes) (d e : ℕ) → Passed r s f o g p z d → Passed r s g p h q y e → Passed r s f o h q (joined z y) e
+passed-then r s f g h o p q z y d e a b =
     record {
       kept = a .kept ++ b .kept;
       sizes = rw (a .sizes, b .sizes) (sym (sizes-append (a .kept) (b .kept)));
@@ -157,43 +296,123 @@ passed-then s f g h o p q z y d e a b =
       fits = upto-joined (p - o) (q - p) (q - o) z y (a .fits) (b .fits) (omega (arith, a .onward, b .onward));
     }
 
--- a frame opens
-pub open-reads : (c : ℕ) (s : List ℕ) (o w : ℕ) (out : List Rec) → Met inBlock s o (lexed save w) → left c none s o out ≡ left 0 (some o) s (o + w) (out ++ (rec 2 (tok (lexed save w) o) ∷ []))
-unfolding left modeOf run move config atItem follow lexed tok after
-open-reads c s o w out m = rw (m .next)
-
-pub left-gap : (d : ℕ) (f : Option ℕ) (s : List ℕ) (o : ℕ) (out : List Rec) → left d f s (gapEnd s o) out ≡ left d f s o out
+pub left-gap : (r : Reading) (d : ℕ) (f : Option ℕ) (s : List ℕ) (o : ℕ) (out : List Rec) → left r d f s (gapEnd s o) out ≡ left r d f s o out
 unfolding left
-left-gap d f s o out = rw (tokens-gap (modeOf f) s o)
+left-gap r d f s o out = rw (tokens-gap r (modeOf f) s o)
 
 -- what is read does not depend on the detail
-pub left-read : (c d : ℕ) (f : Option ℕ) (s : List ℕ) (o : ℕ) (out rs : List Rec) → left c f s o out ≡ done rs → left d f s o out ≡ done rs
+pub left-read : (r : Reading) (c d : ℕ) (f : Option ℕ) (s : List ℕ) (o : ℕ) (out rs : List Rec) → left r c f s o out ≡ done rs → left r d f s o out ≡ done rs
 unfolding left
-left-read c d f s o out rs e = any-detail c d f (tokensAt (modeOf f) s o) out rs e
+left-read r c d f s o out rs e = any-detail r c d f (tokensAt r (modeOf f) s o) out rs e
 
 one-fits : (k w n : ℕ) → 0 < w → w ≤ n → Upto n (added noSizes k w)
 one-fits k w n z h = upto-added 0 k w n noSizes (upto-none 0) (omega arith) (omega arith)
 
-pub frame-opens : (s : List ℕ) (o : ℕ) → gap (drop o s) ≡ 0 → startsAt keySave s o ≡ true → Passed s none o (some o) (gapEnd s (wordEnd s o)) (added noSizes 2 (wordEnd s o - o)) 0
-unfolding lexed tok rec
-frame-opens s o g e =
-    let w = word (drop o s) in
-    let m = met-open s o g e in
-    let d : o + w - o ≡ w = omega arith in
-    let l : o + w ≤ gapEnd s (o + w) = gap-from s (o + w) in
-    let t = tok (lexed save w) o in
-    rw (word-end s o, d)
-    (record {
-      kept = rec 2 t ∷ [];
-      sizes = sym (sizes-one (rec 2 t));
-      reads = λ c out. open-reads c s o w out m ∙ sym (left-gap 0 (some o) s (o + w) (out ++ (rec 2 t ∷ [])));
-      onward = omega (arith, m .some-bytes);
-      within = gap-within s (o + w) (m .within);
-      bare = gap-none s (o + w);
-      fits = one-fits 2 w (gapEnd s (o + w) - o) (m .some-bytes) (omega arith);
-    })
+-- A HEADING of kind k whose word stands at o: what is answered from there on is what is answered behind it, if its name may stand
+module _ (r : Reading) (s : List ℕ) (f : Option ℕ) (o k : ℕ) (class : Class) (g : Option ℕ) (m : Met r (modeOf f) s o (lexed class (word (drop o s))))
+    (reads : (c : ℕ) (out : List Rec) → left r c f s o out ≡ cond (headingFits r (word (drop o s))) (left r 0 g s (o + word (drop o s)) (out ++ (rec k (tok (lexed class (word (drop o s))) o) ∷ []))) (refused 17 o 0)) where
+  heading-onward : headingFits r (wordEnd s o - o) ≡ true → Passed r s f o g (gapEnd s (wordEnd s o)) (added noSizes k (wordEnd s o - o)) 0
+  unfolding lexed tok rec
+  heading-onward h =
+      let w = word (drop o s) in
+      let d : o + w - o ≡ w = omega arith in
+      let e : headingFits r w ≡ true = rw (← word-size s o) h in
+      let l : o + w ≤ gapEnd s (o + w) = gap-from s (o + w) in
+      let t = rec k (tok (lexed class w) o) in
+      rw (word-end s o, d)
+      (record {
+        kept = t ∷ [];
+        sizes = sym (sizes-one t);
+        reads = λ c out. reads c out ∙ rw e (sym (left-gap r 0 g s (o + w) (out ++ (t ∷ []))));
+        onward = omega (arith, m .some-bytes);
+        within = gap-within s (o + w) (m .within);
+        bare = gap-none s (o + w);
+        fits = one-fits k w (gapEnd s (o + w) - o) (m .some-bytes) (omega arith);
+      })
 
--- a frame closes where its items end
+  heading-refused : headingFits r (wordEnd s o - o) ≡ false → (c : ℕ) (out : List Rec) → told (RefusedText BadName o) ≡ tells (left r c f s o out)
+  unfolding told tells
+  heading-refused h c out = let e : headingFits r (word (drop o s)) ≡ false = rw (← word-size s o) h in rw (reads c out, e)
+
+-- a frame opens
+pub open-reads : (r : Reading) (c : ℕ) (s : List ℕ) (o w : ℕ) (out : List Rec) → Met r inBlock s o (lexed save w) → left r c none s o out ≡ cond (headingFits r w) (left r 0 (some o) s (o + w) (out ++ (rec 2 (tok (lexed save w) o) ∷ []))) (refused 17 o 0)
+unfolding left modeOf run move config atItem follow lexed tok after
+open-reads r c s o w out m = rw (m .next) (by (headingFits r w))
+  where
+    by : (b : Bool) → follow (cond b (go (config (items 0) (some o) (out ++ (rec 2 (tok (lexed save w) o) ∷ [])) [])) (stop (refused 17 o 0))) (λ c. run r (tokensAt r inFrame s (o + w)) c) ≡ cond b (run r (tokensAt r inFrame s (o + w)) (config (items 0) (some o) (out ++ (rec 2 (tok (lexed save w) o) ∷ [])) [])) (refused 17 o 0)
+    by true = refl
+    by false = refl
+
+-- a further block begins
+pub heads-reads : (c : ℕ) (s : List ℕ) (o w : ℕ) (out : List Rec) → Met Strict inBlock s o (lexed block w) → left Strict c none s o out ≡ cond (headingFits Strict w) (left Strict 0 none s (o + w) (out ++ (rec 1 (tok (lexed block w) o) ∷ []))) (refused 17 o 0)
+unfolding left modeOf run move config atItem follow lexed tok after
+heads-reads c s o w out m = rw (m .next) (by (headingFits Strict w))
+  where
+    by : (b : Bool) → follow (cond b (go (config (items 0) none (out ++ (rec 1 (tok (lexed block w) o) ∷ [])) [])) (stop (refused 17 o 0))) (λ c. run Strict (tokensAt Strict inBlock s (o + w)) c) ≡ cond b (run Strict (tokensAt Strict inBlock s (o + w)) (config (items 0) none (out ++ (rec 1 (tok (lexed block w) o) ∷ [])) [])) (refused 17 o 0)
+    by true = refl
+    by false = refl
+
+module _ (r : Reading) (s : List ℕ) (o : ℕ) (g : gap (drop o s) ≡ 0) (e : saveAt r s o ≡ true) where
+  pub frame-opens : headingFits r (wordEnd s o - o) ≡ true → Passed r s none o (some o) (gapEnd s (wordEnd s o)) (added noSizes 2 (wordEnd s o - o)) 0
+  unfolding modeOf
+  frame-opens = heading-onward r s none o 2 save (some o) (met-open s o g r e) (λ c out. open-reads r c s o (word (drop o s)) out (met-open s o g r e))
+
+  pub frame-misnamed : headingFits r (wordEnd s o - o) ≡ false → Framed r s o (Refused BadName o)
+  unfolding Framed Stepped modeOf
+  frame-misnamed h = heading-refused r s none o 2 save (some o) (met-open s o g r e) (λ c out. open-reads r c s o (word (drop o s)) out (met-open s o g r e)) h
+
+pub heading-stepped : (s : List ℕ) (o : ℕ) → gap (drop o s) ≡ 0 → dataAt Strict s o ≡ true → Framed Strict s o (headingOf Strict s 1 o)
+unfolding Framed headingOf modeOf
+heading-stepped s o g e = by (headingFits Strict (wordEnd s o - o)) refl
+  where
+    reads : (c : ℕ) (out : List Rec) → left Strict c none s o out ≡ cond (headingFits Strict (word (drop o s))) (left Strict 0 none s (o + word (drop o s)) (out ++ (rec 1 (tok (lexed block (word (drop o s))) o) ∷ []))) (refused 17 o 0)
+    reads c out = heads-reads c s o (word (drop o s)) out (met-heading s o g e)
+
+    by : (b : Bool) → headingFits Strict (wordEnd s o - o) ≡ b → (d : ℕ) → Stepped Strict d s o (cond b (Read (gapEnd s (wordEnd s o)) (added noSizes 1 (wordEnd s o - o)) 0) (Refused BadName o))
+    by true h d = unfold Stepped in heading-onward Strict s none o 1 block none (met-heading s o g e) reads h
+    by false h d = unfold Stepped in heading-refused Strict s none o 1 block none (met-heading s o g e) reads h d
+
+-- A FRAME CLOSES where its items end
+-- a `save_` that closes one is a token of five bytes
+close-size : (r : Reading) (s : List ℕ) (p : ℕ) → closeAt r s p ≡ true → (saveAt r s p ≡ true) × (saveLength r inFrame (drop p s) ≡ 5)
+unfolding closeAt saveAt saveSize
+close-size First s p e = (e, refl)
+close-size Strict s p e =
+    let w = and-r (isParted Strict (byteBefore s p)) _ e in
+    (rw (and-l (isParted Strict (byteBefore s p)) _ e) (stands-starts Strict keySave (drop p s) w), unfold keySave in word-is keySave (drop p s) w)
+
+close-token : (r : Reading) (s : List ℕ) (p : ℕ) → gap (drop p s) ≡ 0 → closeAt r s p ≡ true → Met r inFrame s p (lexed save 5)
+close-token r s p g e =
+    let c = close-size r s p e in
+    rw (c .1) at (met-close s p g r (c .0))
+
+pub close-answer : (r : Reading) (s : List ℕ) (a p : ℕ) (out : List Rec) → Met r inFrame s p (lexed save 5) → closing r a out (tokensAt r inFrame s p) ≡ left r 0 none s (p + 5) (out ++ (rec 3 (tok (lexed save 5) p) ∷ []))
+unfolding closing failedRun fails closes run move config atItem follow left modeOf lexed tok after
+close-answer First s a p out m = rw (m .next)
+close-answer Strict s a p out m = rw (m .next)
+
+pub frame-closes : (r : Reading) (s : List ℕ) (a o p : ℕ) → DroppedAt r s a o p → closeAt r s p ≡ true → (out : List Rec) → left r 0 (some a) s o out ≡ left r 0 none s (gapEnd s (p + 5)) (out ++ (rec 3 (tok (lexed save 5) p) ∷ []))
+frame-closes r s a o p d e out =
+    d .reads out ∙ close-answer r s a p out (close-token r s p (d .bare) e) ∙ sym (left-gap r 0 none s (p + 5) (out ++ (rec 3 (tok (lexed save 5) p) ∷ [])))
+
+-- a part up to o in a frame that opened at a, and its close at p
+closed-passed : (r : Reading) (s : List ℕ) (a o p : ℕ) (z : Sizes) → Passed r s none a (some a) o z 0 → DroppedAt r s a o p → closeAt r s p ≡ true → Passed r s none a none (gapEnd s (p + 5)) (added z 3 5) 0
+unfolding lexed tok rec
+closed-passed r s a o p z h d e =
+    let m = close-token r s p (d .bare) e in
+    let l : p + 5 ≤ gapEnd s (p + 5) = gap-from s (p + 5) in
+    let t = rec 3 (tok (lexed save 5) p) in
+    record {
+      kept = h .kept ++ (t ∷ []);
+      sizes = rw (← added-none z 3 5, h .sizes) (ap (joined (sizesOf (h .kept))) (sym (sizes-one t)) ∙ sym (sizes-append (h .kept) (t ∷ [])));
+      reads = λ c out. h .reads c out ∙ frame-closes r s a o p d e (out ++ h .kept) ∙ rw append-assoc;
+      onward = omega (arith, h .onward, d .onward);
+      within = gap-within s (p + 5) (m .within);
+      bare = gap-none s (p + 5);
+      fits = rw (← added-none z 3 5) (upto-joined (o - a) 5 (gapEnd s (p + 5) - a) z (added noSizes 3 5) (h .fits) (one-fits 3 5 5 (omega arith) (omega arith)) (omega (arith, h .onward, d .onward)));
+    }
+
+-- a frame does not close where its items end
 isSave : Class → Bool
 isSave save = true
 isSave block = false
@@ -213,107 +432,159 @@ no-close (value k) a out t e = refl
 no-close overLimit a out t e = refl
 no-close (nothing w) a out t e = refl
 
-plain-save : (c : Class) → isPlain c ≡ true → isSave c ≡ false
-unfolding isPlain isSave
-plain-save save e = absurd (true≢false (sym e))
-plain-save block e = refl
-plain-save loop e = refl
-plain-save tag e = refl
-plain-save (value k) e = refl
-plain-save overLimit e = refl
-plain-save (nothing w) e = refl
+unheaded-save : (c : Class) → isHeading c ≡ false → isSave c ≡ false
+unfolding isHeading isSave
+unheaded-save save e = absurd (true≢false e)
+unheaded-save block e = refl
+unheaded-save loop e = refl
+unheaded-save tag e = refl
+unheaded-save (value k) e = refl
+unheaded-save overLimit e = refl
+unheaded-save (nothing w) e = refl
 
-no-save : (u : List ℕ) → starts keySave u ≡ false → isSave (lexIn inFrame u .class) ≡ false
-no-save [] e = unfold lexIn lexed isSave in refl
-no-save (b ∷ s) e = plain-save (lexIn inFrame (b ∷ s) .class) (lex-plain inFrame b s e)
+first-open : (s : List ℕ) (a p : ℕ) (out : List Rec) → gap (drop p s) ≡ 0 → closeAt First s p ≡ false → closing First a out (tokensAt First inFrame s p) ≡ refused 4 a 0
+unfolding closing failedRun fails follow tok closeAt modeOf
+first-open s a p out g e =
+    let x = lexIn First (byteBefore s p) inFrame (drop p s) in
+    let f = first-left First (some a) s p g in
+    rw (f .1, no-close (x .class) a out (tok x p) (unheaded-save (x .class) (first-unheaded (byteBefore s p) inFrame (drop p s) e)))
 
-pub open-answer : (s : List ℕ) (a p : ℕ) (out : List Rec) → gap (drop p s) ≡ 0 → startsAt keySave s p ≡ false → closing a out (tokensAt inFrame s p) ≡ refused 4 a 0
-unfolding closing failedRun fails follow tok lex
-open-answer s a p out g e =
-    let x = lexIn inFrame (drop p s) in
-    let f = first s p g inFrame in
-    rw (f .1, no-close (x .class) a out (tok x p) (no-save (drop p s) (sym (starts-at keySave s p) ∙ e)))
+-- in the strict reading what leaves it open: the text's end, a named `save_`, `data_`
+strict-end : (s : List ℕ) (a p : ℕ) (out : List Rec) → length s ≤ p → closing Strict a out (tokensAt Strict inFrame s p) ≡ refused 4 a 0
+unfolding closing tokensAt tokensFrom run move config lex lexIn lexed tok atItem follow
+strict-end s a p out h = rw (drop-of-length-le s h)
 
-pub close-answer : (s : List ℕ) (a p : ℕ) (out : List Rec) → Met inFrame s p (lexed save 5) → closing a out (tokensAt inFrame s p) ≡ left 0 none s (p + 5) (out ++ (rec 3 (tok (lexed save 5) p) ∷ []))
-unfolding closing failedRun fails closes follow left modeOf lexed tok after
-close-answer s a p out m = rw (m .next)
+-- a `save_` that closes no frame has a name
+named-save : (s : List ℕ) (p : ℕ) → closeAt Strict s p ≡ false → saveAt Strict s p ≡ true → eqb (word (drop p s)) 5 ≡ false
+unfolding closeAt saveAt keySave
+named-save s p e v = by (eqb (word (drop p s)) 5) refl
+  where
+    by : (b : Bool) → eqb (word (drop p s)) 5 ≡ b → eqb (word (drop p s)) 5 ≡ false
+    by false q = q
+    by true q =
+        let a = and-l (isParted Strict (byteBefore s p)) (starts keySave (drop p s)) v in
+        let k = and-r (isParted Strict (byteBefore s p)) (starts keySave (drop p s)) v in
+        let w = word-stands keySave (drop p s) k (eqb-true (word (drop p s)) 5 q) in
+        let c : (isParted Strict (byteBefore s p) && stands Strict keySave (drop p s)) ≡ true = rw (a, w) in
+        absurd (true≢false (sym c ∙ e))
 
-frame-closes : (s : List ℕ) (a o p : ℕ) → DroppedAt s a o p → startsAt keySave s p ≡ true → Passed s (some a) o none (gapEnd s (p + 5)) (added noSizes 3 5) 0
-unfolding lexed tok rec
-frame-closes s a o p d e =
-    let m = met-close s p (d .bare) e in
-    let l : p + 5 ≤ gapEnd s (p + 5) = gap-from s (p + 5) in
-    let t = tok (lexed save 5) p in
+strict-save : (s : List ℕ) (a p : ℕ) (out : List Rec) → gap (drop p s) ≡ 0 → closeAt Strict s p ≡ false → saveAt Strict s p ≡ true → closing Strict a out (tokensAt Strict inFrame s p) ≡ refused 4 a 0
+unfolding closing run move config atItem follow lexed tok
+strict-save s a p out g e v = rw (met-close s p g Strict v .next, named-save s p e v)
+
+strict-data : (s : List ℕ) (a p : ℕ) (out : List Rec) → gap (drop p s) ≡ 0 → dataAt Strict s p ≡ true → closing Strict a out (tokensAt Strict inFrame s p) ≡ refused 4 a 0
+unfolding closing run move config atItem follow lexed tok
+strict-data s a p out g v = let m = met-heading s p g v in rw (tokens-anywhere inFrame inBlock s p, m .next)
+
+strict-leaves : (s : List ℕ) (a p : ℕ) (out : List Rec) → gap (drop p s) ≡ 0 → closeAt Strict s p ≡ false → leavesOpen s p ≡ true → closing Strict a out (tokensAt Strict inFrame s p) ≡ refused 4 a 0
+unfolding leavesOpen
+strict-leaves s a p out g e v = by (leb (length s) p) refl (saveAt Strict s p) refl v
+  where
+    by : (b : Bool) → leb (length s) p ≡ b → (c : Bool) → saveAt Strict s p ≡ c → (b || (c || dataAt Strict s p)) ≡ true → closing Strict a out (tokensAt Strict inFrame s p) ≡ refused 4 a 0
+    by true q c k v = strict-end s a p out (leb-true (length s) p q)
+    by false q true k v = strict-save s a p out g e k
+    by false q false k v = strict-data s a p out g v
+
+-- and what does not is no item there
+strict-none : (s : List ℕ) (a o p : ℕ) → DroppedAt Strict s a o p → leavesOpen s p ≡ false → NoneHere Strict (some a) s p
+unfolding leavesOpen modeOf saveAt dataAt
+strict-none s a o p d e =
+    let l = leb-false (length s) p (or-l (leb (length s) p) _ e) in
+    let r = or-r (leb (length s) p) _ e in
     record {
-      kept = rec 3 t ∷ [];
-      sizes = sym (sizes-one (rec 3 t));
-      reads = λ c out. d .reads c out ∙ close-answer s a p out m ∙ sym (left-gap 0 none s (p + 5) (out ++ (rec 3 t ∷ [])));
-      onward = omega (arith, d .onward);
-      within = gap-within s (p + 5) (m .within);
-      bare = gap-none s (p + 5);
-      fits = one-fits 3 5 (gapEnd s (p + 5) - o) (omega arith) (omega (arith, d .onward));
+      bare = d .bare;
+      some-bytes = omega arith;
+      itemless = d .absent refl;
+      unheaded = lex-unheaded Strict (byteBefore s p) inFrame (drop p s) (or-l (saveAt Strict s p) _ r) (or-r (saveAt Strict s p) _ r);
     }
+
+-- a frame that has been read up to o, where no item is read before p and none closes it there
+open-told : (r : Reading) (s : List ℕ) (a o p : ℕ) → DroppedAt r s a o p → ((out : List Rec) → closing r a out (tokensAt r inFrame s p) ≡ refused 4 a 0) → (out : List Rec) → told (RefusedText OpenFrame a) ≡ tells (left r 0 (some a) s o out)
+unfolding told tells
+open-told r s a o p d c out = rw (d .reads out, c out)
+
+strict-left : (s : List ℕ) (a p : ℕ) (out : List Rec) → closing Strict a out (tokensAt Strict inFrame s p) ≡ left Strict 0 (some a) s p out
+unfolding closing left modeOf
+strict-left s a p out = refl
+
+-- a frame's refusal is the text's
+pub frame-refused : (r : Reading) (s : List ℕ) (a o : ℕ) (z : Sizes) (c : Cause) (e : ℕ) → Passed r s none a (some a) o z 0 → ((out : List Rec) → told (RefusedText c e) ≡ tells (left r 0 (some a) s o out)) → Framed r s a (Refused c e)
+unfolding Framed Stepped
+frame-refused r s a o z c e h q = λ d out. rw (h .reads d out) (q (out ++ h .kept))
 
 -- what holds of both branches holds of the one taken
 either :
-    (s : List ℕ) (o : ℕ) (t : Bool) (x y : Step)
-    → (t ≡ true → Framed s o x)
-    → (t ≡ false → Framed s o y)
-    → Framed s o (cond t x y)
-either s o true x y p q = p refl
-either s o false x y p q = q refl
+    (r : Reading) (s : List ℕ) (o : ℕ) (t : Bool) (x y : Step)
+    → (t ≡ true → Framed r s o x)
+    → (t ≡ false → Framed r s o y)
+    → Framed r s o (cond t x y)
+either r s o true x y p q = p refl
+either r s o false x y p q = q refl
 
--- a frame that has been read up to o ends with the item that was dropped there
-pub frame-ends :
-    (s : List ℕ) (a o p : ℕ) (z : Sizes)
-    → Passed s none a (some a) o z 0
-    → DroppedAt s a o p
-    → Framed s a (frameEnd s a z p)
-unfolding frameEnd Framed Stepped told tells
-frame-ends s a o p z h d =
-    either s a (startsAt keySave s p) _ _
-    (λ e c. rw (← added-none z 3 5)
-    (passed-then s none (some a) none a o (gapEnd s (p + 5)) z (added noSizes 3 5) 0 0 h (frame-closes s a o p d e)))
-    (λ e c out. rw (h .reads c out, d .reads 0 (out ++ h .kept), open-answer s a p (out ++ h .kept) (d .bare) e))
+module _ (s : List ℕ) (a o p : ℕ) (z : Sizes) (h : Passed Strict s none a (some a) o z 0) (d : DroppedAt Strict s a o p) where
+  strict-open : closeAt Strict s p ≡ false → leavesOpen s p ≡ true → Framed Strict s a (Refused OpenFrame a)
+  strict-open e v = frame-refused Strict s a o z OpenFrame a h (open-told Strict s a o p d (λ out. strict-leaves s a p out (d .bare) e v))
 
--- a frame's refusal is the text's
-pub frame-refused : (s : List ℕ) (a o : ℕ) (z : Sizes) (c : Cause) (e : ℕ) → Passed s none a (some a) o z 0 → ((out : List Rec) → told (RefusedText c e) ≡ tells (left 0 (some a) s o out)) → Framed s a (Refused c e)
-unfolding Framed Stepped
-frame-refused s a o z c e h r = λ d out. rw (h .reads d out) (r (out ++ h .kept))
+  strict-absent : leavesOpen s p ≡ false → Framed Strict s a (absentOf Strict s 0 p)
+  unfolding Counts told
+  strict-absent v =
+      either Strict s a (isParted Strict (byteBefore s p)) _ _
+      (λ e. frame-refused Strict s a o z (NoItem 0) p h (λ out. sym (ap tells (d .reads out ∙ strict-left s a p out) ∙ absent-told Strict 0 (some a) s p tt (strict-none s a o p d v) out true e)))
+      (λ e. frame-refused Strict s a o z NotParted p h (λ out. sym (ap tells (d .reads out ∙ strict-left s a p out) ∙ absent-told Strict 0 (some a) s p tt (strict-none s a o p d v) out false e)))
 
--- the block that starts at o has been read up to p, where a 7 has the detail d
-pub record Begun (s : List ℕ) (o p : ℕ) (z : Sizes) (d : ℕ) : Type 0 where
+unclosed-framed : (r : Reading) (s : List ℕ) (a o p : ℕ) (z : Sizes) → Passed r s none a (some a) o z 0 → DroppedAt r s a o p → closeAt r s p ≡ false → Framed r s a (unclosed r s a p)
+unclosed-framed First s a o p z h d e = frame-refused First s a o z OpenFrame a h (open-told First s a o p d (λ out. first-open s a p out (d .bare) e))
+unclosed-framed Strict s a o p z h d e = either Strict s a (leavesOpen s p) _ _ (λ v. strict-open s a o p z h d e v) (λ v. strict-absent s a o p z h d v)
+
+-- A FRAME THAT HAS BEEN READ UP TO o ends where no further item is read
+pub frame-ends : (r : Reading) (s : List ℕ) (a o p : ℕ) (z : Sizes) → Passed r s none a (some a) o z 0 → DroppedAt r s a o p → Framed r s a (frameEnd r s a z p)
+unfolding frameEnd
+frame-ends r s a o p z h d =
+    either r s a (closeAt r s p) _ _ (λ e. unfold Framed Stepped in λ c. closed-passed r s a o p z h d e) (λ e. unclosed-framed r s a o p z h d e)
+
+-- the blocks from o on have been read up to p, where a 7 has the detail d
+pub record Begun (r : Reading) (s : List ℕ) (o p : ℕ) (z : Sizes) (d : ℕ) : Type 0 where
   pub kept : List Rec
   pub sizes : z ≡ sizesOf kept
-  pub reads : blockAt s o ≡ left d none s p kept
+  pub reads : blockAt r s o ≡ left r d none s p kept
   pub within : p ≤ length s
   pub bare : gap (drop p s) ≡ 0
   pub fits : Upto p z
 
-pub begin-reads : (s : List ℕ) (o w : ℕ) → Met before s o (lexed block w) → blockAt s o ≡ left 0 none s (o + w) (rec 1 (tok (lexed block w) o) ∷ [])
+pub begin-reads : (r : Reading) (s : List ℕ) (o w : ℕ) → Met r before s o (lexed block w) → blockAt r s o ≡ cond (headingFits r w) (left r 0 none s (o + w) (rec 1 (tok (lexed block w) o) ∷ [])) (refused 17 o 0)
 unfolding blockAt left modeOf run move config atStart follow lexed tok after
-begin-reads s o w m = rw (m .next)
+begin-reads r s o w m = rw (m .next) (by (headingFits r w))
+  where
+    by : (b : Bool) → follow (cond b (go (config (items 0) none (rec 1 (tok (lexed block w) o) ∷ []) [])) (stop (refused 17 o 0))) (λ c. run r (tokensAt r inBlock s (o + w)) c) ≡ cond b (run r (tokensAt r inBlock s (o + w)) (config (items 0) none (rec 1 (tok (lexed block w) o) ∷ []) [])) (refused 17 o 0)
+    by true = refl
+    by false = refl
 
-pub block-begins : (s : List ℕ) (o : ℕ) → gap (drop o s) ≡ 0 → startsAt keyData s o ≡ true → Begun s o (gapEnd s (wordEnd s o)) (added noSizes 1 (wordEnd s o - o)) 0
-unfolding lexed tok rec
-block-begins s o g e =
-    let w = word (drop o s) in
-    let m = met-data s o g e in
-    let d : o + w - o ≡ w = omega arith in
-    let l : o + w ≤ gapEnd s (o + w) = gap-from s (o + w) in
-    let t = tok (lexed block w) o in
-    rw (word-end s o, d)
-    (record {
-      kept = rec 1 t ∷ [];
-      sizes = sym (sizes-one (rec 1 t));
-      reads = begin-reads s o w m ∙ sym (left-gap 0 none s (o + w) (rec 1 t ∷ []));
-      within = gap-within s (o + w) (m .within);
-      bare = gap-none s (o + w);
-      fits = one-fits 1 w (gapEnd s (o + w)) (m .some-bytes) (omega arith);
-    })
+module _ (r : Reading) (s : List ℕ) (o : ℕ) (g : gap (drop o s) ≡ 0) (e : dataAt r s o ≡ true) where
+  pub block-begins : headingFits r (wordEnd s o - o) ≡ true → Begun r s o (gapEnd s (wordEnd s o)) (added noSizes 1 (wordEnd s o - o)) 0
+  unfolding lexed tok rec
+  block-begins f =
+      let w = word (drop o s) in
+      let m = met-data s o g r e in
+      let d : o + w - o ≡ w = omega arith in
+      let h : headingFits r w ≡ true = rw (← word-size s o) f in
+      let l : o + w ≤ gapEnd s (o + w) = gap-from s (o + w) in
+      let t = rec 1 (tok (lexed block w) o) in
+      rw (word-end s o, d)
+      (record {
+        kept = t ∷ [];
+        sizes = sym (sizes-one t);
+        reads = begin-reads r s o w m ∙ rw h (sym (left-gap r 0 none s (o + w) (t ∷ [])));
+        within = gap-within s (o + w) (m .within);
+        bare = gap-none s (o + w);
+        fits = one-fits 1 w (gapEnd s (o + w)) (m .some-bytes) (omega arith);
+      })
 
-pub block-goes-on : (s : List ℕ) (o p q : ℕ) (z y : Sizes) (d e : ℕ) → Begun s o p z d → Passed s none p none q y e → Begun s o q (joined z y) e
-block-goes-on s o p q z y d e a b =
+  pub block-misnamed : headingFits r (wordEnd s o - o) ≡ false → told (RefusedText BadName o) ≡ tells (blockAt r s o)
+  unfolding told tells
+  block-misnamed f = let h : headingFits r (word (drop o s)) ≡ false = rw (← word-size s o) f in rw (begin-reads r s o (word (drop o s)) (met-data s o g r e), h)
+
+pub block-goes-on : (r : Reading) (s : List ℕ) (o p q : ℕ) (z y : Sizes) (d e : ℕ) → Begun r s o p z d → Passed r s none p none q y e → Begun r s o q (joined z y) e
+block-goes-on r s o p q z y d e a b =
     record {
       kept = a .kept ++ b .kept;
       sizes = rw (a .sizes, b .sizes) (sym (sizes-append (a .kept) (b .kept)));
@@ -324,77 +595,131 @@ block-goes-on s o p q z y d e a b =
     }
 
 -- at the text's end all records are kept
-pub end-answer : (d : ℕ) (s : List ℕ) (p : ℕ) (out : List Rec) → length s ≤ p → left d none s p out ≡ done out
+pub end-answer : (r : Reading) (d : ℕ) (s : List ℕ) (p : ℕ) (out : List Rec) → length s ≤ p → left r d none s p out ≡ done out
 unfolding left modeOf tokensAt tokensFrom run move config lex lexIn lexed tok atItem follow
-end-answer d s p out h = rw (drop-of-length-le s h)
+end-answer First d s p out h = rw (drop-of-length-le s h)
+end-answer Strict d s p out h = rw (drop-of-length-le s h)
 
-pub block-ends : (s : List ℕ) (o p : ℕ) (z : Sizes) (d : ℕ) → Begun s o p z d → length s ≤ p → told (Fits z) ≡ tells (blockAt s o)
+pub block-ends : (r : Reading) (s : List ℕ) (o p : ℕ) (z : Sizes) (d : ℕ) → Begun r s o p z d → length s ≤ p → told (Fits z) ≡ tells (blockAt r s o)
 unfolding told tells sizesOf
-block-ends s o p z d b h = rw (b .reads, end-answer d s p (b .kept) h, b .sizes)
+block-ends r s o p z d b h = rw (b .reads, end-answer r d s p (b .kept) h, b .sizes)
 
-pub block-refused : (s : List ℕ) (o p : ℕ) (z : Sizes) (d : ℕ) (c : Cause) (e : ℕ) → Begun s o p z d → ((out : List Rec) → told (RefusedText c e) ≡ tells (left d none s p out)) → told (RefusedText c e) ≡ tells (blockAt s o)
-block-refused s o p z d c e b r = rw (b .reads) (r (b .kept))
+pub block-refused : (r : Reading) (s : List ℕ) (o p : ℕ) (z : Sizes) (d : ℕ) (c : Cause) (e : ℕ) → Begun r s o p z d → ((out : List Rec) → told (RefusedText c e) ≡ tells (left r d none s p out)) → told (RefusedText c e) ≡ tells (blockAt r s o)
+block-refused r s o p z d c e b q = rw (b .reads) (q (b .kept))
 
 -- no `data_`
-pub no-data : (s : List ℕ) (o : ℕ) → gap (drop o s) ≡ 0 → startsAt keyData s o ≡ false → told (RefusedText NoData o) ≡ tells (blockAt s o)
-unfolding blockAt run move config atStart follow told tells lex lexed tok
-no-data s o g e =
-    let f = first s o g before in
-    let h : starts keyData (drop o s) ≡ false = sym (starts-at keyData s o) ∙ e in
-    rw (f .1, h)
+pub no-data : (r : Reading) (s : List ℕ) (o : ℕ) → gap (drop o s) ≡ 0 → dataAt r s o ≡ false → told (RefusedText NoData o) ≡ tells (blockAt r s o)
+unfolding blockAt run move config atStart follow told tells lex lexed tok dataAt
+no-data First s o g e = rw (first s o g First before .1, e)
+no-data Strict s o g e = rw (first s o g Strict before .1) (by (drop o s) refl)
+  where
+    by : (u : List ℕ) → drop o s ≡ u → refusal 3 o 0 ≡ tells (follow (atStart Strict (lexIn Strict (byteBefore s o) before u .class) (tok (lexIn Strict (byteBefore s o) before u) o)) (λ c. run Strict (first s o g Strict before .0) c))
+    by [] q = unfold lexIn in refl
+    by (b ∷ u) q =
+        class-by (λ c. refusal 3 o 0 ≡ tells (follow (atStart Strict c (tok (lexIn Strict (byteBefore s o) before (b ∷ u)) o)) (λ c. run Strict (first s o g Strict before .0) c))) (byteBefore s o) before b u
+        (λ k. refl) refl refl refl refl refl Strict (λ f. refl) (λ f. absurd (false≢true (sym (rw q at e) ∙ f))) (λ f. refl) (λ f. refl) (λ f. refl)
 
 -- the text is read from behind its leading space and comments on
-pub decided-from : (s : List ℕ) → decided s ≡ blockAt s (gapEnd s 0)
-unfolding decided blockAt tokens
-decided-from s = rw (tokens-gap before s 0) (unfold tokensAt in refl)
-
--- a heading's word lies in the text
-pub save-within : (s : List ℕ) (o : ℕ) → gap (drop o s) ≡ 0 → startsAt keySave s o ≡ true → (o < wordEnd s o) × (wordEnd s o ≤ length s)
-unfolding lexed
-save-within s o g e = let m = met-open s o g e in rw (word-end s o) (omega (arith, m .some-bytes), m .within)
-
-pub data-within : (s : List ℕ) (o : ℕ) → gap (drop o s) ≡ 0 → startsAt keyData s o ≡ true → (o < wordEnd s o) × (wordEnd s o ≤ length s)
-unfolding lexed
-data-within s o g e = let m = met-data s o g e in rw (word-end s o) (omega (arith, m .some-bytes), m .within)
+pub decided-from : (r : Reading) (s : List ℕ) → decided r s ≡ blockAt r s (gapEnd s 0)
+unfolding decided blockAt
+decided-from r s = rw (tokens-gap r before s 0, tokens-start r s)
 
 -- what a frame's item is, once it is known
 pub inside-known :
-    (s : List ℕ) (a o : ℕ) (i : Answered) (x : Inside)
+    (r : Reading) (s : List ℕ) (a o : ℕ) (i : Answered) (x : Inside)
     → o ≤ length s
     → gap (drop o s) ≡ 0
-    → i ≡ itemAt s o
+    → i ≡ itemAt r s o
     → x ≡ inFrameOf i
-    → PassedInside s a o x
-inside-known s a o i x h g e f = rw (f, e) (item-inside s a o h g)
+    → PassedInside r s a o x
+inside-known r s a o i x h g e f = rw (f, e) (item-inside r s a o h g)
 
-pub inside-read : {s : List ℕ} {a o p : ℕ} {z : Sizes} {x : Inside} → PassedInside s a o x → x ≡ ReadInside p z → Passed s (some a) o (some a) p z 0
+pub inside-read : {r : Reading} {s : List ℕ} {a o p : ℕ} {z : Sizes} {x : Inside} → PassedInside r s a o x → x ≡ ReadInside p z → Passed r s (some a) o (some a) p z 0
 unfolding PassedInside
 inside-read h q = rw q at h
 
-pub inside-dropped : {s : List ℕ} {a o p : ℕ} {x : Inside} → PassedInside s a o x → x ≡ Dropped p → DroppedAt s a o p
+pub inside-dropped : {r : Reading} {s : List ℕ} {a o p : ℕ} {x : Inside} → PassedInside r s a o x → x ≡ Dropped p → DroppedAt r s a o p
 unfolding PassedInside
 inside-dropped h q = rw q at h
 
-pub inside-refused : (s : List ℕ) (a o : ℕ) {c : Cause} {e : ℕ} {x : Inside} → PassedInside s a o x → x ≡ RefusedInside c e → (out : List Rec) → told (RefusedText c e) ≡ tells (left 0 (some a) s o out)
+pub inside-refused : (r : Reading) (s : List ℕ) (a o : ℕ) {c : Cause} {e : ℕ} {x : Inside} → PassedInside r s a o x → x ≡ RefusedInside c e → (out : List Rec) → told (RefusedText c e) ≡ tells (left r 0 (some a) s o out)
 unfolding PassedInside
-inside-refused s a o h q = rw q at h
+inside-refused r s a o h q = rw q at h
 
 -- what a part of the block is, once it is known
-pub stepped-read : (d : ℕ) (s : List ℕ) (o p : ℕ) (z : Sizes) (e : ℕ) (x : Step) → Stepped d s o x → x ≡ Read p z e → Passed s none o none p z e
+pub stepped-read : (r : Reading) (d : ℕ) (s : List ℕ) (o p : ℕ) (z : Sizes) (e : ℕ) (x : Step) → Stepped r d s o x → x ≡ Read p z e → Passed r s none o none p z e
 unfolding Stepped
-stepped-read d s o p z e x h q = rw q at h
+stepped-read r d s o p z e x h q = rw q at h
 
-pub stepped-refused : (d : ℕ) (s : List ℕ) (o : ℕ) (c : Cause) (e : ℕ) (x : Step) → Stepped d s o x → x ≡ Refused c e → (out : List Rec) → told (RefusedText c e) ≡ tells (left d none s o out)
+pub stepped-refused : (r : Reading) (d : ℕ) (s : List ℕ) (o : ℕ) (c : Cause) (e : ℕ) (x : Step) → Stepped r d s o x → x ≡ Refused c e → (out : List Rec) → told (RefusedText c e) ≡ tells (left r d none s o out)
 unfolding Stepped
-stepped-refused d s o c e x h q = rw q at h
+stepped-refused r d s o c e x h q = rw q at h
 
 -- the text's start as the code finds it
-module _ (s : List ℕ) (o : ℕ) (e : o ≡ gapEnd s 0) where
+module _ (r : Reading) (s : List ℕ) (o : ℕ) (e : o ≡ gapEnd s 0) where
   pub start-bare : (o ≤ length s) × (gap (drop o s) ≡ 0)
   start-bare = rw e (gap-within s 0 (omega arith), gap-none s 0)
 
-  pub decided-at : decided s ≡ blockAt s o
-  decided-at = decided-from s ∙ ap (blockAt s) (sym e)
+  pub decided-at : decided r s ≡ blockAt r s o
+  decided-at = decided-from r s ∙ ap (blockAt r s) (sym e)
 
-  pub decided-none : startsAt keyData s o ≡ false → told (RefusedText NoData o) ≡ tells (decided s)
-  decided-none f = rw decided-at (no-data s o (start-bare .1) f)
+  pub decided-none : dataAt r s o ≡ false → told (RefusedText NoData o) ≡ tells (decided r s)
+  decided-none f = rw decided-at (no-data r s o (start-bare .1) f)
+
+-- a heading as the code reads it
+pub heading-fine : (r : Reading) (s : List ℕ) (k o end : ℕ) → end ≡ wordEnd s o → headingFits r (end - o) ≡ true → (next : ℕ) → next ≡ gapEnd s end → (z : Sizes) → z ≡ added noSizes k (end - o) → Read next z 0 ≡ headingOf r s k o
+unfolding headingOf
+heading-fine r s k o end e f next n z q = rw (n, q, ← e, f)
+
+pub heading-bad : (r : Reading) (s : List ℕ) (k o end : ℕ) → end ≡ wordEnd s o → headingFits r (end - o) ≡ false → Refused BadName o ≡ headingOf r s k o
+unfolding headingOf
+heading-bad r s k o end e f = rw (← e, f)
+
+-- what a heading says: where it is read its name may stand, and it is read there
+pub record HeadingRead (r : Reading) (s : List ℕ) (k o p : ℕ) (z : Sizes) : Type 0 where
+  pub fits : headingFits r (wordEnd s o - o) ≡ true
+  pub next : p ≡ gapEnd s (wordEnd s o)
+  pub sizes : z ≡ added noSizes k (wordEnd s o - o)
+
+pub heading-read : (r : Reading) (s : List ℕ) (k o p : ℕ) (z : Sizes) (d : ℕ) (x : Step) → x ≡ headingOf r s k o → x ≡ Read p z d → HeadingRead r s k o p z
+unfolding headingOf
+heading-read r s k o p z d x e q = by (headingFits r (wordEnd s o - o)) refl (sym q ∙ e)
+  where
+    by : (b : Bool) → headingFits r (wordEnd s o - o) ≡ b → Read p z d ≡ cond b (Read (gapEnd s (wordEnd s o)) (added noSizes k (wordEnd s o - o)) 0) (Refused BadName o) → HeadingRead r s k o p z
+    by true f q = record { fits = f; next = cc; sizes = cc }
+    by false f q = let y : _≡_ {A = ℕ} 0 1 = cc in absurd (omega arith)
+
+pub heading-not : (r : Reading) (s : List ℕ) (k o : ℕ) (x : Step) → x ≡ headingOf r s k o → ((p : ℕ) (z : Sizes) (d : ℕ) → x ≡ Read p z d → ⊥) → (headingFits r (wordEnd s o - o) ≡ false) × (x ≡ Refused BadName o)
+unfolding headingOf
+heading-not r s k o x e n = by (headingFits r (wordEnd s o - o)) refl
+  where
+    by : (b : Bool) → headingFits r (wordEnd s o - o) ≡ b → (headingFits r (wordEnd s o - o) ≡ false) × (x ≡ Refused BadName o)
+    by true f = absurd (n (gapEnd s (wordEnd s o)) (added noSizes k (wordEnd s o - o)) 0 (e ∙ rw f))
+    by false f = (f, e ∙ rw f)
+
+pub heading-lost : (r : Reading) (s : List ℕ) (k o : ℕ) (x : Step) (c : Cause) (e : ℕ) → x ≡ headingOf r s k o → x ≡ Refused c e → (headingFits r (wordEnd s o - o) ≡ false) × (x ≡ Refused BadName o)
+heading-lost r s k o x c e h q = heading-not r s k o x h (λ p z d f. let y : _≡_ {A = ℕ} 0 1 = cc in omega arith)
+
+-- where no item starts lies within the text
+pub absent-within : (r : Reading) (s : List ℕ) (o p : ℕ) → o ≤ length s → gap (drop o s) ≡ 0 → itemAt r s o ≡ Absent p → p ≤ length s
+unfolding PassedInside
+absent-within r s o p h g e = let d : DroppedAt r s 0 o p = rw e at (item-inside r s 0 o h g) in d .within
+
+-- a further heading, by the reading
+pub further-stepped : (r : Reading) (s : List ℕ) (o : ℕ) → gap (drop o s) ≡ 0 → headsBlock r s o ≡ true → Framed r s o (headingOf r s 1 o)
+further-stepped First s o g e = absurd (false≢true e)
+further-stepped Strict s o g e = heading-stepped s o g e
+
+-- a frame of which no item is read before p, and which does not close there, is refused
+pub open-refused : (r : Reading) (s : List ℕ) (a o p : ℕ) → DroppedAt r s a o p → closeAt r s p ≡ false → (out : List Rec) → (n : ℕ) × (e : ℕ) × (c : ℕ) × (left r 0 (some a) s o out ≡ refused n e c)
+unfolding Counts
+open-refused First s a o p d e out = (4, a, 0, d .reads out ∙ first-open s a p out (d .bare) e)
+open-refused Strict s a o p d e out = by (leavesOpen s p) refl
+  where
+    none : (x : Answer) (b : Bool) → x ≡ cond b (refused 7 p 0) (refused 15 p 0) → (n : ℕ) × (e : ℕ) × (c : ℕ) × (x ≡ refused n e c)
+    none x true q = (7, p, 0, q)
+    none x false q = (15, p, 0, q)
+
+    by : (b : Bool) → leavesOpen s p ≡ b → (n : ℕ) × (e : ℕ) × (c : ℕ) × (left Strict 0 (some a) s o out ≡ refused n e c)
+    by true v = (4, a, 0, d .reads out ∙ strict-leaves s a p out (d .bare) e v)
+    by false v = none (left Strict 0 (some a) s o out) (isParted Strict (byteBefore s p)) (d .reads out ∙ strict-left s a p out ∙ none-left Strict 0 (some a) s p tt (strict-none s a o p d v) out)

@@ -1,36 +1,45 @@
--- Reading on: what the machine still answers from an offset, and what an item or a frame there changes of it. Assumes nothing.
+-- Reading on: what the machine still answers from an offset, and what an item, a heading or a frame there changes of it. Assumes nothing.
 use Prim.Native.Nat.{ℕ, _+_, _-_, _≤_, _<_}
 use mathlib.Core.Path.{_≡_}
-use mathlib.Core.Bool.{cond}
+use mathlib.Core.Bool.{Bool, true, false, cond, _||_}
 use mathlib.Core.List.{List, [], _++_}
 use mathlib.Core.Option.{Option, none, some}
+use lib.Dec.{leb}
 use lib.ListN.{length, drop}
+use Rattle.rules.specs.declared.Reading.{Reading}
+use Rattle.rules.specs.declared.Reading.the-variants.{First, Strict}
+use Rattle.columns.specs.Before.{byteBefore, isParted}
 use Rattle.gaps.specs.Gaps.{gap, gapEnd}
-use Rattle.keywords.specs.Keywords.{startsAt, keySave}
+use Rattle.words.specs.Words.{wordEnd}
+use Rattle.words.specs.Names.{headingFits}
 use Rattle.sizes.specs.declared.Sizes.{Sizes}
 use Rattle.items.specs.declared.Item.{Item as Answered}
 use Rattle.items.specs.declared.Item.the-variants.{Loop, Single, Failed, Absent, Broken}
-use Rattle.grammar.specs.declared.Cause.the-variants.{NoItem, OpenFrame}
+use Rattle.grammar.specs.declared.Cause.the-variants.{NoItem, OpenFrame, NotParted, BadName}
 use Rattle.values.specs.Answers.{numberOfWhy}
 use Rattle.deciding.specs.declared.Decision.the-variants.{Refused as RefusedText}
 use Rattle.deciding.specs.declared.Step.{Step}
 use Rattle.deciding.specs.declared.Step.the-variants.{Read, Refused}
 use Rattle.deciding.specs.declared.Inside.{Inside}
 use Rattle.deciding.specs.declared.Inside.the-variants.{Read as ReadInside, Dropped, Refused as RefusedInside}
-use Rattle.grammar.specs.Tokens.{Mode, before, inBlock, inFrame, tokensAt}
+use Rattle.grammar.specs.Tokens.{Mode, before, inBlock, inFrame, tokensAt, saveAt, closeAt, dataAt}
 use Rattle.grammar.specs.Machine.{Rec, Answer, run, config, start, items}
-use Rattle.sizes.specs.Sizes.{sizesOf, added, Upto}
+use Rattle.sizes.specs.Sizes.{sizesOf, noSizes, added, Upto}
 use Rattle.deciding.specs.Decisions.{told, tells}
 
--- in the block 5 to 9 end the reading; a 7 there has the detail d, which a loop leaves behind it
-abbrev pub inBlockOf : ℕ → Answered → Step
-inBlockOf d (Loop n z w) = Read n z (numberOfWhy w)
-inBlockOf d (Single n z) = Read n z 0
-inBlockOf d (Failed c o p) = Refused c o
-inBlockOf d (Absent o) = Refused (NoItem d) o
-inBlockOf d (Broken c o) = Refused c o
+-- no item starts at o: 7 with the detail d, or in the strict reading 15 where no space parts what stands there from the token before
+abbrev pub absentOf : Reading → List ℕ → ℕ → ℕ → Step
+absentOf r s d o = cond (isParted r (byteBefore s o)) (Refused (NoItem d) o) (Refused NotParted o)
 
--- in a frame 5, 6 and 7 drop the item, 8 and 9 end the reading
+-- in the block whatever is not read ends the reading; a loop leaves behind it the detail that a 7 there has
+abbrev pub inBlockOf : Reading → List ℕ → ℕ → Answered → Step
+inBlockOf r s d (Loop n z w) = Read n z (numberOfWhy w)
+inBlockOf r s d (Single n z) = Read n z 0
+inBlockOf r s d (Failed c o p) = Refused c o
+inBlockOf r s d (Absent o) = absentOf r s d o
+inBlockOf r s d (Broken c o) = Refused c o
+
+-- in a frame an item that fails is dropped, as in the first reading by 5 and 6, and so is one that is none; all else ends the reading
 abbrev pub inFrameOf : Answered → Inside
 inFrameOf (Loop n z w) = ReadInside n z
 inFrameOf (Single n z) = ReadInside n z
@@ -38,9 +47,27 @@ inFrameOf (Failed c o p) = Dropped p
 inFrameOf (Absent o) = Dropped o
 inFrameOf (Broken c o) = RefusedInside c o
 
+-- the heading at o, of kind k: its word, whose name may stand, or 17
+unfoldable pub headingOf : Reading → List ℕ → ℕ → ℕ → Step
+headingOf r s k o = cond (headingFits r (wordEnd s o - o)) (Read (gapEnd s (wordEnd s o)) (added noSizes k (wordEnd s o - o)) 0) (Refused BadName o)
+
+-- in the strict reading the text's end, a named `save_` or `data_` leaves a frame open
+unfoldable pub leavesOpen : List ℕ → ℕ → Bool
+leavesOpen s o = leb (length s) o || (saveAt Strict s o || dataAt Strict s o)
+
+-- the frame that opened at a does not close at o: 4, or in the strict reading what stands there is no item
+abbrev pub unclosed : Reading → List ℕ → ℕ → ℕ → Step
+unclosed First s a o = Refused OpenFrame a
+unclosed Strict s a o = cond (leavesOpen s o) (Refused OpenFrame a) (absentOf Strict s 0 o)
+
 -- `save_` must stand where the last item stopped
-unfoldable pub frameEnd : List ℕ → ℕ → Sizes → ℕ → Step
-frameEnd s a z o = cond (startsAt keySave s o) (Read (gapEnd s (o + 5)) (added z 3 5) 0) (Refused OpenFrame a)
+unfoldable pub frameEnd : Reading → List ℕ → ℕ → Sizes → ℕ → Step
+frameEnd r s a z o = cond (closeAt r s o) (Read (gapEnd s (o + 5)) (added z 3 5) 0) (unclosed r s a o)
+
+-- a `data_` that begins a further block
+abbrev pub headsBlock : Reading → List ℕ → ℕ → Bool
+headsBlock First s o = false
+headsBlock Strict s o = dataAt Strict s o
 
 -- the block, or the frame that opened at an offset
 unfoldable pub modeOf : Option ℕ → Mode
@@ -48,29 +75,29 @@ modeOf none = inBlock
 modeOf (some a) = inFrame
 
 -- what the machine answers of the text from offset o on, where an item is expected and `out` is kept; a 7 there has the detail d
-unfoldable pub left : ℕ → Option ℕ → List ℕ → ℕ → List Rec → Answer
-left d f s o out = run (tokensAt (modeOf f) s o) (config (items d) f out [])
+unfoldable pub left : Reading → ℕ → Option ℕ → List ℕ → ℕ → List Rec → Answer
+left r d f s o out = run r (tokensAt r (modeOf f) s o) (config (items d) f out [])
 
 -- what it answers where `data_` is expected
-unfoldable pub blockAt : List ℕ → ℕ → Answer
-blockAt s o = run (tokensAt before s o) (config start none [] [])
+unfoldable pub blockAt : Reading → List ℕ → ℕ → Answer
+blockAt r s o = run r (tokensAt r before s o) (config start none [] [])
 
 -- from o in f to p in g records of these sizes are kept, and nothing else is changed of what is still answered; a 7 at p has the
 -- detail d, whatever one at o had
-pub record Passed (s : List ℕ) (f : Option ℕ) (o : ℕ) (g : Option ℕ) (p : ℕ) (z : Sizes) (d : ℕ) : Type 0 where
+pub record Passed (r : Reading) (s : List ℕ) (f : Option ℕ) (o : ℕ) (g : Option ℕ) (p : ℕ) (z : Sizes) (d : ℕ) : Type 0 where
   pub kept : List Rec
   pub sizes : z ≡ sizesOf kept
-  pub reads : (c : ℕ) (out : List Rec) → left c f s o out ≡ left d g s p (out ++ kept)
+  pub reads : (c : ℕ) (out : List Rec) → left r c f s o out ≡ left r d g s p (out ++ kept)
   pub onward : o < p
   pub within : p ≤ length s
   pub bare : gap (drop p s) ≡ 0
   pub fits : Upto (p - o) z
 
--- an item or a frame of the block, where a 7 has the detail d, is passed, or its refusal is the whole text's
-unfoldable pub Stepped : ℕ → List ℕ → ℕ → Step → Type 0
-Stepped d s o (Read p z e) = Passed s none o none p z e
-Stepped d s o (Refused c a) = (out : List Rec) → told (RefusedText c a) ≡ tells (left d none s o out)
+-- an item, a heading or a frame of the block, where a 7 has the detail d, is passed, or its refusal is the whole text's
+unfoldable pub Stepped : Reading → ℕ → List ℕ → ℕ → Step → Type 0
+Stepped r d s o (Read p z e) = Passed r s none o none p z e
+Stepped r d s o (Refused c a) = (out : List Rec) → told (RefusedText c a) ≡ tells (left r d none s o out)
 
--- a frame, whatever stands before it
-unfoldable pub Framed : List ℕ → ℕ → Step → Type 0
-Framed s o x = (d : ℕ) → Stepped d s o x
+-- a heading or a frame, whatever stands before it
+unfoldable pub Framed : Reading → List ℕ → ℕ → Step → Type 0
+Framed r s o x = (d : ℕ) → Stepped r d s o x

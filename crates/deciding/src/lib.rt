@@ -1,21 +1,22 @@
-// Frames, the block and the whole text: what it is refused for, or how much room its records take.
+// Frames, the blocks and the whole text: what it is refused for, or how much room its records take.
 ghost use mathlib.Core.Path.{_≡_};
 ghost use mathlib.Core.Bool.{true};
 ghost use Prim.Native.Nat.{_≤_, _<_};
 ghost use lib.ListN.{length};
-ghost use Rattle.keywords.specs.Keywords.{startsAt, keyData, keySave};
 ghost use Rattle.sizes.specs.Sizes.{Upto};
 ghost use Rattle.deciding.specs.Decisions.{told, tells};
+ghost use Rattle.grammar.specs.Tokens.{saveAt, dataAt};
 ghost use Rattle.grammar.specs.Reading.{decided};
 ghost use Rattle.text.specs.Limits.{limit};
-ghost use Rattle.items.specs.Answers.{Ready, Here};
-ghost use Rattle.deciding.specs.Frames.{inBlockOf, inFrameOf, frameEnd, Stepped, Framed, blockAt};
+ghost use Rattle.items.specs.Answers.{Ready, Here, itemAt};
+ghost use Rattle.deciding.specs.Frames.{absentOf, inBlockOf, inFrameOf, headingOf, leavesOpen, unclosed as unclosedOf, frameEnd, headsBlock, Stepped, Framed, blockAt};
 use grammar::Cause;
 use items::Item;
 use kinds::Kind;
+use rules::Reading;
 use sizes::Sizes;
 
-// What a text comes to: the room for its records, or what it is refused for, 3 to 9, and the offset of that.
+// What a text comes to: the room for its records, or what it is refused for, and the offset of that.
 pub enum Decision {
     Fits { sizes: Sizes },
     Refused { cause: Cause, at: usize },
@@ -28,7 +29,11 @@ const BEHIND_VALUE: usize = 0;
 
 const BEHIND_FRAME: usize = 0;
 
-// What an item, or a frame, is in the block: read, with why its list of values ended if it is a loop; or the reading's end.
+// Nor does it inside a frame.
+const IN_FRAME: usize = 0;
+
+// What an item, a heading or a frame is in the block: read, with why its list of values ended if it is a loop; or the reading's
+// end.
 enum Step {
     Read {
         next: usize,
@@ -48,10 +53,30 @@ enum Inside {
     Refused { cause: Cause, at: usize },
 }
 
-// What an item comes to in the block: 5 to 9 end the reading, and a 7 says why the loop directly before it ended.
-fn in_block(item: Item, reason: usize) -> Step
-    ensures { λ r. ⌜ r ≡ inBlockOf reason item ⌝ }
+// No item starts at an offset: 7, or 15 where the reading asks for space before what stands there.
+fn absent(reading: Reading, s: &[u8], at: usize, reason: usize) -> Step
+    requires { ⌜ at ≤ length (now s) ⌝ }
+    ensures { λ r. ⌜ r ≡ absentOf reading (now (s .entry)) reason at ⌝ }
 {
+    if columns::is_parted(reading, s, at) {
+        return Step::Refused {
+            cause: Cause::NoItem { reason },
+            at,
+        };
+    }
+    Step::Refused {
+        cause: Cause::NotParted,
+        at,
+    }
+}
+
+// What the item at an offset comes to in the block: whatever is not read ends the reading, and a 7 says why the loop directly
+// before it ended.
+fn in_block(reading: Reading, s: &[u8], at: usize, reason: usize) -> Step
+    requires { ⌜ Here (now s) at ⌝ }
+    ensures { λ r. ⌜ r ≡ inBlockOf reading (now (s .entry)) reason (itemAt reading (now (s .entry)) at) ⌝ }
+{
+    let item = items::parse_data_item(reading, s, at);
     match item {
         Item::Loop { next, sizes, why } => Step::Read {
             next,
@@ -63,16 +88,18 @@ fn in_block(item: Item, reason: usize) -> Step
             sizes,
             reason: BEHIND_VALUE,
         },
-        Item::Failed { cause, at, .. } => Step::Refused { cause, at },
-        Item::Absent { at } => Step::Refused {
-            cause: Cause::NoItem { reason },
-            at,
-        },
-        Item::Broken { cause, at } => Step::Refused { cause, at },
+        Item::Failed {
+            cause,
+            at: place,
+            ..
+        } => Step::Refused { cause, at: place },
+        Item::Absent { at: here } => absent(reading, s, here, reason),
+        Item::Broken { cause, at: place } => Step::Refused { cause, at: place },
     }
 }
 
-// What an item comes to in a frame: 5, 6 and 7 drop it, 8 and 9 end the reading.
+// What an item comes to in a frame: one that fails in the first reading, and one that is none, is dropped; all else that is not
+// read ends the reading.
 fn in_frame(item: Item) -> Inside
     ensures { λ r. ⌜ r ≡ inFrameOf item ⌝ }
 {
@@ -85,16 +112,68 @@ fn in_frame(item: Item) -> Inside
     }
 }
 
-// A frame's items have ended: `save_` must stand where the last one stopped.
-fn close_frame(s: &[u8], start: usize, sizes: Sizes, stop: usize) -> Step
-    requires { ⌜ Ready (now s) stop × Upto limit sizes ⌝ }
-    ensures { λ r. ⌜ r ≡ frameEnd (now (s .entry)) start sizes stop ⌝ }
+// The heading at an offset, of a block or a frame: its word, if its name may stand.
+fn parse_heading(reading: Reading, s: &[u8], at: usize, kind: u8) -> Step
+    requires { ⌜ Ready (now s) at ⌝ }
+    ensures { λ r. ⌜ r ≡ headingOf reading (now (s .entry)) kind at ⌝ }
 {
-    if !keywords::at_save(s, stop) {
+    let end = words::parse_identifier(s, at);
+    if !words::heading_fits(reading, end - at) {
         return Step::Refused {
+            cause: Cause::BadName,
+            at,
+        };
+    }
+    Step::Read {
+        next: gaps::gap_end(s, end),
+        sizes: Sizes::none().add(kind, end - at),
+        reason: BEHIND_HEADING,
+    }
+}
+
+// Whether what stands at an offset leaves a frame open in the strict reading: the text's end, a named `save_` or `data_`.
+fn leaves_open(s: &[u8], at: usize) -> bool
+    requires { ⌜ at ≤ length (now s) ⌝ }
+    ensures { λ r. ⌜ r ≡ leavesOpen (now (s .entry)) at ⌝ }
+{
+    if s.len() <= at {
+        return true;
+    }
+    if openings::at_save(Reading::Strict, s, at) {
+        return true;
+    }
+    openings::at_data(Reading::Strict, s, at)
+}
+
+// The frame that opened at an offset does not close where its items stopped.
+fn unclosed(reading: Reading, s: &[u8], start: usize, stop: usize) -> Step
+    requires { ⌜ stop ≤ length (now s) ⌝ }
+    ensures { λ r. ⌜ r ≡ unclosedOf reading (now (s .entry)) start stop ⌝ }
+{
+    match reading {
+        Reading::First => Step::Refused {
             cause: Cause::OpenFrame,
             at: start,
-        };
+        },
+        Reading::Strict => {
+            if leaves_open(s, stop) {
+                return Step::Refused {
+                    cause: Cause::OpenFrame,
+                    at: start,
+                };
+            }
+            absent(Reading::Strict, s, stop, IN_FRAME)
+        }
+    }
+}
+
+// A frame's items have ended: `save_` must stand where the last one stopped.
+fn close_frame(reading: Reading, s: &[u8], start: usize, sizes: Sizes, stop: usize) -> Step
+    requires { ⌜ Ready (now s) stop × Upto limit sizes ⌝ }
+    ensures { λ r. ⌜ r ≡ frameEnd reading (now (s .entry)) start sizes stop ⌝ }
+{
+    if !openings::at_close(reading, s, stop) {
+        return unclosed(reading, s, start, stop);
     }
     Step::Read {
         next: gaps::gap_end(s, stop + 5),
@@ -104,48 +183,81 @@ fn close_frame(s: &[u8], start: usize, sizes: Sizes, stop: usize) -> Step
 }
 
 // The frame whose `save_` stands at an offset.
-fn parse_save_frame(s: &[u8], start: usize) -> Step
-    requires { ⌜ Here (now s) start × (startsAt keySave (now s) start ≡ true) ⌝ }
-    ensures { λ r. ⌜ Framed (now (s .entry)) start r ⌝ }
+fn parse_save_frame(reading: Reading, s: &[u8], start: usize) -> Step
+    requires { ⌜ Here (now s) start × (saveAt reading (now s) start ≡ true) ⌝ }
+    ensures { λ r. ⌜ Framed reading (now (s .entry)) start r ⌝ }
 {
-    let end = words::parse_identifier(s, start);
-    let mut sizes = Sizes::none().add(Kind::FRAME_OPEN, end - start);
-    let mut at = gaps::gap_end(s, end);
+    let heading = parse_heading(reading, s, start, Kind::FRAME_OPEN);
+    let Step::Read {
+        next: first,
+        sizes: opened,
+        ..
+    } = heading
+    else {
+        return heading;
+    };
+    let mut sizes = opened;
+    let mut at = first;
     loop {
-        let inside = in_frame(items::parse_data_item(s, at));
+        let inside = in_frame(items::parse_data_item(reading, s, at));
         match inside {
             Inside::Read { next, sizes: more } => {
                 sizes = sizes.join(more);
                 at = next;
             }
-            Inside::Dropped { stop } => return close_frame(s, start, sizes, stop),
+            Inside::Dropped { stop } => return close_frame(reading, s, start, sizes, stop),
             Inside::Refused { cause, at: place } => return Step::Refused { cause, at: place },
         }
     }
 }
 
-// The item or the frame at an offset of the block; the reason is why the loop directly before ended.
-fn parse_data_item_or_save_frame(s: &[u8], at: usize, reason: usize) -> Step
-    requires { ⌜ Here (now s) at × (at < length (now s)) ⌝ }
-    ensures { λ r. ⌜ Stepped reason (now (s .entry)) at r ⌝ }
+// Whether a `data_` that begins a further block stands at an offset.
+pub fn heads_block(reading: Reading, s: &[u8], at: usize) -> bool
+    requires { ⌜ at ≤ length (now s) ⌝ }
+    ensures { λ r. ⌜ r ≡ headsBlock reading (now (s .entry)) at ⌝ }
 {
-    if keywords::at_save(s, at) {
-        return parse_save_frame(s, at);
+    match reading {
+        Reading::First => false,
+        Reading::Strict => openings::at_data(Reading::Strict, s, at),
     }
-    in_block(items::parse_data_item(s, at), reason)
 }
 
-// The block whose `data_` stands at an offset.
-fn parse_data_block(s: &[u8], start: usize) -> Decision
-    requires { ⌜ Here (now s) start × (startsAt keyData (now s) start ≡ true) ⌝ }
-    ensures { λ r. ⌜ told r ≡ tells (blockAt (now (s .entry)) start) ⌝ }
+// The item, the frame or the heading at an offset of the block; the reason is why the loop directly before ended.
+fn parse_data_item_or_save_frame(reading: Reading, s: &[u8], at: usize, reason: usize) -> Step
+    requires { ⌜ Here (now s) at × (at < length (now s)) ⌝ }
+    ensures { λ r. ⌜ Stepped reading reason (now (s .entry)) at r ⌝ }
 {
-    let end = words::parse_identifier(s, start);
-    let mut sizes = Sizes::none().add(Kind::BLOCK, end - start);
-    let mut at = gaps::gap_end(s, end);
+    if openings::at_save(reading, s, at) {
+        return parse_save_frame(reading, s, at);
+    }
+    if heads_block(reading, s, at) {
+        return parse_heading(reading, s, at, Kind::BLOCK);
+    }
+    in_block(reading, s, at, reason)
+}
+
+// The blocks from the first one's `data_` on, which stands at an offset; the first reading has one.
+fn parse_data_block(reading: Reading, s: &[u8], start: usize) -> Decision
+    requires { ⌜ Here (now s) start × (dataAt reading (now s) start ≡ true) ⌝ }
+    ensures { λ r. ⌜ told r ≡ tells (blockAt reading (now (s .entry)) start) ⌝ }
+{
+    let heading = parse_heading(reading, s, start, Kind::BLOCK);
+    let Step::Read {
+        next: first,
+        sizes: opened,
+        ..
+    } = heading
+    else {
+        return Decision::Refused {
+            cause: Cause::BadName,
+            at: start,
+        };
+    };
+    let mut sizes = opened;
+    let mut at = first;
     let mut reason = BEHIND_HEADING;
     while at < s.len() {
-        let step = parse_data_item_or_save_frame(s, at, reason);
+        let step = parse_data_item_or_save_frame(reading, s, at, reason);
         match step {
             Step::Read {
                 next,
@@ -163,16 +275,16 @@ fn parse_data_block(s: &[u8], start: usize) -> Decision
 }
 
 // What a text of at most 16,777,216 bytes comes to.
-pub fn lex_cif(s: &[u8]) -> Decision
+pub fn lex_cif(reading: Reading, s: &[u8]) -> Decision
     requires { ⌜ length (now s) ≤ limit ⌝ }
-    ensures { λ r. ⌜ told r ≡ tells (decided (now (s .entry))) ⌝ }
+    ensures { λ r. ⌜ told r ≡ tells (decided reading (now (s .entry))) ⌝ }
 {
     let at = gaps::gap_end(s, 0);
-    if !keywords::at_data(s, at) {
+    if !openings::at_data(reading, s, at) {
         return Decision::Refused {
             cause: Cause::NoData,
             at,
         };
     }
-    parse_data_block(s, at)
+    parse_data_block(reading, s, at)
 }

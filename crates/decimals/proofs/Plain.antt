@@ -9,15 +9,17 @@ use lib.Dec.{leb, ltb, eqb, lit<}
 use lib.ListN.{length, take, drop, getD}
 use lib.Seq.{getD-take, getD-drop}
 use borrow.Author.Tests.{leb-true, eqb-true, le-leb, lt-ltb}
+use Rattle.rules.specs.declared.Reading.{Reading}
+use Rattle.rules.specs.declared.Reading.the-variants.{First, Strict}
 use Rattle.text.specs.Bytes.{isDigit, is}
 use Rattle.text.proofs.Bools.{and-l, and-r}
 use Rattle.text.proofs.Ranges.{allBelow, digit-not}
 use Rattle.numbers.specs.declared.Number.the-variants.{Is}
-use Rattle.numbers.specs.Parts.{Part, absent, isEmpty, parts, isNumber, within}
+use Rattle.numbers.specs.Parts.{Part, absent, isEmpty, parts, isNumber, written, isNumeric, countsAs, within}
 use Rattle.numbers.specs.Meaning.{meaning, judged, numberOf}
 use Rattle.numbers.specs.Cif.{allDigits, Sign}
 use Rattle.cuts.specs.Digits.{piece, after, digitsEnd, Run}
-use Rattle.decimals.specs.Plain.{wordStops, bracketEnd, decimalEnd}
+use Rattle.decimals.specs.Plain.{wordStops, leastDigits, bracketEnd, decimalEnd}
 use Rattle.numbers.proofs.Spell.{Bracket, unbracketed, bracketed, Exponent, unscaled, Point, whole, pointed, sign-got, digits-got, parts-spell}
 use Rattle.numbers.proofs.Made.{all, all-at, others, number-made}
 use Rattle.cuts.proofs.DigitRuns.{piece-none, piece-length, piece-join, piece-first, piece-last, digits-from, digits-end-twice, run-here}
@@ -62,37 +64,44 @@ point-spells s i _ (one b) d x =
     let h : i < digitsEnd s (i + 1) = omega (arith, digits-from s (i + 1)) in
     rw (piece-first s i (digitsEnd s (i + 1)) h l, b) (pointed (piece s (i + 1) (digitsEnd s (i + 1))) (digits-at s (i + 1)) x)
 
--- a bracket that is closed and keeps its limit, or none
-data Closed (s : List ℕ) (f : ℕ) : ℕ → Type 0 where
-  none : Closed s f f
-  shut : getD s f 0 ≡ 40 → digitsEnd s (f + 1) - (f + 1) ≤ 9 → getD s (digitsEnd s (f + 1)) 0 ≡ 41 → Closed s f (digitsEnd s (f + 1) + 1)
+-- a bracket that is closed, has digits enough and keeps its limit, or none
+data Closed (r : Reading) (s : List ℕ) (f : ℕ) : ℕ → Type 0 where
+  none : Closed r s f f
+  shut : getD s f 0 ≡ 40 → leastDigits r ≤ digitsEnd s (f + 1) - (f + 1) → digitsEnd s (f + 1) - (f + 1) ≤ 9 → getD s (digitsEnd s (f + 1)) 0 ≡ 41 → Closed r s f (digitsEnd s (f + 1) + 1)
 
-closed-at : (s : List ℕ) (f : ℕ) → Closed s f (bracketEnd s f)
+closed-at : (r : Reading) (s : List ℕ) (f : ℕ) → Closed r s f (bracketEnd r s f)
 unfolding bracketEnd is
-closed-at s f = by (eqb (getD s f 0) 40) (leb (c - (f + 1)) 9) (eqb (getD s c 0) 41) refl refl refl
+closed-at r s f = by (eqb (getD s f 0) 40) (leb (leastDigits r) (c - (f + 1))) (leb (c - (f + 1)) 9) (eqb (getD s c 0) 41) refl refl refl refl
   where
     c : ℕ
     c = digitsEnd s (f + 1)
 
-    by : (t u v : Bool) → eqb (getD s f 0) 40 ≡ t → leb (c - (f + 1)) 9 ≡ u → eqb (getD s c 0) 41 ≡ v → Closed s f (cond (t && (u && v)) (c + 1) f)
-    by true true true x y z = shut (eqb-true _ _ x) (leb-true _ _ y) (eqb-true _ _ z)
-    by true true false x y z = none
-    by true false v x y z = none
-    by false u v x y z = none
+    by : (t l u v : Bool) → eqb (getD s f 0) 40 ≡ t → leb (leastDigits r) (c - (f + 1)) ≡ l → leb (c - (f + 1)) 9 ≡ u → eqb (getD s c 0) 41 ≡ v → Closed r s f (cond (t && (l && (u && v))) (c + 1) f)
+    by true true true true x w y z = shut (eqb-true _ _ x) (leb-true _ _ w) (leb-true _ _ y) (eqb-true _ _ z)
+    by true true true false x w y z = none
+    by true true false v x w y z = none
+    by true false u v x w y z = none
+    by false l u v x w y z = none
 
 -- the part that it is
-record Ended (s : List ℕ) (f e : ℕ) : Type 0 where
+record Ended (r : Reading) (s : List ℕ) (f e : ℕ) : Type 0 where
   part : Part
+  digits : r ≡ Strict → written part ≡ true
   spells : Bracket (piece s f e) part
   whole : part .left ≡ []
   few : length (part .run) ≤ 9
   from : f ≤ e
   to : e ≤ length s
 
-ended : (s : List ℕ) (f e : ℕ) → Closed s f e → f ≤ length s → Ended s f e
-unfolding absent
-ended s f _ none h = record { part = absent []; spells = rw (piece-none s f) unbracketed; whole = refl; few = omega arith; from = omega arith; to = h }
-ended s f _ (shut b n z) h =
+-- a run of one digit at least is not empty
+some-digits : (r : Reading) (s : List ℕ) (i j : ℕ) → j ≤ length s → leastDigits r ≤ j - i → r ≡ Strict → not (isEmpty (piece s i j)) ≡ true
+some-digits First s i j h l e = let z : _≡_ {A = ℕ} 0 1 = cc in absurd (omega arith)
+some-digits Strict s i j h l e = rw (piece-empty s i j h, lt-ltb i j (omega arith))
+
+ended : (r : Reading) (s : List ℕ) (f e : ℕ) → Closed r s f e → f ≤ length s → Ended r s f e
+unfolding absent written
+ended r s f _ none h = record { part = absent []; digits = λ q. refl; spells = rw (piece-none s f) unbracketed; whole = refl; few = omega arith; from = omega arith; to = h }
+ended r s f _ (shut b d n z) h =
     let c = digitsEnd s (f + 1) in
     let l : f < length s = byte-within s f 40 (lit< tt) b in
     let m : c < length s = byte-within s c 41 (lit< tt) z in
@@ -101,6 +110,7 @@ ended s f _ (shut b n z) h =
     let k : length (piece s (f + 1) c) ≤ 9 = rw (piece-length s (f + 1) c (omega arith)) n in
     record {
       part = record { here = true; signed = []; run = piece s (f + 1) c; left = [] };
+      digits = some-digits r s (f + 1) c (omega arith) d;
       spells = rw (piece-first s f (c + 1) q l, piece-last s (f + 1) c g m, b, z) (bracketed (piece s (f + 1) c) (digits-at s (f + 1)));
       whole = refl;
       few = k;
@@ -109,15 +119,15 @@ ended s f _ (shut b n z) h =
     }
 
 -- what is found at o, up to e
-pub record Plain (s : List ℕ) (o e : ℕ) : Type 0 where
+pub record Plain (r : Reading) (s : List ℕ) (o e : ℕ) : Type 0 where
   pub within : e ≤ length s
   pub stops : wordStops s e ≡ true
   pub kept : isNumber (parts (piece s o e)) ≡ true
-  pub number : numberOf (piece s o e) ≡ Is (meaning (parts (piece s o e)))
+  pub number : numberOf r (piece s o e) ≡ Is (meaning (parts (piece s o e)))
   pub uncertain : meaning (parts (piece s o e)) .uncertain ≡ is 41 (getD s (e - 1) 0)
 
 -- the word's pieces, one behind the other: the cuts a, i, p and f bound them, and e ends the bracket
-module _ (s : List ℕ) (o : ℕ) (h : o ≤ length s) where
+module _ (r : Reading) (s : List ℕ) (o : ℕ) (h : o ≤ length s) where
   a : ℕ
   a = after 43 45 s o
 
@@ -156,7 +166,7 @@ module _ (s : List ℕ) (o : ℕ) (h : o ≤ length s) where
       piece-join s o a e oa (omega arith)
       ∙ ap (λ (r : List ℕ). piece s o a ++ r) (piece-join s a i e ai (omega arith) ∙ ap (λ (r : List ℕ). piece s a i ++ r) (piece-join s i f e (omega arith) l))
 
-  spelled : (e : ℕ) → (b : Ended s f e) →
+  spelled : (e : ℕ) → (b : Ended r s f e) →
       parts (piece s o e) ≡ record { sgn = piece s o a; int = piece s a i; frac = piece s p f; exp = absent (piece s f e); unc = b .part }
   unfolding a i p f
   spelled e b =
@@ -177,11 +187,24 @@ module _ (s : List ℕ) (o : ℕ) (h : o ≤ length s) where
             and-none true = refl
             and-none false = refl
 
-    is-number : (e : ℕ) → Ended s f e → isNumber (parts (piece s o e)) ≡ true
+    is-number : (e : ℕ) → Ended r s f e → isNumber (parts (piece s o e)) ≡ true
     unfolding isNumber isEmpty
     is-number e b = rw (spelled e b, b .whole, piece-empty s a i (integer .to), piece-empty s p f (fraction .to), digit)
 
-    keeps : (e : ℕ) → Ended s f e → within (parts (piece s o e)) ≡ true
+    counts : (e : ℕ) → Ended r s f e → countsAs r (parts (piece s o e)) ≡ true
+    counts e b = by r refl
+      where
+        unc : (q : Reading) → r ≡ q → q ≡ Strict → written (parts (piece s o e) .unc) ≡ true
+        unc q g k = rw (spelled e b) (b .digits (g ∙ k))
+
+        exp : written (parts (piece s o e) .exp) ≡ true
+        exp = rw (spelled e b) (unfold written absent in refl)
+
+        by : (q : Reading) → r ≡ q → countsAs q (parts (piece s o e)) ≡ true
+        by First g = is-number e b
+        by Strict g = unfold isNumeric in rw (is-number e b, exp, unc Strict g refl)
+
+    keeps : (e : ℕ) → Ended r s f e → within (parts (piece s o e)) ≡ true
     unfolding within absent
     keeps e b =
         rw (
@@ -211,31 +234,32 @@ module _ (s : List ℕ) (o : ℕ) (h : o ≤ length s) where
         by (yes l) = digit-no _ (fraction .all (f - 1) (omega arith) (omega arith))
         by (no l) = short p (pointed-at s i) (omega (arith, fraction .from)) (omega arith)
 
-    marked : (e : ℕ) (c : Closed s f e) (l : f ≤ length s) → (ended s f e c l) .part .here ≡ is 41 (getD s (e - 1) 0)
+    marked : (e : ℕ) (c : Closed r s f e) (l : f ≤ length s) → (ended r s f e c l) .part .here ≡ is 41 (getD s (e - 1) 0)
     unfolding ended absent is
     marked _ none l = sym no-bracket
-    marked _ (shut b n z) l =
+    marked _ (shut b d n z) l =
         let c = digitsEnd s (f + 1) in
         let k : c + 1 - 1 ≡ c = omega arith in
         rw (k, z)
 
-    plain-to : (e : ℕ) → Closed s f e → wordStops s e ≡ true → Plain s o e
+    plain-to : (e : ℕ) → Closed r s f e → wordStops s e ≡ true → Plain r s o e
     unfolding numberOf judged meaning
     plain-to e c w =
-        let b : Ended s f e = ended s f e c (fraction .to) in
+        let b : Ended r s f e = ended r s f e c (fraction .to) in
         let n = is-number e b in
+        let m = counts e b in
         let k = keeps e b in
         record {
           within = b .to;
           stops = w;
           kept = n;
-          number = rw (n, k);
+          number = rw (m, k);
           uncertain = rw (spelled e b) (marked e c (fraction .to));
         }
 
-pub plain : (s : List ℕ) (o : ℕ) → o < length s → o < decimalEnd s o → Plain s o (decimalEnd s o)
+pub plain : (r : Reading) (s : List ℕ) (o : ℕ) → o < length s → o < decimalEnd r s o → Plain r s o (decimalEnd r s o)
 unfolding decimalEnd a i p f
-plain s o h m = by (leb (i′ - a′) 9 && (leb (f′ - p′) 18 && (leb 1 (i′ - a′ + (f′ - p′)) && wordStops s e′))) refl m
+plain r s o h m = by (leb (i′ - a′) 9 && (leb (f′ - p′) 18 && (leb 1 (i′ - a′ + (f′ - p′)) && wordStops s e′))) refl m
   where
     a′ : ℕ
     a′ = after 43 45 s o
@@ -250,20 +274,20 @@ plain s o h m = by (leb (i′ - a′) 9 && (leb (f′ - p′) 18 && (leb 1 (i′
     f′ = digitsEnd s p′
 
     e′ : ℕ
-    e′ = bracketEnd s f′
+    e′ = bracketEnd r s f′
 
-    by : (t : Bool) → (leb (i′ - a′) 9 && (leb (f′ - p′) 18 && (leb 1 (i′ - a′ + (f′ - p′)) && wordStops s e′))) ≡ t → o < cond t e′ o → Plain s o (cond t e′ o)
+    by : (t : Bool) → (leb (i′ - a′) 9 && (leb (f′ - p′) 18 && (leb 1 (i′ - a′ + (f′ - p′)) && wordStops s e′))) ≡ t → o < cond t e′ o → Plain r s o (cond t e′ o)
     by false q l = absurd (omega arith)
     by true q l =
         let q2 = and-r (leb (i′ - a′) 9) _ q in
         let q3 = and-r (leb (f′ - p′) 18) _ q2 in
         let q4 = and-r (leb 1 (i′ - a′ + (f′ - p′))) _ q3 in
-        plain-to s o (omega arith) (leb-true _ _ (and-l (leb (i′ - a′) 9) _ q)) (leb-true _ _ (and-l (leb (f′ - p′) 18) _ q2)) (leb-true _ _ (and-l (leb 1 (i′ - a′ + (f′ - p′))) _ q3)) e′ (closed-at s f′) q4
+        plain-to r s o (omega arith) (leb-true _ _ (and-l (leb (i′ - a′) 9) _ q)) (leb-true _ _ (and-l (leb (f′ - p′) 18) _ q2)) (leb-true _ _ (and-l (leb 1 (i′ - a′ + (f′ - p′))) _ q3)) e′ (closed-at r s f′) q4
 
 -- each of its bytes passes a test that passes at what numbers have
-pub plain-bytes : (g : ℕ → Bool) → allBelow (λ k. g (48 + k)) 10 ≡ true → all g others ≡ true → (s : List ℕ) (o e : ℕ) → Plain s o e → (k : ℕ) → o ≤ k → k < e → g (getD s k 0) ≡ true
+pub plain-bytes : (g : ℕ → Bool) → allBelow (λ k. g (48 + k)) 10 ≡ true → all g others ≡ true → (r : Reading) (s : List ℕ) (o e : ℕ) → Plain r s o e → (k : ℕ) → o ≤ k → k < e → g (getD s k 0) ≡ true
 unfolding piece
-plain-bytes g tens rest s o e x k l h =
+plain-bytes g tens rest r s o e x k l h =
     let n : o + (k - o) ≡ k = omega arith in
     let m : k - o < e - o = omega arith in
     let w : k - o < length (piece s o e) = rw (piece-length s o e (x .within)) m in

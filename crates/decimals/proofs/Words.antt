@@ -7,6 +7,7 @@ use native.Mathlib.Decide.{decLt}
 use native.Mathlib.Omega.{arith}
 use borrow.Author.Tests.{lt-leb}
 use lib.ListN.{length, take, drop, getD}
+use Rattle.rules.specs.declared.Reading.{Reading}
 use Rattle.text.specs.Bytes.{is, endsWord}
 use Rattle.text.specs.Runs.{spanEnd}
 use Rattle.text.proofs.Runs.{span-stop, span-over, span-to}
@@ -28,29 +29,29 @@ stops-here s e w = by (decLt e (length s))
         span-stop (λ b. not (endsWord b)) s e l (rw q)
     by (no l) = span-over (λ b. not (endsWord b)) s e (omega arith)
 
-plain-run : (s : List ℕ) (o e : ℕ) → o ≤ e → Plain s o e → spanEnd (λ b. not (endsWord b)) s o ≡ e
+plain-run : (r : Reading) (s : List ℕ) (o e : ℕ) → o ≤ e → Plain r s o e → spanEnd (λ b. not (endsWord b)) s o ≡ e
 unfolding all others endsWord
-plain-run s o e h x =
+plain-run r s o e h x =
     let z : o + (e - o) ≡ e = omega arith in
     rw z at (span-to (λ b. not (endsWord b)) s (e - o) o (omega (arith, x .within))
-    (λ k l u. plain-bytes (λ b. not (endsWord b)) refl refl s o e x k l (omega arith))
+    (λ k l u. plain-bytes (λ b. not (endsWord b)) refl refl r s o e x k l (omega arith))
     (rw z (stops-here s e (x .stops))))
 
 -- what stands from o up to e is a whole word and a number within the limits, with uncertainty where its last byte is `)`
-pub record PlainWord (s : List ℕ) (o e : ℕ) : Type 0 where
+pub record PlainWord (r : Reading) (s : List ℕ) (o e : ℕ) : Type 0 where
   pub within : e ≤ length s
   pub whole : spanEnd (λ b. not (endsWord b)) s o ≡ e
-  pub number : numberOf (take (e - o) (drop o s)) ≡ Is (meaning (parts (take (e - o) (drop o s))))
+  pub number : numberOf r (take (e - o) (drop o s)) ≡ Is (meaning (parts (take (e - o) (drop o s))))
   pub uncertain : meaning (parts (take (e - o) (drop o s))) .uncertain ≡ is 41 (getD s (e - 1) 0)
 
 -- where `decimalEnd` goes on, such a number stands
-pub plain-word : (s : List ℕ) (o : ℕ) → o < length s → o < decimalEnd s o → PlainWord s o (decimalEnd s o)
+pub plain-word : (r : Reading) (s : List ℕ) (o : ℕ) → o < length s → o < decimalEnd r s o → PlainWord r s o (decimalEnd r s o)
 unfolding piece
-plain-word s o h m =
-    let x = plain s o h m in
+plain-word r s o h m =
+    let x = plain r s o h m in
     record {
       within = x .within;
-      whole = plain-run s o (decimalEnd s o) (omega arith) x;
+      whole = plain-run r s o (decimalEnd r s o) (omega arith) x;
       number = x .number;
       uncertain = x .uncertain;
     }

@@ -5,8 +5,9 @@ ghost use mathlib.Core.Bool.{true};
 ghost use Rattle.numbers.specs.Parts.{parts, within, minus};
 ghost use Rattle.cuts.specs.Digits.{value};
 ghost use Rattle.numbers.specs.Meaning.{meaning};
-ghost use Rattle.decimals.specs.Plain.{wordStops, bracketEnd, decimalEnd};
+ghost use Rattle.decimals.specs.Plain.{wordStops, leastDigits, bracketEnd, decimalEnd};
 use numbers::Decimal;
+use rules::Reading;
 
 // What a word means whose parts keep the limits. Most end behind their fraction or a bracket there, and one pass reads
 // those.
@@ -67,15 +68,28 @@ fn word_stops(s: &[u8], at: usize) -> bool
     text::ends_word(s[at])
 }
 
-// Behind the bracket at an offset, if it is closed and keeps its limit; else the offset.
-fn bracket_end(s: &[u8], at: usize) -> usize
-    ensures { λ r. ⌜ r ≡ bracketEnd (now (s .entry)) at ⌝ }
+// The digits that a bracket has at least: `1()` is a number of the first reading alone.
+fn least_digits(reading: Reading) -> usize
+    ensures { λ r. ⌜ r ≡ leastDigits reading ⌝ }
+{
+    match reading {
+        Reading::First => 0,
+        Reading::Strict => 1,
+    }
+}
+
+// Behind the bracket at an offset, if it is closed, has digits enough and keeps its limit; else the offset.
+fn bracket_end(reading: Reading, s: &[u8], at: usize) -> usize
+    ensures { λ r. ⌜ r ≡ bracketEnd reading (now (s .entry)) at ⌝ }
 {
     if cuts::byte_at(s, at) != b'(' {
         return at;
     }
     let digits = at + 1;
     let end = cuts::digits_end(s, digits);
+    if end - digits < least_digits(reading) {
+        return at;
+    }
     if 9 < end - digits {
         return at;
     }
@@ -88,8 +102,8 @@ fn bracket_end(s: &[u8], at: usize) -> usize
 // Where the number that starts at an offset of a text ends, if it has no exponent, keeps the limits and is the whole
 // word; else the offset. It makes no decimal: most values are such numbers, and most readers want their kind and length
 // alone.
-pub fn decimal_end(s: &[u8], from: usize) -> usize
-    ensures { λ r. ⌜ r ≡ decimalEnd (now (s .entry)) from ⌝ }
+pub fn decimal_end(reading: Reading, s: &[u8], from: usize) -> usize
+    ensures { λ r. ⌜ r ≡ decimalEnd reading (now (s .entry)) from ⌝ }
 {
     let sign = cuts::after_one(s, from, b'+', b'-');
     let integer = cuts::digits_end(s, sign);
@@ -104,7 +118,7 @@ pub fn decimal_end(s: &[u8], from: usize) -> usize
     if integer - sign + (fraction - point) < 1 {
         return from;
     }
-    let end = bracket_end(s, fraction);
+    let end = bracket_end(reading, s, fraction);
     if !word_stops(s, end) {
         return from;
     }

@@ -9,7 +9,7 @@ use lib.Dec.{ltb}
 use lib.ListN.{length, drop, length-append}
 use Rattle.numbers.specs.declared.Decimal.{Decimal}
 use Rattle.kinds.specs.declared.Kind.{Kind}
-use Rattle.kinds.specs.declared.Kind.the-variants.{NoKind, Block, FrameOpen, FrameClose, Tag, Loop, LoopTag, LoopEnd, Inapplicable, Unknown, Bare, SingleQuoted, DoubleQuoted, Multiline, Number, Uncertain}
+use Rattle.kinds.specs.declared.Kind.the-variants.{NoKind, Block, FrameOpen, FrameClose, Tag, Loop, LoopTag, LoopEnd, Inapplicable, Unknown, Bare, SingleQuoted, DoubleQuoted, Multiline, Number, Uncertain, Quoted}
 use Rattle.kinds.specs.declared.Shape.{Shape}
 use Rattle.kinds.specs.declared.Shape.the-variants.{Empty, Place, Content, Count, Parts, PartsUncertain}
 use Rattle.records.specs.declared.Token.{Token}
@@ -117,6 +117,7 @@ shaped DoubleQuoted e = refl
 shaped Multiline e = refl
 shaped Number e = refl
 shaped Uncertain e = refl
+shaped Quoted e = refl
 
 -- a kind's byte and a body of its length
 whole : (s l : List ℕ) (at k n : ℕ) (b : List ℕ) (shape : Shape) → drop at s ≡ k ∷ (b ++ l) → isKind (kindOf k) ≡ true → shapeOf (kindOf k) ≡ shape → length b ≡ shapeLength shape → n ≡ 1 + length b → entryAt s at ≡ Record (kindOf k) (fieldsOf shape (b ++ l)) (at + n)

@@ -1,5 +1,5 @@
 -- What C and Rust see: document 01's numbers of an answer, a part of an area, and one record of a store, each as numbers of 64
--- bits. Assumes nothing.
+-- bits; and the answers to a call whose number names no reading. Assumes nothing.
 use Prim.Native.Nat.{ℕ, _-_}
 use mathlib.Core.Bool.{Bool, cond}
 use lib.Dec.{eqb, leb}
@@ -18,11 +18,19 @@ unfoldable pub exported : Report → Answer
 exported r =
     record { number = r .number; offset = r .offset; line = r .line; column = r .column; detail = r .detail; first = r .first; second = r .second }
 
--- a content's part, an empty one at 0 on refusal
+-- 24 where a call's number names no reading, and all else 0
+unfoldable pub noReading : Answer
+noReading = record { number = 24; offset = 0; line = 0; column = 0; detail = 0; first = 0; second = 0 }
+
+-- an empty part at 0
+unfoldable pub noPart : Part
+noPart = record { start = 0; length = 0 }
+
+-- a content's part, the empty one on refusal
 unfoldable pub exportedPart : Content → Part
 exportedPart (Found from size) = record { start = from; length = size }
-exportedPart NotSound = record { start = 0; length = 0 }
-exportedPart NoContent = record { start = 0; length = 0 }
+exportedPart NotSound = noPart
+exportedPart NoContent = noPart
 
 -- an exponent is stored in two's complement
 unfoldable pub isNegative : ℕ → Bool
@@ -55,11 +63,11 @@ exportedFields k f from size next =
       next = next;
     }
 
--- 14 where no record stands, and all else 0
-unfoldable pub noRecord : Record
-noRecord =
+-- no record, for the reason of this number, and all else 0
+unfoldable pub noRecord : ℕ → Record
+noRecord n =
     record {
-      number = 14;
+      number = n;
       kind = 0;
       offset = 0;
       length = 0;
@@ -78,7 +86,7 @@ noRecord =
       next = 0;
     }
 
--- what a walk met
+-- what a walk met; 14 where no record stands
 unfoldable pub exportedRecord : Walked → Record
-exportedRecord NoRecord = noRecord
+exportedRecord NoRecord = noRecord 14
 exportedRecord (Met k f from size next) = exportedFields k f from size next

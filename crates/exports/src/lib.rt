@@ -2,7 +2,8 @@
 ghost use mathlib.Core.Path.{_≡_};
 ghost use mathlib.Core.Bool.{cond};
 ghost use lib.Dec.{eqb};
-ghost use Rattle.exports.specs.Exports.{exported, exportedPart, exportedRecord, exportedFields, noRecord, isNegative, magnitude};
+ghost use Rattle.exports.specs.Exports.{exported, exportedPart, exportedRecord, exportedFields};
+ghost use Rattle.exports.specs.Exports.{noReading, noPart, noRecord, isNegative, magnitude};
 use entries::Fields;
 use kinds::Kind;
 use places::Report;
@@ -65,7 +66,35 @@ pub fn numbers_of(r: Report) -> Answer
     }
 }
 
-// Where a content stands in the area; an empty part at 0 where there is none.
+// A number that names no reading.
+const NO_READING: u64 = 24;
+
+// The answer to a call that names no reading.
+pub fn no_reading() -> Answer
+    ensures { λ a. ⌜ a ≡ noReading ⌝ }
+{
+    Answer {
+        number: NO_READING,
+        offset: 0,
+        line: 0,
+        column: 0,
+        detail: 0,
+        first: 0,
+        second: 0,
+    }
+}
+
+// An empty part at 0.
+pub fn no_part() -> Part
+    ensures { λ r. ⌜ r ≡ noPart ⌝ }
+{
+    Part {
+        start: 0,
+        length: 0,
+    }
+}
+
+// Where a content stands in the area; the empty part where there is none.
 pub fn part_of(c: Content) -> Part
     ensures { λ r. ⌜ r ≡ exportedPart c ⌝ }
 {
@@ -74,14 +103,8 @@ pub fn part_of(c: Content) -> Part
             start: from as u64,
             length: size as u64,
         },
-        Content::NotSound => Part {
-            start: 0,
-            length: 0,
-        },
-        Content::NoContent => Part {
-            start: 0,
-            length: 0,
-        },
+        Content::NotSound => no_part(),
+        Content::NoContent => no_part(),
     }
 }
 
@@ -143,12 +166,12 @@ fn met(kind: u8, f: Fields, from: usize, size: usize, next: usize) -> Record
     }
 }
 
-// No record: 14, and all else 0.
-fn none() -> Record
-    ensures { λ r. ⌜ r ≡ noRecord ⌝ }
+// No record, for the reason of this number, and all else 0.
+fn none(number: u64) -> Record
+    ensures { λ r. ⌜ r ≡ noRecord number ⌝ }
 {
     Record {
-        number: 14,
+        number,
         kind: 0,
         offset: 0,
         length: 0,
@@ -180,6 +203,13 @@ pub fn record_of(w: Walked) -> Record
             size,
             next,
         } => met(number, fields, from, size, next),
-        Walked::NoRecord => none(),
+        Walked::NoRecord => none(14),
     }
+}
+
+// No record, as the call names no reading.
+pub fn no_record() -> Record
+    ensures { λ r. ⌜ r ≡ noRecord 24 ⌝ }
+{
+    none(NO_READING)
 }

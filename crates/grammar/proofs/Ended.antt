@@ -4,6 +4,7 @@ use Prim.Native.Nat.{ℕ}
 use mathlib.Core.Bool.{_||_}
 use mathlib.Core.Path.{_≡_, refl}
 use mathlib.Core.List.{List, _∷_, _++_}
+use Rattle.rules.specs.declared.Reading.the-variants.{First}
 use Rattle.words.proofs.Ended.{word-ended}
 use Rattle.keywords.specs.Keywords.{starts, keyData, keyGlobal, keyStop}
 use Rattle.keywords.proofs.Ended.{data-ended, global-ended, loop-ended, save-ended, stop-ended}
@@ -20,14 +21,14 @@ keys-ended : (w t : List ℕ) → (starts keyData (w ++ 10 ∷ t) || starts keyG
 keys-ended w t = rw (data-ended w t, global-ended w t, stop-ended w t)
 
 -- THE SAME TOKEN, whether the text ends behind it or an LF and more text follow
-pub lexIn-ended : (m : Mode) (b : ℕ) (s t : List ℕ) → Shut b s → lexIn m (b ∷ s ++ 10 ∷ t) ≡ lexIn m (b ∷ s)
+pub lexIn-ended : (p : ℕ) (m : Mode) (b : ℕ) (s t : List ℕ) → Shut b s → lexIn First p m (b ∷ s ++ 10 ∷ t) ≡ lexIn First p m (b ∷ s)
 unfolding lexIn
-lexIn-ended m b s t h =
+lexIn-ended p m b s t h =
     rw (
       keys-ended (b ∷ s) t,
       loop-ended (b ∷ s) t,
       save-ended (b ∷ s) t,
       saveSize-ended m (b ∷ s) t,
       word-ended (b ∷ s) t,
-      value-ended b s t h,
+      value-ended p b s t h,
     )

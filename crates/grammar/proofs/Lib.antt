@@ -3,6 +3,7 @@ pub mod Steps
 pub mod Fits
 pub mod Ended
 pub mod Lexes
+pub mod First
 pub mod Advance
 pub mod Descent
 pub mod Offsets

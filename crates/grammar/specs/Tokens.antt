@@ -1,41 +1,55 @@
--- The text as tokens. What a token is depends on the bytes from it on and on the mode, and on nothing else. Assumes nothing.
+-- The text as tokens. What a token is depends on the reading, on the bytes from it on, on the mode and, in the strict reading, on the byte before it, and on nothing else.
+-- Assumes nothing.
 use Prim.Native.Nat.{ℕ, zero, suc}
-use mathlib.Core.Bool.{Bool, false, cond, _||_}
+use mathlib.Core.Bool.{Bool, false, cond, _&&_, _||_}
 use mathlib.Core.List.{List, [], _∷_}
 use lib.ListN.{drop}
-use Rattle.text.specs.Bytes.{is, underscore}
+use Rattle.rules.specs.declared.Reading.{Reading}
+use Rattle.rules.specs.declared.Reading.the-variants.{First, Strict}
+use Rattle.text.specs.Bytes.{is, lineFeed, underscore}
+use Rattle.columns.specs.Before.{byteBefore, isParted}
 use Rattle.gaps.specs.Gaps.{gap}
 use Rattle.words.specs.Words.{word}
-use Rattle.keywords.specs.Keywords.{starts, keyData, keyGlobal, keyLoop, keySave, keyStop}
+use Rattle.keywords.specs.Keywords.{starts, keyData, keyGlobal, keyLoop, keySave, keyStop, stands}
 use Rattle.values.specs.declared.Why.{Why}
 use Rattle.values.specs.declared.Why.the-variants.{AtEnd}
 use Rattle.values.specs.Answers.{whyNot}
-use Rattle.values.specs.Values.{Reason, atEnd, reservedWord, noStart, Class, block, loop, save, tag, value, overLimit, nothing, Lexed, lexed, lexValue}
+use Rattle.values.specs.Values.{Reason, atEnd, reservedWord, noStart, Class, block, loop, save, tag, value, overLimit, nothing, Lexed, lexed, parted, lexValue}
 
 -- before `data_`; in the block; in a frame
 pub data Mode : Type 0 where
   before inBlock inFrame : Mode
 
--- `save_` opens a frame with its word as the name, and closes one without
+-- `save_` opens a frame with its word as the name, and closes one without; in the strict reading its word is its token everywhere
 unfoldable pub saveSize : Mode → List ℕ → ℕ
 saveSize before s = 5
 saveSize inBlock s = word s
 saveSize inFrame s = 5
 
-unfoldable pub lexIn : Mode → List ℕ → Lexed
-lexIn m [] = lexed (nothing atEnd) 0
-lexIn m (b ∷ s) =
-    let v = lexValue b s in
+-- the token at the start of s in the block or in a frame; p is the byte before
+unfoldable pub lexIn : Reading → ℕ → Mode → List ℕ → Lexed
+lexIn r p m [] = lexed (nothing atEnd) 0
+lexIn First p m (b ∷ s) =
+    let v = lexValue First p b s in
     let rest = cond (is underscore b) (lexed tag (word (b ∷ s))) v in
     cond (starts keyData (b ∷ s) || starts keyGlobal (b ∷ s) || starts keyStop (b ∷ s)) (lexed (nothing reservedWord) 0)
     (cond (starts keyLoop (b ∷ s)) (lexed loop 5)
     (cond (starts keySave (b ∷ s)) (lexed save (saveSize m (b ∷ s))) rest))
+lexIn Strict p m (b ∷ s) =
+    let v = lexValue Strict p b s in
+    let rest = cond (is underscore b) (lexed tag (word (b ∷ s))) v in
+    let x = cond (starts keyData (b ∷ s)) (lexed block (word (b ∷ s)))
+    (cond (starts keySave (b ∷ s)) (lexed save (word (b ∷ s)))
+    (cond (stands Strict keyLoop (b ∷ s)) (lexed loop 5)
+    (cond (stands Strict keyGlobal (b ∷ s) || stands Strict keyStop (b ∷ s)) (lexed (nothing reservedWord) 0) rest))) in
+    parted Strict p x
 
--- the token at the start of s, behind space and comments
-unfoldable pub lex : Mode → List ℕ → Lexed
-lex before s = cond (starts keyData s) (lexed block (word s)) (lexed (nothing noStart) 0)
-lex inBlock s = lexIn inBlock s
-lex inFrame s = lexIn inFrame s
+-- the token at the start of s, behind space and comments: before `data_` the first reading knows nothing else
+unfoldable pub lex : Reading → ℕ → Mode → List ℕ → Lexed
+lex First p before s = cond (starts keyData s) (lexed block (word s)) (lexed (nothing noStart) 0)
+lex First p inBlock s = lexIn First p inBlock s
+lex First p inFrame s = lexIn First p inFrame s
+lex Strict p m s = lexIn Strict p m s
 
 -- the mode behind a token
 unfoldable pub after : Class → Mode → Mode
@@ -67,18 +81,19 @@ unfoldable pub step : ℕ → Lexed → Mode → ℕ → (ℕ → Mode → List 
 step zero x m o rest = emit (x .size) (tok x o) (λ n. rest n (after (x .class) m))
 step (suc k) x m o rest = rest k m
 
--- the tokens of s, which starts at offset o, and whose first k bytes belong to what was read before
-unfoldable pub tokensFrom : List ℕ → ℕ → Mode → ℕ → List Tok
-tokensFrom [] k m o = tok (lex m []) o ∷ []
-tokensFrom (b ∷ s) zero m o = step (gap (b ∷ s)) (lex m (b ∷ s)) m o (λ k m′. tokensFrom s k m′ (suc o))
-tokensFrom (b ∷ s) (suc k) m o = tokensFrom s k m (suc o)
+-- the tokens of s, which starts at offset o behind the byte p, and whose first k bytes belong to what was read before
+unfoldable pub tokensFrom : Reading → List ℕ → ℕ → ℕ → Mode → ℕ → List Tok
+tokensFrom r [] p k m o = tok (lex r p m []) o ∷ []
+tokensFrom r (b ∷ s) p zero m o = step (gap (b ∷ s)) (lex r p m (b ∷ s)) m o (λ k m′. tokensFrom r s b k m′ (suc o))
+tokensFrom r (b ∷ s) p (suc k) m o = tokensFrom r s b k m (suc o)
 
-unfoldable pub tokens : List ℕ → List Tok
-tokens s = tokensFrom s 0 before 0
+-- a text starts in column 1, as behind an LF
+unfoldable pub tokens : Reading → List ℕ → List Tok
+tokens r s = tokensFrom r s lineFeed 0 before 0
 
 -- the tokens from offset o on, where no earlier token reaches
-unfoldable pub tokensAt : Mode → List ℕ → ℕ → List Tok
-tokensAt m s o = tokensFrom (drop o s) 0 m o
+unfoldable pub tokensAt : Reading → Mode → List ℕ → ℕ → List Tok
+tokensAt r m s o = tokensFrom r (drop o s) (byteBefore s o) 0 m o
 
 -- where the first token stands
 unfoldable pub headAt : List Tok → ℕ
@@ -95,5 +110,24 @@ unfoldable pub tagFirst : List ℕ → Bool
 tagFirst [] = false
 tagFirst (b ∷ s) = is underscore b
 
-unfoldable pub tagAt : List ℕ → ℕ → Bool
-tagAt s o = tagFirst (drop o s)
+-- WHAT OPENS AN ITEM, A FRAME OR A BLOCK at offset o: a tag, `loop_`, `save_`, `data_`, where space parts it from what stands before if the reading asks for that
+unfoldable pub tagAt : Reading → List ℕ → ℕ → Bool
+tagAt r s o = isParted r (byteBefore s o) && tagFirst (drop o s)
+
+unfoldable pub loopAt : Reading → List ℕ → ℕ → Bool
+loopAt r s o = isParted r (byteBefore s o) && stands r keyLoop (drop o s)
+
+unfoldable pub saveAt : Reading → List ℕ → ℕ → Bool
+saveAt r s o = isParted r (byteBefore s o) && starts keySave (drop o s)
+
+-- a `save_` that closes a frame: in the strict reading one without a name
+unfoldable pub closeAt : Reading → List ℕ → ℕ → Bool
+closeAt r s o = isParted r (byteBefore s o) && stands r keySave (drop o s)
+
+unfoldable pub dataAt : Reading → List ℕ → ℕ → Bool
+dataAt r s o = isParted r (byteBefore s o) && starts keyData (drop o s)
+
+-- the length of a `save_`: in the strict reading its word's everywhere
+abbrev pub saveLength : Reading → Mode → List ℕ → ℕ
+saveLength First m s = saveSize m s
+saveLength Strict m s = word s

@@ -2,7 +2,7 @@
 ghost use mathlib.Core.Path.{_≡_};
 ghost use Rattle.grammar.specs.Causes.{causeNumber, causeDetail};
 
-// What a text is refused for at a place in it, 2 to 9. The reason says why no value stands behind a tag, or where the loop directly
+// What a text is refused for at a place in it, 2 to 9, and in the strict reading 15 to 18. The reason says why no value stands behind a tag, or where the loop directly
 // before ended; 0 where none stands there.
 pub enum Cause {
     NotAscii,
@@ -13,10 +13,14 @@ pub enum Cause {
     NoItem { reason: usize },
     NoNames,
     OverLimit,
+    NotParted,
+    LongLine,
+    BadName,
+    ControlByte,
 }
 
 impl Cause {
-    // Document 01's number.
+    // Document 01's number, and 02's.
     pub fn number(self) -> usize
         ensures { λ r. ⌜ r ≡ causeNumber self ⌝ }
     {
@@ -29,6 +33,10 @@ impl Cause {
             Cause::NoItem { .. } => 7,
             Cause::NoNames => 8,
             Cause::OverLimit => 9,
+            Cause::NotParted => 15,
+            Cause::LongLine => 16,
+            Cause::BadName => 17,
+            Cause::ControlByte => 18,
         }
     }
 
@@ -45,6 +53,10 @@ impl Cause {
             Cause::NoItem { reason } => reason,
             Cause::NoNames => 0,
             Cause::OverLimit => 0,
+            Cause::NotParted => 0,
+            Cause::LongLine => 0,
+            Cause::BadName => 0,
+            Cause::ControlByte => 0,
         }
     }
 }

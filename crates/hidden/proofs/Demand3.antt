@@ -1,6 +1,6 @@
 -- The outline shows neither digits nor contents. Proved, for texts that differ as specs/Differences says:
--- where digits alone differ, the outline is the same, refusals included (digits-hidden);
--- where contents differ too, of a text that is read, the other is read to the same records (contents-hidden);
+-- where digits alone differ, the outline of either reading is the same, refusals included (digits-hidden);
+-- where contents differ too, of a text that the first reading reads, it reads the other to the same records (contents-hidden);
 -- and in either case each place is the same (places-stay). Assumes nothing.
 use Prim.Native.Nat.{ℕ, zero, suc, _≤_, _<_}
 use mathlib.Core.Bool.{Bool, true, false, cond, _||_, false≢true}
@@ -12,9 +12,12 @@ use native.Mathlib.Nat.{zero-add}
 use borrow.Author.Tests.{le-ltb, ltb-false}
 use lib.Dec.{ltb}
 use lib.ListN.{length, getD}
+use Rattle.rules.specs.declared.Reading.{Reading}
+use Rattle.rules.specs.declared.Reading.the-variants.{First}
 use Rattle.text.specs.Bytes.{isAscii}
 use Rattle.text.specs.Runs.{span}
 use Rattle.places.specs.Places.{placeAt}
+use Rattle.grammar.proofs.First.{firstTokens, tokens-first}
 use Rattle.grammar.specs.Tokens.{before, tokens}
 use Rattle.grammar.specs.Machine.{Rec, refused, done, config, start}
 use Rattle.grammar.specs.Reading.{decided, outline}
@@ -27,33 +30,35 @@ use Rattle.hidden.proofs.VeilRead.{Close, same, washed, σ-μ, map-clos
 use Rattle.hidden.proofs.Swaps.{rest-of, ascii-stays}
 use Rattle.hidden.proofs.Kept.{run-kept}
 
-pub digits-hidden : (s t : List ℕ) → DigitsDiffer s t → outline s ≡ outline t
+pub digits-hidden : (r : Reading) (s t : List ℕ) → DigitsDiffer s t → outline r s ≡ outline r t
 unfolding DigitsDiffer
-digits-hidden s t d = sym (outline-σ s) ∙ ap outline (all-same s t (d .as-long) (rest-of d)) ∙ outline-σ t
+digits-hidden r s t d = sym (outline-σ r s) ∙ ap (outline r) (all-same s t (d .as-long) (rest-of d)) ∙ outline-σ r t
 
 -- a text that is read is within the limit and ASCII, and its tokens give its records
 record Read (s : List ℕ) (rs : List Rec) : Type 0 where
   fits : ltb limit (length s) ≡ false
   ascii : length s ≤ span isAscii s
-  runs : decided s ≡ done rs
+  runs : decided First s ≡ done rs
 
-read-of : (s : List ℕ) (rs : List Rec) → outline s ≡ done rs → Read s rs
+read-of : (s : List ℕ) (rs : List Rec) → outline First s ≡ done rs → Read s rs
 unfolding outline
 read-of s rs e = pick (ltb limit (length s)) refl (ltb (span isAscii s) (length s)) refl e
   where
-    pick : (x : Bool) → ltb limit (length s) ≡ x → (y : Bool) → ltb (span isAscii s) (length s) ≡ y → cond x (refused 1 0 0) (cond y (refused 2 (span isAscii s) 0) (decided s)) ≡ done rs → Read s rs
+    pick : (x : Bool) → ltb limit (length s) ≡ x → (y : Bool) → ltb (span isAscii s) (length s) ≡ y → cond x (refused 1 0 0) (cond y (refused 2 (span isAscii s) 0) (decided First s)) ≡ done rs → Read s rs
     pick true p y r q = let z : _≡_ {A = ℕ} 0 1 = cc in absurd (omega arith)
     pick false p true r q = let z : _≡_ {A = ℕ} 0 1 = cc in absurd (omega arith)
     pick false p false r q = record { fits = p; ascii = ltb-false (span isAscii s) (length s) r; runs = q }
 
-tokens-same : (s t : List ℕ) (rs : List Rec) → decided s ≡ done rs → ContentsDiffer rs s t → tokens s ≡ tokens t
-unfolding tokens decided Rest Allowed config insideRecs ContentsDiffer
+tokens-same : (s t : List ℕ) (rs : List Rec) → decided First s ≡ done rs → ContentsDiffer rs s t → tokens First s ≡ tokens First t
+unfolding decided Rest Allowed config insideRecs ContentsDiffer
 tokens-same s t rs d c =
-    tokens-veil s t 0 before false 0
+    tokens-first s
+    ∙ tokens-veil s t 0 before false 0
     (rel-of s t 0 before false 0 (c .as-long)
-    (λ j l. map-close (λ h. left (either (λ x. absurd (false≢true x)) (λ x. rw zero-add x) (run-kept j (tokens s) (config start none [] []) rs d h))) (rest-of c j l)))
+    (λ j l. map-close (λ h. left (either (λ x. absurd (false≢true x)) (λ x. rw zero-add x) (run-kept j (firstTokens s 0 before 0) (config start none [] []) rs (rw (tokens-first s) at d) h))) (rest-of c j l)))
+    ∙ sym (tokens-first t)
 
-pub contents-hidden : (s t : List ℕ) (rs : List Rec) → outline s ≡ done rs → ContentsDiffer rs s t → outline t ≡ done rs
+pub contents-hidden : (s t : List ℕ) (rs : List Rec) → outline First s ≡ done rs → ContentsDiffer rs s t → outline First t ≡ done rs
 unfolding outline decided ContentsDiffer
 contents-hidden s t rs e c =
     let d = read-of s rs e in

@@ -1,10 +1,13 @@
--- The service Outline shows neither digits nor contents. Proved: for two texts where digits alone differ (digits-unseen), or where contents of a text that is
--- read differ too (contents-unseen), it answers the same and leaves the same bytes in any lent store. Assumes nothing.
+-- The service Outline shows neither digits nor contents. Proved: for two texts where digits alone differ, whichever
+-- reading is named (digits-unseen), or where contents of a text that the first reading reads differ too
+-- (contents-unseen), it answers the same and leaves the same bytes in any lent store. Assumes nothing.
 use Prim.Native.Nat.{ℕ, _+_}
 use mathlib.Core.Bool.{Bool, true, false, cond}
 use mathlib.Core.Path.{_≡_, refl, sym, ap, ap₂, _∙_}
 use mathlib.Core.List.{List, [], _∷_, _++_}
 use lib.ListN.{length}
+use Rattle.rules.specs.declared.Reading.{Reading}
+use Rattle.rules.specs.declared.Reading.the-variants.{First}
 use Rattle.places.specs.Places.{placeAt}
 use Rattle.kinds.specs.declared.Shape.{Shape}
 use Rattle.kinds.specs.declared.Shape.the-variants.{Empty, Place, Content, Count, Parts, PartsUncertain}
@@ -19,10 +22,10 @@ use Rattle.outlining.specs.Outlining.{outlineBy, outlineAnswer, outlineStoreBy,
 use Rattle.hidden.specs.Differences.{insideRecs, DigitsDiffer, ContentsDiffer}
 use Rattle.hidden.proofs.Demand3.{digits-hidden, contents-hidden, places-stay}
 
--- what the service gives for s and for t
-pub record Same (s t store : List ℕ) : Type 0 where
-  pub answers : outlineAnswer s (length store) ≡ outlineAnswer t (length store)
-  pub stores : outlineStore s store ≡ outlineStore t store
+-- what the service gives for s and for t, by the reading
+pub record Same (r : Reading) (s t store : List ℕ) : Type 0 where
+  pub answers : outlineAnswer r s (length store) ≡ outlineAnswer r t (length store)
+  pub stores : outlineStore r s store ≡ outlineStore r t store
 
 module _ (s t : List ℕ) (places : (n : ℕ) → placeAt s n ≡ placeAt t n) where
   record-same : (x : Shape) (a n : ℕ) (r : Rec) → shaped (outlineShape x) s a n r ≡ shaped (outlineShape x) t a n r
@@ -50,19 +53,19 @@ module _ (s t : List ℕ) (places : (n : ℕ) → placeAt s n ≡ placeAt t n) w
   store-by l (refused n o d) = refl
   store-by l (done rs) = rw (store-same 0 rs)
 
-  same-of : (l : List ℕ) → outline s ≡ outline t → Same s t l
+  same-of : (r : Reading) (l : List ℕ) → outline r s ≡ outline r t → Same r s t l
   unfolding outlineAnswer outlineStore
-  same-of l e =
+  same-of r l e =
       record {
-        answers = answer-by (length l) (outline s) ∙ ap (outlineBy t (length l)) e;
-        stores = store-by l (outline s) ∙ ap (outlineStoreBy t l) e;
+        answers = answer-by (length l) (outline r s) ∙ ap (outlineBy t (length l)) e;
+        stores = store-by l (outline r s) ∙ ap (outlineStoreBy t l) e;
       }
 
-pub digits-unseen : (s t store : List ℕ) → DigitsDiffer s t → Same s t store
+pub digits-unseen : (r : Reading) (s t store : List ℕ) → DigitsDiffer s t → Same r s t store
 unfolding DigitsDiffer
-digits-unseen s t store d = same-of s t (places-stay (λ j. ⊥) s t d) store (digits-hidden s t d)
+digits-unseen r s t store d = same-of s t (places-stay (λ j. ⊥) s t d) r store (digits-hidden r s t d)
 
-pub contents-unseen : (s t store : List ℕ) (rs : List Rec) → outline s ≡ done rs → ContentsDiffer rs s t → Same s t store
+pub contents-unseen : (s t store : List ℕ) (rs : List Rec) → outline First s ≡ done rs → ContentsDiffer rs s t → Same First s t store
 unfolding ContentsDiffer
 contents-unseen s t store rs e d =
-    same-of s t (places-stay (λ j. insideRecs rs j ≡ true) s t d) store (e ∙ sym (contents-hidden s t rs e d))
+    same-of s t (places-stay (λ j. insideRecs rs j ≡ true) s t d) First store (e ∙ sym (contents-hidden s t rs e d))

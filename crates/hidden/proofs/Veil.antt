@@ -10,6 +10,7 @@ use borrow.Author.Tests.{eqb-true, not-true}
 use lib.Dec.{eqb}
 use lib.ListN.{length, take, length-map}
 use lib.Seq.{length-take-le, take-take}
+use Rattle.rules.specs.declared.Reading.the-variants.{First}
 use Rattle.text.specs.Bytes.{isDigit, is, isEol, endsWord}
 use Rattle.text.specs.Runs.{span}
 use Rattle.gaps.specs.Gaps.{gapByte, gapThen, gapIn, gap}
@@ -22,7 +23,8 @@ use Rattle.quotes.specs.Quotes.{more, quoted, fieldIn, field}
 use Rattle.numbers.specs.Parts.{Parts, parts, isNumber, within}
 use Rattle.numbers.proofs.Made.{all, others, number-made}
 use Rattle.values.specs.Values.{Class, block, loop, save, tag, value, overLimit, nothing, Reason, openQuote, openField, Lexed, lexed, numberOr, wordOr, closed, lexValue}
-use Rattle.grammar.specs.Tokens.{Mode, before, inBlock, inFrame, saveSize, lexIn, lex, after, Tok, emit, step, tokensFrom}
+use Rattle.grammar.proofs.First.{firstTokens, tokens-first}
+use Rattle.grammar.specs.Tokens.{Mode, before, inBlock, inFrame, saveSize, lexIn, lex, after, Tok, emit, step}
 use Rattle.hidden.specs.Differences.{isMark, isQuoted}
 use Rattle.hidden.proofs.Places.{take-map}
 use Rattle.text.proofs.Shape.{σ, flat, blind, eol-σ}
@@ -72,7 +74,7 @@ unfoldable pub Rel : List ℕ → List ℕ → ℕ → Mode → Bool → Type 0
 Rel [] [] k m q = Unit {0}
 Rel [] (b′ ∷ s′) k m q = ⊥
 Rel (b ∷ s) [] k m q = ⊥
-Rel (b ∷ s) (b′ ∷ s′) zero m q = (σ b ≡ σ b′) × relStep (gap (b ∷ s)) (lex m (b ∷ s)) m (λ k m′ q′. Rel s s′ k m′ q′) (map σ s ≡ map σ s′)
+Rel (b ∷ s) (b′ ∷ s′) zero m q = (σ b ≡ σ b′) × relStep (gap (b ∷ s)) (lex First 10 m (b ∷ s)) m (λ k m′ q′. Rel s s′ k m′ q′) (map σ s ≡ map σ s′)
 Rel (b ∷ s) (b′ ∷ s′) (suc k) m q = Byte (q && not (isZero k)) b b′ × Rel s s′ k m q
 
 -- what two bytes alike share
@@ -154,7 +156,7 @@ number-bare p n = go (within p) (p .unc .here)
     go true false = refl
     go false b = refl
 
-word-bare : (x : Lexed) (s : List ℕ) → isVeiled x ≡ false → isVeiled (wordOr x s) ≡ false
+word-bare : (x : Lexed) (s : List ℕ) → isVeiled x ≡ false → isVeiled (wordOr First x s) ≡ false
 unfolding wordOr numberOr
 word-bare x s h = neither isVeiled (isNumber (parts (take (word s) s))) _ x (number-bare (parts (take (word s) s)) (word s)) h
 
@@ -166,23 +168,23 @@ cond-same : (t x : Bool) → cond t x x ≡ x
 cond-same true x = refl
 cond-same false x = refl
 
-value-bare : (b : ℕ) (s : List ℕ) → opens b ≡ false → isVeiled (lexValue b s) ≡ false
+value-bare : (b : ℕ) (s : List ℕ) → opens b ≡ false → isVeiled (lexValue First 10 b s) ≡ false
 unfolding lexValue opens veiled isQuoted
 value-bare b s h =
     rw (or-l (is 39 b) (is 34 b) (or-l (is 39 b || is 34 b) (is 59 b) h), or-r (is 39 b) (is 34 b) (or-l (is 39 b || is 34 b) (is 59 b) h), or-r (is 39 b || is 34 b) (is 59 b) h)
     (simp (ap-cond isVeiled, leaf, word-bare, cond-same))
 
-lexIn-bare : (m : Mode) (b : ℕ) (s : List ℕ) → opens b ≡ false → isVeiled (lexIn m (b ∷ s)) ≡ false
+lexIn-bare : (m : Mode) (b : ℕ) (s : List ℕ) → opens b ≡ false → isVeiled (lexIn First 10 m (b ∷ s)) ≡ false
 unfolding lexIn veiled isQuoted
 lexIn-bare m b s h = simp (ap-cond isVeiled, leaf, value-bare b s h, cond-same)
 
-lex-bare : (m : Mode) (b : ℕ) (s : List ℕ) → opens b ≡ false → isVeiled (lex m (b ∷ s)) ≡ false
+lex-bare : (m : Mode) (b : ℕ) (s : List ℕ) → opens b ≡ false → isVeiled (lex First 10 m (b ∷ s)) ≡ false
 unfolding lex veiled isQuoted
 lex-bare before b s h = simp (ap-cond isVeiled, leaf, cond-same)
 lex-bare inBlock b s h = lexIn-bare inBlock b s h
 lex-bare inFrame b s h = lexIn-bare inFrame b s h
 
-veiled-opens : (m : Mode) (b : ℕ) (s : List ℕ) → veiled ((lex m (b ∷ s)) .class) ≡ true → opens b ≡ true
+veiled-opens : (m : Mode) (b : ℕ) (s : List ℕ) → veiled ((lex First 10 m (b ∷ s)) .class) ≡ true → opens b ≡ true
 unfolding isVeiled
 veiled-opens m b s v = go (opens b) refl
   where
@@ -196,7 +198,7 @@ near-of [] [] k m h = end
 near-of [] (b′ ∷ s′) k m h = absurd h
 near-of (b ∷ s) [] k m h = absurd h
 near-of (b ∷ s) (b′ ∷ s′) (suc k) m h = near (h .0) (near-of s s′ k m (h .1))
-near-of (b ∷ s) (b′ ∷ s′) zero m h = go (gap (b ∷ s)) (lex m (b ∷ s)) (veiled-opens m b s) (h .1) (λ k m′ r. near-of s s′ k m′ r)
+near-of (b ∷ s) (b′ ∷ s′) zero m h = go (gap (b ∷ s)) (lex First 10 m (b ∷ s)) (veiled-opens m b s) (h .1) (λ k m′ r. near-of s s′ k m′ r)
   where
     last : (n : ℕ) (c : Class) (v : Bool) → veiled c ≡ v → (v ≡ true → opens b ≡ true) → relEmit n c m (λ k m′ q′. Rel s s′ k m′ q′) (map σ s ≡ map σ s′) → ((k : ℕ) (m′ : Mode) → Rel s s′ k m′ false → Near s s′) → Near (b ∷ s) (b′ ∷ s′)
     last zero c v e o r f = near (h .0) (same-near s s′ r)
@@ -320,19 +322,19 @@ alike-length s s′ e =
     sym (length-theWord s) ∙ sym (length-map (theWord s) σ) ∙ ap length e ∙ length-map (theWord s′) σ ∙ length-theWord s′
 
 -- words alike are read alike
-wordOr-alike : (x x′ : Lexed) (s s′ : List ℕ) → map σ (theWord s) ≡ map σ (theWord s′) → x ≡ x′ → wordOr x s ≡ wordOr x′ s′
+wordOr-alike : (x x′ : Lexed) (s s′ : List ℕ) → map σ (theWord s) ≡ map σ (theWord s′) → x ≡ x′ → wordOr First x s ≡ wordOr First x′ s′
 unfolding wordOr theWord
 wordOr-alike x x′ s s′ e q =
-    sym (numberOr-σ x (take (word s) s) (word s)) ∙ rw (e, alike-length s s′ e, q) (numberOr-σ x′ (take (word s′) s′) (word s′))
+    sym (numberOr-σ First x (take (word s) s) (word s)) ∙ rw (e, alike-length s s′ e, q) (numberOr-σ First x′ (take (word s′) s′) (word s′))
 
-no-number : (x : Lexed) (s : List ℕ) → hasMark (theWord s) ≡ true → wordOr x s ≡ x
+no-number : (x : Lexed) (s : List ℕ) → hasMark (theWord s) ≡ true → wordOr First x s ≡ x
 unfolding wordOr numberOr theWord
 no-number x s h = rw (mark-no-number (take (word s) s) h)
 
-wordOr-near : (x : Lexed) {s s′ : List ℕ} → Near s s′ → wordOr x s ≡ wordOr x s′
+wordOr-near : (x : Lexed) {s s′ : List ℕ} → Near s s′ → wordOr First x s ≡ wordOr First x s′
 wordOr-near x {s} {s′} n = go (word-near n)
   where
-    go : Words (theWord s) (theWord s′) → wordOr x s ≡ wordOr x s′
+    go : Words (theWord s) (theWord s′) → wordOr First x s ≡ wordOr First x s′
     go (alike e) = wordOr-alike x x s s′ e refl
     go (marked p q) = no-number x s p ∙ sym (no-number x s′ q)
 
@@ -461,7 +463,7 @@ alike-pre x y h =
     ∙ sym (take-take (word x) (suc (word x)) (map σ x) (omega arith)) ∙ ap (take (word x)) h ∙ take-take (word x) (suc (word x)) (map σ y) (omega arith)
     ∙ rw (word-pre x y h) (take-map σ (word y) y)
 
-wordOr-size : (c : Class) (s : List ℕ) → (wordOr (lexed c (word s)) s) .size ≡ word s
+wordOr-size : (c : Class) (s : List ℕ) → (wordOr First (lexed c (word s)) s) .size ≡ word s
 unfolding wordOr numberOr lexed
 wordOr-size c s = go (isNumber (parts (take (word s) s))) _
   where
@@ -479,12 +481,12 @@ isOrdinary₂ : (b b′ : ℕ) → σ b ≡ σ b′ → isOrdinary b′ ≡ isOr
 unfolding isOrdinary
 isOrdinary₂ b b′ h = sym (blind₂ isOrdinary refl b b′ h)
 
-bare-same : (s s′ : List ℕ) (x : Lexed) → x ≡ wordOr (lexed (value 10) (word s)) s → Pre (x .size) s s′ → wordOr (lexed (value 10) (word s)) s ≡ wordOr (lexed (value 10) (word s′)) s′
+bare-same : (s s′ : List ℕ) (x : Lexed) → x ≡ wordOr First (lexed (value 10) (word s)) s → Pre (x .size) s s′ → wordOr First (lexed (value 10) (word s)) s ≡ wordOr First (lexed (value 10) (word s′)) s′
 bare-same s s′ x e p =
     let p′ : Pre (word s) s s′ = subst (λ k. Pre k s s′) (ap (λ y. y .size) e ∙ wordOr-size (value 10) s) p in
     wordOr-alike _ _ s s′ (alike-pre s s′ p′) (ap (lexed (value 10)) (word-pre s s′ p′))
 
-value-same : (b b′ : ℕ) (s s′ : List ℕ) → σ b ≡ σ b′ → opens b ≡ false → Near (b ∷ s) (b′ ∷ s′) → Pre ((lexValue b s) .size) (b ∷ s) (b′ ∷ s′) → lexValue b s ≡ lexValue b′ s′
+value-same : (b b′ : ℕ) (s s′ : List ℕ) → σ b ≡ σ b′ → opens b ≡ false → Near (b ∷ s) (b′ ∷ s′) → Pre ((lexValue First 10 b s) .size) (b ∷ s) (b′ ∷ s′) → lexValue First 10 b s ≡ lexValue First 10 b′ s′
 unfolding lexValue is opens
 value-same b b′ s s′ h o n p =
     let a = or-l (is 39 b) (is 34 b) (or-l (is 39 b || is 34 b) (is 59 b) o) in
@@ -493,7 +495,7 @@ value-same b b′ s s′ h o n p =
     rw (byte₂ 46 refl b b′ h, byte₂ 63 refl b b′ h, byte₂ 39 refl b b′ h, byte₂ 34 refl b b′ h, byte₂ 59 refl b b′ h, isOrdinary₂ b b′ h, a, c, d)
     (cond-ext (is 46 b) (λ e. wordOr-near (lexed (value 8) 1) n)
     (λ e. cond-ext (is 63 b) (λ f. refl)
-    (λ f. cond-ext (isOrdinary b) (λ g. bare-same (b ∷ s) (b′ ∷ s′) (lexValue b s) (rw (e, f, a, c, d, g)) p) (λ g. refl))))
+    (λ f. cond-ext (isOrdinary b) (λ g. bare-same (b ∷ s) (b′ ∷ s′) (lexValue First 10 b s) (rw (e, f, a, c, d, g)) p) (λ g. refl))))
 
 key₂ : (s s′ : List ℕ) → Near s s′ → (starts keyData s′ || starts keyGlobal s′ || starts keyStop s′) ≡ (starts keyData s || starts keyGlobal s || starts keyStop s)
 unfolding keyData keyGlobal keyStop keyBytes keyByte is lower
@@ -526,28 +528,28 @@ sized : (s s′ : List ℕ) (x : Lexed) (c : Class) (n : ℕ) → x ≡ lexed c 
 unfolding lexed
 sized s s′ x c n e p = subst (λ k. Pre k s s′) (ap (λ y. y .size) e) p
 
-branch : (m : Mode) (b : ℕ) (s : List ℕ) → (starts keyData (b ∷ s) || starts keyGlobal (b ∷ s) || starts keyStop (b ∷ s)) ≡ false → starts keyLoop (b ∷ s) ≡ false → starts keySave (b ∷ s) ≡ false → is 95 b ≡ false → lexIn m (b ∷ s) ≡ lexValue b s
+branch : (m : Mode) (b : ℕ) (s : List ℕ) → (starts keyData (b ∷ s) || starts keyGlobal (b ∷ s) || starts keyStop (b ∷ s)) ≡ false → starts keyLoop (b ∷ s) ≡ false → starts keySave (b ∷ s) ≡ false → is 95 b ≡ false → lexIn First 10 m (b ∷ s) ≡ lexValue First 10 b s
 unfolding lexIn
 branch m b s r l v u = rw (r, l, v, u)
 
-lexIn-same : (m : Mode) (b b′ : ℕ) (s s′ : List ℕ) → σ b ≡ σ b′ → opens b ≡ false → Near (b ∷ s) (b′ ∷ s′) → Pre ((lexIn m (b ∷ s)) .size) (b ∷ s) (b′ ∷ s′) → lexIn m (b ∷ s) ≡ lexIn m (b′ ∷ s′)
+lexIn-same : (m : Mode) (b b′ : ℕ) (s s′ : List ℕ) → σ b ≡ σ b′ → opens b ≡ false → Near (b ∷ s) (b′ ∷ s′) → Pre ((lexIn First 10 m (b ∷ s)) .size) (b ∷ s) (b′ ∷ s′) → lexIn First 10 m (b ∷ s) ≡ lexIn First 10 m (b′ ∷ s′)
 unfolding lexIn
 lexIn-same m b b′ s s′ h o n p =
     let t = b ∷ s in let t′ = b′ ∷ s′ in
     rw (key₂ t t′ n, loop₂ t t′ n, save₂ t t′ n, tag₂ b b′ h)
     (cond-ext (starts keyData t || starts keyGlobal t || starts keyStop t) (λ r. refl)
     (λ r. cond-ext (starts keyLoop t) (λ l. refl)
-    (λ l. cond-ext (starts keySave t) (λ v. ap (lexed save) (save-same m t t′ (sized t t′ (lexIn m t) save (saveSize m t) (rw (r, l, v)) p)))
-    (λ v. cond-ext (is 95 b) (λ u. ap (lexed tag) (word-pre t t′ (sized t t′ (lexIn m t) tag (word t) (rw (r, l, v, u)) p)))
+    (λ l. cond-ext (starts keySave t) (λ v. ap (lexed save) (save-same m t t′ (sized t t′ (lexIn First 10 m t) save (saveSize m t) (rw (r, l, v)) p)))
+    (λ v. cond-ext (is 95 b) (λ u. ap (lexed tag) (word-pre t t′ (sized t t′ (lexIn First 10 m t) tag (word t) (rw (r, l, v, u)) p)))
     (λ u. value-same b b′ s s′ h o n (subst (λ x. Pre (x .size) t t′) (branch m b s r l v u) p))))))
 
-before-same : (s s′ : List ℕ) → Near s s′ → Pre ((lex before s) .size) s s′ → lex before s ≡ lex before s′
+before-same : (s s′ : List ℕ) → Near s s′ → Pre ((lex First 10 before s) .size) s s′ → lex First 10 before s ≡ lex First 10 before s′
 unfolding lex
 before-same s s′ n p =
     rw (data₂ s s′ n)
-    (cond-ext (starts keyData s) (λ d. ap (lexed block) (word-pre s s′ (sized s s′ (lex before s) block (word s) (rw d) p))) (λ d. refl))
+    (cond-ext (starts keyData s) (λ d. ap (lexed block) (word-pre s s′ (sized s s′ (lex First 10 before s) block (word s) (rw d) p))) (λ d. refl))
 
-bare-lex : (m : Mode) (b b′ : ℕ) (s s′ : List ℕ) → σ b ≡ σ b′ → opens b ≡ false → Near (b ∷ s) (b′ ∷ s′) → Pre ((lex m (b ∷ s)) .size) (b ∷ s) (b′ ∷ s′) → lex m (b ∷ s) ≡ lex m (b′ ∷ s′)
+bare-lex : (m : Mode) (b b′ : ℕ) (s s′ : List ℕ) → σ b ≡ σ b′ → opens b ≡ false → Near (b ∷ s) (b′ ∷ s′) → Pre ((lex First 10 m (b ∷ s)) .size) (b ∷ s) (b′ ∷ s′) → lex First 10 m (b ∷ s) ≡ lex First 10 m (b′ ∷ s′)
 unfolding lex
 bare-lex before b b′ s s′ h o n p = before-same (b ∷ s) (b′ ∷ s′) n p
 bare-lex inBlock b b′ s s′ h o n p = lexIn-same inBlock b b′ s s′ h o n p
@@ -586,18 +588,18 @@ closed-same k y m s s′ f v z = go (f s) refl
     go none e r = ap (closed k y) (sym e ∙ z r)
     go (some n) e r = ap (closed k y) (sym (v n _ _ e r))
 
-mark-lexIn : (m : Mode) (b : ℕ) (s s′ : List ℕ) → opens b ≡ true → relEmit ((lexIn m (b ∷ s)) .size) ((lexIn m (b ∷ s)) .class) m (λ k m′ q′. Rel s s′ k m′ q′) (map σ s ≡ map σ s′) → lexIn m (b ∷ s) ≡ lexIn m (b ∷ s′)
+mark-lexIn : (m : Mode) (b : ℕ) (s s′ : List ℕ) → opens b ≡ true → relEmit ((lexIn First 10 m (b ∷ s)) .size) ((lexIn First 10 m (b ∷ s)) .class) m (λ k m′ q′. Rel s s′ k m′ q′) (map σ s ≡ map σ s′) → lexIn First 10 m (b ∷ s) ≡ lexIn First 10 m (b ∷ s′)
 unfolding lexIn starts keyData keyGlobal keyStop keyLoop keySave lower is lexValue isOrdinary field
 mark-lexIn m b s s′ o =
-    opens-cases (λ b. relEmit ((lexIn m (b ∷ s)) .size) ((lexIn m (b ∷ s)) .class) m (λ k m′ q′. Rel s s′ k m′ q′) (map σ s ≡ map σ s′) → lexIn m (b ∷ s) ≡ lexIn m (b ∷ s′))
+    opens-cases (λ b. relEmit ((lexIn First 10 m (b ∷ s)) .size) ((lexIn First 10 m (b ∷ s)) .class) m (λ k m′ q′. Rel s s′ k m′ q′) (map σ s ≡ map σ s′) → lexIn First 10 m (b ∷ s) ≡ lexIn First 10 m (b ∷ s′))
     (closed-same 11 openQuote m s s′ (quoted 39) (λ n q m′ e r. quoted-veil 39 clear-39 s s′ n m′ q e r) (λ e. sym (quoted-σ 39 refl s) ∙ ap (quoted 39) e ∙ quoted-σ 39 refl s′))
     (closed-same 12 openQuote m s s′ (quoted 34) (λ n q m′ e r. quoted-veil 34 clear-34 s s′ n m′ q e r) (λ e. sym (quoted-σ 34 refl s) ∙ ap (quoted 34) e ∙ quoted-σ 34 refl s′))
     (closed-same 13 openField m s s′ field (λ n q m′ e r. field-veil false s s′ n m′ q e r) (λ e. sym (field-σ s) ∙ ap field e ∙ field-σ s′))
     b o
 
-mark-lex : (m : Mode) (b : ℕ) (s s′ : List ℕ) → opens b ≡ true → relEmit ((lex m (b ∷ s)) .size) ((lex m (b ∷ s)) .class) m (λ k m′ q′. Rel s s′ k m′ q′) (map σ s ≡ map σ s′) → lex m (b ∷ s) ≡ lex m (b ∷ s′)
+mark-lex : (m : Mode) (b : ℕ) (s s′ : List ℕ) → opens b ≡ true → relEmit ((lex First 10 m (b ∷ s)) .size) ((lex First 10 m (b ∷ s)) .class) m (λ k m′ q′. Rel s s′ k m′ q′) (map σ s ≡ map σ s′) → lex First 10 m (b ∷ s) ≡ lex First 10 m (b ∷ s′)
 unfolding lex starts keyData lower is
-mark-lex before b s s′ o r = opens-cases (λ b. lex before (b ∷ s) ≡ lex before (b ∷ s′)) refl refl refl b o
+mark-lex before b s s′ o r = opens-cases (λ b. lex First 10 before (b ∷ s) ≡ lex First 10 before (b ∷ s′)) refl refl refl b o
 mark-lex inBlock b s s′ o r = mark-lexIn inBlock b s s′ o r
 mark-lex inFrame b s s′ o r = mark-lexIn inFrame b s s′ o r
 
@@ -611,13 +613,13 @@ module _ (b b′ : ℕ) (s s′ : List ℕ) (m : Mode) where
       go zero c v r = ap {B = List ℕ} (λ y. y ∷ []) h
       go (suc n) c v r = ap₂ {C = List ℕ} (λ y l. y ∷ l) h (rel-pre s s′ n (after c m) (rw v at r))
 
-  lex-same : σ b ≡ σ b′ → Near (b ∷ s) (b′ ∷ s′) → relEmit ((lex m (b ∷ s)) .size) ((lex m (b ∷ s)) .class) m (λ k m′ q′. Rel s s′ k m′ q′) (map σ s ≡ map σ s′) → lex m (b ∷ s) ≡ lex m (b′ ∷ s′)
+  lex-same : σ b ≡ σ b′ → Near (b ∷ s) (b′ ∷ s′) → relEmit ((lex First 10 m (b ∷ s)) .size) ((lex First 10 m (b ∷ s)) .class) m (λ k m′ q′. Rel s s′ k m′ q′) (map σ s ≡ map σ s′) → lex First 10 m (b ∷ s) ≡ lex First 10 m (b′ ∷ s′)
   unfolding isVeiled
   lex-same h n r = go (opens b) refl
     where
-      go : (t : Bool) → opens b ≡ t → lex m (b ∷ s) ≡ lex m (b′ ∷ s′)
-      go true o = mark-lex m b s s′ o r ∙ ap (λ c. lex m (c ∷ s′)) (σ-mark b b′ o h)
-      go false o = bare-lex m b b′ s s′ h o n (private-pre (lex m (b ∷ s)) h (lex-bare m b s o) r)
+      go : (t : Bool) → opens b ≡ t → lex First 10 m (b ∷ s) ≡ lex First 10 m (b′ ∷ s′)
+      go true o = mark-lex m b s s′ o r ∙ ap (λ c. lex First 10 m (c ∷ s′)) (σ-mark b b′ o h)
+      go false o = bare-lex m b b′ s s′ h o n (private-pre (lex First 10 m (b ∷ s)) h (lex-bare m b s o) r)
 
 -- the space before it
 gap-zero : (b b′ : ℕ) (s s′ : List ℕ) → σ b ≡ σ b′ → gap (b ∷ s) ≡ 0 → gap (b′ ∷ s′) ≡ 0
@@ -643,22 +645,22 @@ gap-some b b′ s s′ g m h e r =
     sym (gap-pre (b ∷ s) (b′ ∷ s′) (rw e (ap₂ {C = List ℕ} (λ y l. y ∷ l) h (rel-pre s s′ g m r)))) ∙ e
 
 -- THE THEOREM: texts so related have the same tokens
-pub tokens-veil : (s s′ : List ℕ) (k : ℕ) (m : Mode) (q : Bool) (o : ℕ) → Rel s s′ k m q → tokensFrom s k m o ≡ tokensFrom s′ k m o
-unfolding tokensFrom Rel step relStep emit relEmit
+pub tokens-veil : (s s′ : List ℕ) (k : ℕ) (m : Mode) (q : Bool) (o : ℕ) → Rel s s′ k m q → firstTokens s k m o ≡ firstTokens s′ k m o
+unfolding firstTokens Rel step relStep emit relEmit
 tokens-veil [] [] k m q o r = refl
 tokens-veil [] (b′ ∷ s′) k m q o r = absurd r
 tokens-veil (b ∷ s) [] k m q o r = absurd r
 tokens-veil (b ∷ s) (b′ ∷ s′) (suc k) m q o r = tokens-veil s s′ k m q (suc o) (r .1)
 tokens-veil (b ∷ s) (b′ ∷ s′) zero m q o r = go (gap (b ∷ s)) refl (r .1) (λ k m′ q′. tokens-veil s s′ k m′ q′ (suc o))
   where
-    last : (n : ℕ) (c : Class) (t : Tok) → relEmit n c m (λ k m′ q′. Rel s s′ k m′ q′) (map σ s ≡ map σ s′) → ((k : ℕ) (m′ : Mode) (q′ : Bool) → Rel s s′ k m′ q′ → tokensFrom s k m′ (suc o) ≡ tokensFrom s′ k m′ (suc o))
-        → emit n t (λ k. tokensFrom s k (after c m) (suc o)) ≡ emit n t (λ k. tokensFrom s′ k (after c m) (suc o))
+    last : (n : ℕ) (c : Class) (t : Tok) → relEmit n c m (λ k m′ q′. Rel s s′ k m′ q′) (map σ s ≡ map σ s′) → ((k : ℕ) (m′ : Mode) (q′ : Bool) → Rel s s′ k m′ q′ → firstTokens s k m′ (suc o) ≡ firstTokens s′ k m′ (suc o))
+        → emit n t (λ k. firstTokens s k (after c m) (suc o)) ≡ emit n t (λ k. firstTokens s′ k (after c m) (suc o))
     last zero c t r f = refl
     last (suc n) c t r f = ap {B = List Tok} (λ l. t ∷ l) (f n (after c m) (veiled c) r)
 
-    go : (g : ℕ) → gap (b ∷ s) ≡ g → relStep g (lex m (b ∷ s)) m (λ k m′ q′. Rel s s′ k m′ q′) (map σ s ≡ map σ s′) → ((k : ℕ) (m′ : Mode) (q′ : Bool) → Rel s s′ k m′ q′ → tokensFrom s k m′ (suc o) ≡ tokensFrom s′ k m′ (suc o))
-        → step (gap (b ∷ s)) (lex m (b ∷ s)) m o (λ k m′. tokensFrom s k m′ (suc o)) ≡ step (gap (b′ ∷ s′)) (lex m (b′ ∷ s′)) m o (λ k m′. tokensFrom s′ k m′ (suc o))
+    go : (g : ℕ) → gap (b ∷ s) ≡ g → relStep g (lex First 10 m (b ∷ s)) m (λ k m′ q′. Rel s s′ k m′ q′) (map σ s ≡ map σ s′) → ((k : ℕ) (m′ : Mode) (q′ : Bool) → Rel s s′ k m′ q′ → firstTokens s k m′ (suc o) ≡ firstTokens s′ k m′ (suc o))
+        → step (gap (b ∷ s)) (lex First 10 m (b ∷ s)) m o (λ k m′. firstTokens s k m′ (suc o)) ≡ step (gap (b′ ∷ s′)) (lex First 10 m (b′ ∷ s′)) m o (λ k m′. firstTokens s′ k m′ (suc o))
     go zero e h f =
         rw (gap-zero b b′ s s′ (r .0) e, e, ← lex-same b b′ s s′ m (r .0) (near-of (b ∷ s) (b′ ∷ s′) 0 m r) h)
-        (last ((lex m (b ∷ s)) .size) ((lex m (b ∷ s)) .class) _ h f)
+        (last ((lex First 10 m (b ∷ s)) .size) ((lex First 10 m (b ∷ s)) .class) _ h f)
     go (suc g) e h f = rw (gap-some b b′ s s′ g m (r .0) e h, e) (f g m false h)

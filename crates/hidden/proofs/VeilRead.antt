@@ -7,12 +7,14 @@ use native.Mathlib.Omega.{arith}
 use borrow.Author.Tests.{ltb-true}
 use lib.Dec.{ltb}
 use lib.ListN.{length, getD}
+use Rattle.rules.specs.declared.Reading.the-variants.{First}
 use Rattle.gaps.specs.Gaps.{gap}
 use Rattle.text.specs.Bytes.{is, isEol, isDigit}
 use Rattle.text.proofs.Ranges.{digit-not}
 use Rattle.text.proofs.Bools.{and-l, and-r}
 use Rattle.values.specs.Values.{Class, Lexed}
-use Rattle.grammar.specs.Tokens.{Mode, lex, after, Tok, tok, emit, step, tokensFrom}
+use Rattle.grammar.proofs.First.{firstTokens, tokens-first}
+use Rattle.grammar.specs.Tokens.{Mode, lex, after, Tok, tok, emit, step}
 use Rattle.hidden.specs.Differences.{isMark}
 use Rattle.text.proofs.Shape.{σ, blind}
 use Rattle.hidden.proofs.Veil.{μ, veiled, Byte, isZero, relEmit, relStep, Rel}
@@ -50,17 +52,17 @@ inside-of x o i e =
     record { kind = and-l (veiled (x .class)) _ e; low = ltb-true o i (and-l (ltb o i) _ r); high = ltb-true (suc i) (o + x .size) (and-r (ltb o i) _ r) }
 
 -- what is inside a token is behind the place where reading stands
-inside-behind : (s : List ℕ) (k : ℕ) (m : Mode) (o i : ℕ) → insideAny (tokensFrom s k m o) i ≡ true → o < i
-unfolding tokensFrom insideAny step emit
-inside-behind [] k m o i e = either (λ h. (inside-of (lex m []) o i h) .low) (λ h. absurd (false≢true h)) (or-split _ false e)
+inside-behind : (s : List ℕ) (k : ℕ) (m : Mode) (o i : ℕ) → insideAny (firstTokens s k m o) i ≡ true → o < i
+unfolding firstTokens insideAny step emit
+inside-behind [] k m o i e = either (λ h. (inside-of (lex First 10 m []) o i h) .low) (λ h. absurd (false≢true h)) (or-split _ false e)
 inside-behind (b ∷ s) (suc k) m o i e = let h : suc o < i = inside-behind s k m (suc o) i e in omega arith
-inside-behind (b ∷ s) zero m o i e = go (gap (b ∷ s)) (lex m (b ∷ s)) (λ k m′ h. inside-behind s k m′ (suc o) i h) e
+inside-behind (b ∷ s) zero m o i e = go (gap (b ∷ s)) (lex First 10 m (b ∷ s)) (λ k m′ h. inside-behind s k m′ (suc o) i h) e
   where
-    last : (n : ℕ) (x : Lexed) → ((k : ℕ) (m′ : Mode) → insideAny (tokensFrom s k m′ (suc o)) i ≡ true → suc o < i) → insideAny (emit n (tok x o) (λ k. tokensFrom s k (after (x .class) m) (suc o))) i ≡ true → o < i
+    last : (n : ℕ) (x : Lexed) → ((k : ℕ) (m′ : Mode) → insideAny (firstTokens s k m′ (suc o)) i ≡ true → suc o < i) → insideAny (emit n (tok x o) (λ k. firstTokens s k (after (x .class) m) (suc o))) i ≡ true → o < i
     last zero x f e = either (λ h. (inside-of x o i h) .low) (λ h. absurd (false≢true h)) (or-split _ false e)
     last (suc n) x f e = either (λ h. (inside-of x o i h) .low) (λ h. let l : suc o < i = f n (after (x .class) m) h in omega arith) (or-split _ _ e)
 
-    go : (g : ℕ) (x : Lexed) → ((k : ℕ) (m′ : Mode) → insideAny (tokensFrom s k m′ (suc o)) i ≡ true → suc o < i) → insideAny (step g x m o (λ k m′. tokensFrom s k m′ (suc o))) i ≡ true → o < i
+    go : (g : ℕ) (x : Lexed) → ((k : ℕ) (m′ : Mode) → insideAny (firstTokens s k m′ (suc o)) i ≡ true → suc o < i) → insideAny (step g x m o (λ k m′. firstTokens s k m′ (suc o))) i ≡ true → o < i
     go zero x f e = last (x .size) x f e
     go (suc g) x f e = let l : suc o < i = f g m e in omega arith
 
@@ -104,7 +106,7 @@ any-byte true a b h = σ-μ a b h
 any-byte false a b h = h
 
 unfoldable pub Allowed : List ℕ → ℕ → Mode → Bool → ℕ → ℕ → Type 0
-Allowed s k m q o j = Either (insideAny (tokensFrom s k m o) (o + j) ≡ true) ((q ≡ true) × (suc j < k))
+Allowed s k m q o j = Either (insideAny (firstTokens s k m o) (o + j) ≡ true) ((q ≡ true) × (suc j < k))
 
 -- the same on the rest
 unfoldable pub Rest : List ℕ → List ℕ → (ℕ → Type 0) → Type 0
@@ -122,7 +124,7 @@ all-same (b ∷ s) (b′ ∷ s′) e h = ap₂ {C = List ℕ} (λ x r. x ∷ r) 
     one (washed z x) = absurd z
 
 pub rel-of : (s s′ : List ℕ) (k : ℕ) (m : Mode) (q : Bool) (o : ℕ) → length s ≡ length s′ → Rest s s′ (Allowed s k m q o) → Rel s s′ k m q
-unfolding Rest Allowed Rel relStep relEmit Byte tokensFrom step emit insideAny isZero
+unfolding Rest Allowed Rel relStep relEmit Byte firstTokens step emit insideAny isZero
 rel-of [] [] k m q o e h = tt
 rel-of [] (b′ ∷ s′) k m q o e h = absurd (omega arith)
 rel-of (b ∷ s) [] k m q o e h = absurd (omega arith)
@@ -132,36 +134,36 @@ rel-of (b ∷ s) (b′ ∷ s′) (suc k) m q o e h = (here (h 0 (omega arith)), 
     inner zero l p x = absurd (omega arith)
     inner (suc k) l p x = rw p x
 
-    here : Close (Either (insideAny (tokensFrom s k m (suc o)) (o + 0) ≡ true) ((q ≡ true) × (1 < suc k))) b b′ → Byte (q && not (isZero k)) b b′
+    here : Close (Either (insideAny (firstTokens s k m (suc o)) (o + 0) ≡ true) ((q ≡ true) × (1 < suc k))) b b′ → Byte (q && not (isZero k)) b b′
     here (same x) = any-byte (q && not (isZero k)) b b′ x
     here (washed (left i) x) = let z : suc o < o + 0 = inside-behind s k m (suc o) (o + 0) i in absurd (omega arith)
     here (washed (right p) x) = inner k (p .1) (p .0) x
 
-    shift : (j : ℕ) → Either (insideAny (tokensFrom s k m (suc o)) (o + suc j) ≡ true) ((q ≡ true) × (suc (suc j) < suc k)) → Either (insideAny (tokensFrom s k m (suc o)) (suc o + j) ≡ true) ((q ≡ true) × (suc j < k))
+    shift : (j : ℕ) → Either (insideAny (firstTokens s k m (suc o)) (o + suc j) ≡ true) ((q ≡ true) × (suc (suc j) < suc k)) → Either (insideAny (firstTokens s k m (suc o)) (suc o + j) ≡ true) ((q ≡ true) × (suc j < k))
     shift j (left i) = let z : o + suc j ≡ suc o + j = omega arith in left (rw z at i)
     shift j (right p) = right (p .0, omega (arith, p .1))
-rel-of (b ∷ s) (b′ ∷ s′) zero m q o e h = (head (h 0 (omega arith)), go (gap (b ∷ s)) (lex m (b ∷ s)) (λ j l. map-close (only j) (h (suc j) (omega arith))) (λ k m′ q′ r. rel-of s s′ k m′ q′ (suc o) (omega arith) r))
+rel-of (b ∷ s) (b′ ∷ s′) zero m q o e h = (head (h 0 (omega arith)), go (gap (b ∷ s)) (lex First 10 m (b ∷ s)) (λ j l. map-close (only j) (h (suc j) (omega arith))) (λ k m′ q′ r. rel-of s s′ k m′ q′ (suc o) (omega arith) r))
   where
-    head : Close (Either (insideAny (tokensFrom (b ∷ s) 0 m o) (o + 0) ≡ true) ((q ≡ true) × (1 < 0))) b b′ → σ b ≡ σ b′
+    head : Close (Either (insideAny (firstTokens (b ∷ s) 0 m o) (o + 0) ≡ true) ((q ≡ true) × (1 < 0))) b b′ → σ b ≡ σ b′
     head (same x) = x
     head (washed (left i) x) = let z : o < o + 0 = inside-behind (b ∷ s) 0 m o (o + 0) i in absurd (omega arith)
     head (washed (right p) x) = absurd (omega (arith, p .1))
 
-    only : (j : ℕ) → Either (insideAny (tokensFrom (b ∷ s) 0 m o) (o + suc j) ≡ true) ((q ≡ true) × (suc (suc j) < 0)) → insideAny (tokensFrom (b ∷ s) 0 m o) (o + suc j) ≡ true
+    only : (j : ℕ) → Either (insideAny (firstTokens (b ∷ s) 0 m o) (o + suc j) ≡ true) ((q ≡ true) × (suc (suc j) < 0)) → insideAny (firstTokens (b ∷ s) 0 m o) (o + suc j) ≡ true
     only j (left i) = i
     only j (right p) = absurd (omega (arith, p .1))
 
     none-inside : (x : Lexed) (i : ℕ) → x .size ≡ 0 → insideTok (tok x o) i || false ≡ true → ⊥
     none-inside x i z f = either (λ g. let y = inside-of x o i g in absurd (omega (arith, y .low, y .high))) false≢true (or-split (insideTok (tok x o) i) false f)
 
-    last : (n : ℕ) (x : Lexed) → x .size ≡ n → Rest s s′ (λ j. insideAny (emit n (tok x o) (λ k. tokensFrom s k (after (x .class) m) (suc o))) (o + suc j) ≡ true)
+    last : (n : ℕ) (x : Lexed) → x .size ≡ n → Rest s s′ (λ j. insideAny (emit n (tok x o) (λ k. firstTokens s k (after (x .class) m) (suc o))) (o + suc j) ≡ true)
         → ((k : ℕ) (m′ : Mode) (q′ : Bool) → Rest s s′ (Allowed s k m′ q′ (suc o)) → Rel s s′ k m′ q′) → relEmit n (x .class) m (λ k m′ q′. Rel s s′ k m′ q′) (map σ s ≡ map σ s′)
     last zero x z r f = all-same s s′ (omega arith) (λ j l. map-close (none-inside x (o + suc j) z) (r j l))
     last (suc n) x z r f = f n (after (x .class) m) (veiled (x .class)) (λ j l. map-close (λ y. either
         (λ g. let w = inside-of x o (o + suc j) g in right (w .kind, omega (arith, w .high)))
         (λ g. let w : o + suc j ≡ suc o + j = omega arith in left (rw w at g)) (or-split (insideTok (tok x o) (o + suc j)) _ y)) (r j l))
 
-    go : (g : ℕ) (x : Lexed) → Rest s s′ (λ j. insideAny (step g x m o (λ k m′. tokensFrom s k m′ (suc o))) (o + suc j) ≡ true)
+    go : (g : ℕ) (x : Lexed) → Rest s s′ (λ j. insideAny (step g x m o (λ k m′. firstTokens s k m′ (suc o))) (o + suc j) ≡ true)
         → ((k : ℕ) (m′ : Mode) (q′ : Bool) → Rest s s′ (Allowed s k m′ q′ (suc o)) → Rel s s′ k m′ q′) → relStep g x m (λ k m′ q′. Rel s s′ k m′ q′) (map σ s ≡ map σ s′)
     go zero x r f = last (x .size) x refl r f
     go (suc g) x r f = f g m false (λ j l. map-close (λ y. let w : o + suc j ≡ suc o + j = omega arith in left (rw w at y)) (r j l))

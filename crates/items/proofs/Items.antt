@@ -1,19 +1,21 @@
 -- The item at an offset, by the code's tests: a loop from its names and values, a tag from what is found behind it, else none. Assumes nothing.
 use Prim.Native.Nat.{ℕ, suc, _+_, _-_, _%_, _≤_, _<_}
 use mathlib.Core.Path.{_≡_, refl, sym, ap, _∙_}
-use mathlib.Core.Bool.{Bool, true, false, cond, true≢false}
+use mathlib.Core.Bool.{Bool, true, false, cond, _&&_, true≢false}
 use mathlib.Core.List.{List, [], _∷_, _++_}
 use native.Mathlib.Omega.{arith}
 use borrow.Author.Tests.{ne-eqb}
 use lib.Dec.{eqb, eqb·suc-zero}
 use lib.ListN.{length, drop}
+use Rattle.columns.specs.Before.{byteBefore, isParted}
+use Rattle.rules.specs.declared.Reading.{Reading}
+use Rattle.rules.specs.declared.Reading.the-variants.{First, Strict}
 use Rattle.gaps.specs.Gaps.{gap, gapEnd}
 use Rattle.gaps.proofs.Gaps.{gap-none}
 use Rattle.words.specs.Words.{word, wordEnd}
-use Rattle.words.proofs.Words.{word-end}
-use Rattle.keywords.specs.Keywords.{starts, startsAt, keyLoop}
-use Rattle.keywords.proofs.Starts.{starts-at}
-use Rattle.values.specs.Values.{Class, block, loop, save, tag, value, overLimit, nothing, lexed}
+use Rattle.words.specs.Names.{tagFits}
+use Rattle.words.proofs.Words.{word-end, word-size}
+use Rattle.values.specs.Values.{Class, block, loop, save, tag, value, overLimit, nothing, atEnd, reservedWord, noStart, openQuote, openField, joined as joinedTo, lexed}
 use Rattle.sizes.specs.declared.Sizes.{Sizes}
 use Rattle.items.specs.declared.Names.{Names}
 use Rattle.items.specs.declared.Values.{Values}
@@ -21,40 +23,48 @@ use Rattle.values.specs.declared.Found.{Found}
 use Rattle.values.specs.declared.Found.the-variants.{Value}
 use Rattle.items.specs.declared.Item.{Item as Answered}
 use Rattle.items.specs.declared.Item.the-variants.{Loop, Single, Failed, Absent, Broken}
-use Rattle.grammar.specs.declared.Cause.the-variants.{Ragged, NoValue, NoNames, OverLimit}
-use Rattle.grammar.specs.Tokens.{Mode, inBlock, lexIn, lex, after, Tok, tok, tokensAt, headAt, headWhy, tagFirst, tagAt}
-use Rattle.grammar.specs.Machine.{Rec, rec, loopEnd, reason}
+use types.Run.{OneOf}
+use denote.Enum.Declared.{tagOf}
+use mathlib.Core.Logic.{inl, inr}
+use Rattle.values.specs.declared.Why.{Why}
+use Rattle.values.specs.declared.Why.the-variants.{AtEnd, Reserved, NoStart, OpenQuote, OpenField, Joined}
+use Rattle.values.proofs.Why.{the-type as why-type}
+use Rattle.grammar.specs.declared.Cause.{Cause}
+use Rattle.grammar.specs.declared.Cause.the-variants.{Ragged, NoValue, NoNames, OverLimit, NotParted, BadName}
+use Rattle.grammar.specs.Causes.{causeOf}
+use Rattle.grammar.specs.Tokens.{Mode, inBlock, lexIn, after, Tok, tok, tokensAt, headAt, headWhy, tagFirst, tagAt, loopAt}
+use Rattle.grammar.specs.Machine.{Rec, rec, loopEnd, reason, isJoined, lacksValues, lastAt}
 use Rattle.sizes.specs.Sizes.{sizesOf, noSizes, added, joined, Upto}
-use Rattle.grammar.specs.Descent.{nameRecs, afterNames, valueRecs, afterValues, taken, failed, absent, broken, isOver, rows, loopBy, loopItem, single, tagItem, itemBy, item}
-use Rattle.items.specs.Answers.{namesOf, namesAt, headOver, valuesOf, valuesAt, rowsOf, itemAnswer, itemAt}
-use Rattle.values.specs.Answers.{whyNot, numberOfWhy, wanted}
+use Rattle.grammar.specs.Descent.{nameRecs, afterNames, valueRecs, afterValues, Item, taken, failed, absent, broken, isOver, isTag, headTag, headJoined, failedBy, rows, loopBy, loopValued, loopItem, single, tagValued, tagItem, itemBy, item}
+use Rattle.items.specs.Answers.{namesOf, namesAt, headOver, valuesOf, valuesAt, isJoinedWhy, failedAs, rowsOf, itemAnswer, itemAt}
+use Rattle.values.specs.Answers.{whyOf, whyNot, numberOfWhy, wanted}
 use Rattle.values.specs.Finding.{foundAt, isOverFound, whyFound}
 use Rattle.values.proofs.Choices.{wanted-why}
 use Rattle.grammar.proofs.Descent.{Ends, names-ends, values-ends}
-use Rattle.grammar.proofs.Lexes.{lex-other, startsItem}
-use Rattle.items.proofs.Lists.{met-value, name-step, value-step}
-use Rattle.grammar.proofs.Offsets.{tokens-gap, tokens-ends, Met, met-loop, met-tag, first, both, both-spot}
+use Rattle.grammar.proofs.Lexes.{lex-other, lex-tag, no-tag, startsItem}
+use Rattle.items.proofs.Lists.{met-value, value-step}
+use Rattle.grammar.proofs.Offsets.{tokens-gap, tokens-ends, Met, met-loop, met-tag, first, first-in, both, both-spot}
 use Rattle.items.proofs.Passes.{names-alike, values-alike}
 use Rattle.sizes.proofs.Room.{sizes-cons, sizes-one, sizes-snoc, sizes-append, joined-assoc, added-none, upto-more}
 use Rattle.items.proofs.Wanted.{found-wanted}
 
 -- the first token stands behind space and comments
-pub head-at : (m : Mode) (s : List ℕ) (o : ℕ) → headAt (tokensAt m s o) ≡ gapEnd s o
+pub head-at : (r : Reading) (m : Mode) (s : List ℕ) (o : ℕ) → headAt (tokensAt r m s o) ≡ gapEnd s o
 unfolding headAt tok
-head-at m s o = rw (← tokens-gap m s o, first s (gapEnd s o) (gap-none s o) m .1)
+head-at r m s o = rw (← tokens-gap r m s o, first s (gapEnd s o) (gap-none s o) r m .1)
 
 -- where a loop's names end
-pub record NamesEnd (s : List ℕ) (o : ℕ) : Type 0 where
-  pub onward : o ≤ namesAt s o .next
-  pub within : namesAt s o .next ≤ length s
-  pub bare : gap (drop (namesAt s o .next) s) ≡ 0
-  pub tokens : afterNames (tokensAt inBlock s o) ≡ tokensAt inBlock s (namesAt s o .next)
-  pub fits : Upto (namesAt s o .next - o) (namesAt s o .sizes)
+pub record NamesEnd (r : Reading) (s : List ℕ) (o : ℕ) : Type 0 where
+  pub onward : o ≤ namesAt r s o .next
+  pub within : namesAt r s o .next ≤ length s
+  pub bare : gap (drop (namesAt r s o .next) s) ≡ 0
+  pub tokens : afterNames r (tokensAt r inBlock s o) ≡ tokensAt r inBlock s (namesAt r s o .next)
+  pub fits : Upto (namesAt r s o .next - o) (namesAt r s o .sizes)
 
-pub names-end : (s : List ℕ) (o : ℕ) → o ≤ length s → NamesEnd s o
+pub names-end : (r : Reading) (s : List ℕ) (o : ℕ) → o ≤ length s → NamesEnd r s o
 unfolding namesAt namesOf
-names-end s o h =
-    let a = names-alike (both s o h) in
+names-end r s o h =
+    let a = names-alike (both r s o h) in
     let p = both-spot (a .rest) in
     record {
       onward = omega (arith, a .onward, p .onward);
@@ -65,16 +75,16 @@ names-end s o h =
     }
 
 -- where its values end
-pub record ValuesEnd (s : List ℕ) (o : ℕ) : Type 0 where
-  pub onward : o ≤ valuesAt s o .next
-  pub within : valuesAt s o .next ≤ length s
-  pub bare : gap (drop (valuesAt s o .next) s) ≡ 0
-  pub fits : Upto (valuesAt s o .next - o) (valuesAt s o .sizes)
+pub record ValuesEnd (r : Reading) (s : List ℕ) (o : ℕ) : Type 0 where
+  pub onward : o ≤ valuesAt r s o .next
+  pub within : valuesAt r s o .next ≤ length s
+  pub bare : gap (drop (valuesAt r s o .next) s) ≡ 0
+  pub fits : Upto (valuesAt r s o .next - o) (valuesAt r s o .sizes)
 
-pub values-end : (s : List ℕ) (o : ℕ) → o ≤ length s → ValuesEnd s o
+pub values-end : (r : Reading) (s : List ℕ) (o : ℕ) → o ≤ length s → ValuesEnd r s o
 unfolding valuesAt valuesOf
-values-end s o h =
-    let a = values-alike (both s o h) in
+values-end r s o h =
+    let a = values-alike (both r s o h) in
     let p = both-spot (a .rest) in
     record {
       onward = omega (arith, a .onward, p .onward);
@@ -93,197 +103,273 @@ loop-size t ns vs z =
     ∙ rw (z, sizes-append ns (vs ++ (loopEnd ∷ [])), sizes-append vs (loopEnd ∷ []), sizes-one loopEnd)
     (sym (joined-assoc a (sizesOf ns) (joined (sizesOf vs) e)) ∙ sym (joined-assoc (joined a (sizesOf ns)) (sizesOf vs) e) ∙ added-none (joined (joined a (sizesOf ns)) (sizesOf vs)) 7 0)
 
+-- an item that fails before u
+joined-why : (c : Class) → isJoinedWhy (whyNot c) ≡ isJoined c
+unfolding isJoined whyNot whyOf
+joined-why block = refl
+joined-why loop = refl
+joined-why save = refl
+joined-why tag = refl
+joined-why (value k) = refl
+joined-why overLimit = refl
+joined-why (nothing atEnd) = refl
+joined-why (nothing reservedWord) = refl
+joined-why (nothing noStart) = refl
+joined-why (nothing openQuote) = refl
+joined-why (nothing openField) = refl
+joined-why (nothing joinedTo) = refl
+
+failed-answer : (r : Reading) (n o d : ℕ) (u : Tok) (us : List Tok) → itemAnswer (failedBy r n o d (u ∷ us)) ≡ failedAs r (causeOf n d) o (u .at) (whyNot (u .class))
+unfolding itemAnswer headAt headJoined
+failed-answer First n o d u us = refl
+failed-answer Strict n o d u us = rw (joined-why (u .class)) (by (isJoined (u .class)))
+  where
+    by : (c : Bool) → itemAnswer (cond c (broken 15 (u .at) 0) (broken n o d)) ≡ cond c (Broken NotParted (u .at)) (Broken (causeOf n d) o)
+    by true = refl
+    by false = refl
+
+-- an item that fails where something is parted from the token before
+pub parted-failed : (c : Cause) (o p : ℕ) (w : Why) → OneOf (0 ∷ 1 ∷ 2 ∷ 3 ∷ 4 ∷ []) (tagOf why-type w) → Broken c o ≡ failedAs Strict c o p w
+parted-failed c o p AtEnd k = refl
+parted-failed c o p Reserved k = refl
+parted-failed c o p NoStart k = refl
+parted-failed c o p OpenQuote k = refl
+parted-failed c o p OpenField k = refl
+parted-failed c o p Joined (inl e) = absurd (omega arith)
+parted-failed c o p Joined (inr (inl e)) = absurd (omega arith)
+parted-failed c o p Joined (inr (inr (inl e))) = absurd (omega arith)
+parted-failed c o p Joined (inr (inr (inr (inl e)))) = absurd (omega arith)
+parted-failed c o p Joined (inr (inr (inr (inr e)))) = absurd (omega arith)
+
 -- whole rows, or the remainder
-rows-answer : (t u : Tok) (us : List Tok) (ns vs : List Rec) (p : ℕ) (b : Bool) → t .size ≡ 5
-    → itemAnswer (rows t ns vs (u ∷ us)) ≡ rowsOf (t .at) (record { count = length ns; next = p; sizes = sizesOf ns }) (record { count = length vs; next = u .at; sizes = sizesOf vs; over = b; why = whyNot (u .class) })
+rows-answer : (r : Reading) (t u : Tok) (us : List Tok) (ns vs : List Rec) (p : ℕ) (b : Bool) → t .size ≡ 5
+    → itemAnswer (rows r t ns vs (u ∷ us)) ≡ rowsOf r (t .at) (record { count = length ns; next = p; sizes = sizesOf ns; last = lastAt ns }) (record { count = length vs; next = u .at; sizes = sizesOf vs; over = b; why = whyNot (u .class) })
 unfolding rows rowsOf itemAnswer headAt headWhy
-rows-answer t u us ns vs p c z = by (eqb (length vs % length ns) 0)
+rows-answer r t u us ns vs p c z = lacks (lacksValues r (length vs)) _ _ (by (eqb (length vs % length ns) 0))
   where
     rem : ℕ
     rem = length vs % length ns
 
-    by : (b : Bool) → itemAnswer (cond b (taken true (rec 5 t ∷ (ns ++ (vs ++ (loopEnd ∷ [])))) (u ∷ us)) (failed 5 (t .at) rem (u ∷ us))) ≡ cond b (Loop (u .at) (added (joined (joined (added noSizes 5 5) (sizesOf ns)) (sizesOf vs)) 7 0) (whyNot (u .class))) (Failed (Ragged rem) (t .at) (u .at))
+    by : (b : Bool) → itemAnswer (cond b (taken true (rec 5 t ∷ (ns ++ (vs ++ (loopEnd ∷ [])))) (u ∷ us)) (failedBy r 5 (t .at) rem (u ∷ us))) ≡ cond b (Loop (u .at) (added (joined (joined (added noSizes 5 5) (sizesOf ns)) (sizesOf vs)) 7 0) (whyNot (u .class))) (failedAs r (Ragged rem) (t .at) (u .at) (whyNot (u .class)))
     by true = rw (loop-size t ns vs z)
-    by false = refl
+    by false = failed-answer r 5 (t .at) rem u us
 
--- a loop by its names and values
-unfoldable pub loopAnswer : ℕ → Names → Values → Answered
-loopAnswer o names values = cond (eqb (names .count) 0) (Broken NoNames o) (cond (values .over) (Broken OverLimit (values .next)) (rowsOf o names values))
+    lacks : (b : Bool) (x : Item) (y : Answered) → itemAnswer x ≡ y → itemAnswer (cond b (broken 6 (lastAt ns) (numberOfWhy (whyNot (u .class)))) x) ≡ cond b (Broken (NoValue (numberOfWhy (whyNot (u .class)))) (lastAt ns)) y
+    lacks true x y e = refl
+    lacks false x y e = e
 
-values-answer : (t : Tok) (ts us : List Tok) (n : Rec) (ns : List Rec) (p : ℕ) → t .size ≡ 5 → afterValues ts ≡ us → Ends us
-    → itemAnswer (loopBy t (n ∷ ns) (valueRecs ts) us) ≡ loopAnswer (t .at) (record { count = suc (length ns); next = p; sizes = sizesOf (n ∷ ns) }) (valuesOf ts)
+-- a loop by its names, whether a tag stands behind them, and its values
+unfoldable pub loopAnswer : Reading → ℕ → Names → Bool → Values → Answered
+loopAnswer r o names tagged values =
+    cond tagged (Broken BadName (names .next))
+    (cond (eqb (names .count) 0) (Broken NoNames o) (cond (values .over) (Broken OverLimit (values .next)) (rowsOf r o names values)))
+
+values-answer : (r : Reading) (t : Tok) (ts us : List Tok) (n : Rec) (ns : List Rec) (p : ℕ) → t .size ≡ 5 → afterValues ts ≡ us → Ends us
+    → itemAnswer (loopBy r t (n ∷ ns) (valueRecs ts) us) ≡ loopAnswer r (t .at) (record { count = suc (length ns); next = p; sizes = sizesOf (n ∷ ns); last = lastAt (n ∷ ns) }) false (valuesOf ts)
 unfolding loopBy loopAnswer valuesOf headOver headAt headWhy
-values-answer t ts (u ∷ us) n ns p z e h = rw (e, eqb·suc-zero (length ns)) (by (isOver (u .class)) refl)
+values-answer r t ts (u ∷ us) n ns p z e h = rw (e, eqb·suc-zero (length ns)) (by (isOver (u .class)) refl)
   where
     counted : Values
     counted = record { count = length (valueRecs ts); next = u .at; sizes = sizesOf (valueRecs ts); over = isOver (u .class); why = whyNot (u .class) }
 
     named : Names
-    named = record { count = suc (length ns); next = p; sizes = sizesOf (n ∷ ns) }
+    named = record { count = suc (length ns); next = p; sizes = sizesOf (n ∷ ns); last = lastAt (n ∷ ns) }
 
-    by : (b : Bool) → isOver (u .class) ≡ b → itemAnswer (cond b (broken 9 (u .at)) (rows t (n ∷ ns) (valueRecs ts) (u ∷ us))) ≡ cond b (Broken OverLimit (u .at)) (rowsOf (t .at) named counted)
+    by : (b : Bool) → isOver (u .class) ≡ b → itemAnswer (cond b (broken 9 (u .at) 0) (rows r t (n ∷ ns) (valueRecs ts) (u ∷ us))) ≡ cond b (Broken OverLimit (u .at)) (rowsOf r (t .at) named counted)
     by true q = unfold itemAnswer in refl
-    by false q = rows-answer t u us (n ∷ ns) (valueRecs ts) p (isOver (u .class)) z
+    by false q = rows-answer r t u us (n ∷ ns) (valueRecs ts) p (isOver (u .class)) z
 
-names-answer : (t : Tok) (us : List Tok) (ns : List Rec) (p : ℕ) → t .size ≡ 5 → Ends us
-    → itemAnswer (loopItem t ns us) ≡ loopAnswer (t .at) (record { count = length ns; next = p; sizes = sizesOf ns }) (valuesOf us)
+valued-answer : (r : Reading) (t : Tok) (us : List Tok) (ns : List Rec) (p : ℕ) → t .size ≡ 5 → Ends us
+    → itemAnswer (loopValued r t ns us) ≡ loopAnswer r (t .at) (record { count = length ns; next = p; sizes = sizesOf ns; last = lastAt ns }) false (valuesOf us)
+unfolding loopValued
+valued-answer r t us [] p z h = unfold itemAnswer loopAnswer in refl
+valued-answer r t us (n ∷ ns) p z h = values-answer r t us (afterValues us) n ns p z refl (values-ends h)
+
+names-answer : (r : Reading) (t : Tok) (us : List Tok) (ns : List Rec) → t .size ≡ 5 → Ends us
+    → itemAnswer (loopItem r t ns us) ≡ loopAnswer r (t .at) (record { count = length ns; next = headAt us; sizes = sizesOf ns; last = lastAt ns }) (headTag us) (valuesOf us)
 unfolding loopItem
-names-answer t us [] p z h = unfold itemAnswer loopAnswer in refl
-names-answer t us (n ∷ ns) p z h = values-answer t us (afterValues us) n ns p z refl (values-ends h)
+names-answer r t us ns z h = by (headTag us)
+  where
+    by : (b : Bool) → itemAnswer (cond b (broken 17 (headAt us) 0) (loopValued r t ns us)) ≡ loopAnswer r (t .at) (record { count = length ns; next = headAt us; sizes = sizesOf ns; last = lastAt ns }) b (valuesOf us)
+    by true = unfold itemAnswer loopAnswer in refl
+    by false = valued-answer r t us ns (headAt us) z h
+
+-- a tag stands where the test says so
+head-tag : (r : Reading) (s : List ℕ) (o : ℕ) → gap (drop o s) ≡ 0 → headTag (tokensAt r inBlock s o) ≡ tagAt r s o
+unfolding headTag tok tagAt
+head-tag r s o g = rw (first-in s o g r .1) (by (isParted r (byteBefore s o) && tagFirst (drop o s)) refl)
+  where
+    by : (b : Bool) → (isParted r (byteBefore s o) && tagFirst (drop o s)) ≡ b → isTag (lexIn r (byteBefore s o) inBlock (drop o s) .class) ≡ (isParted r (byteBefore s o) && tagFirst (drop o s))
+    by true e = rw (lex-tag (byteBefore s o) inBlock r (drop o s) e) (unfold lexed isTag in sym e)
+    by false e = no-tag r (byteBefore s o) inBlock (drop o s) e ∙ sym e
 
 -- THE LOOP AT AN OFFSET
-loop-item : (s : List ℕ) (o : ℕ) → Met inBlock s o (lexed loop 5) → itemAt s o ≡ loopAnswer o (namesAt s (o + 5)) (valuesOf (afterNames (tokensAt inBlock s (o + 5))))
+loop-item : (r : Reading) (s : List ℕ) (o : ℕ) → Met r inBlock s o (lexed loop 5) → itemAt r s o ≡ loopAnswer r o (namesAt r s (o + 5)) (headTag (afterNames r (tokensAt r inBlock s (o + 5)))) (valuesOf (afterNames r (tokensAt r inBlock s (o + 5))))
 unfolding itemAt item itemBy namesAt namesOf lexed tok after
-loop-item s o m =
-    let ts = tokensAt inBlock s (o + 5) in
-    rw (m .next) (names-answer (tok (lexed loop 5) o) (afterNames ts) (nameRecs ts) (headAt (afterNames ts)) refl (names-ends (tokens-ends inBlock s (o + 5))))
+loop-item r s o m =
+    let ts = tokensAt r inBlock s (o + 5) in
+    rw (m .next) (names-answer r (tok (lexed loop 5) o) (afterNames r ts) (nameRecs r ts) refl (names-ends r (tokens-ends r inBlock s (o + 5))))
 
-pub item-loop : (s : List ℕ) (o : ℕ) → gap (drop o s) ≡ 0 → startsAt keyLoop s o ≡ true → itemAt s o ≡ loopAnswer o (namesAt s (o + 5)) (valuesAt s (namesAt s (o + 5) .next))
+pub item-loop : (r : Reading) (s : List ℕ) (o : ℕ) → gap (drop o s) ≡ 0 → loopAt r s o ≡ true → let p = namesAt r s (o + 5) .next in itemAt r s o ≡ loopAnswer r o (namesAt r s (o + 5)) (tagAt r s p) (valuesAt r s p)
 unfolding valuesAt lexed
-item-loop s o g e =
-    let m = met-loop s o g e in
-    loop-item s o m ∙ ap (λ (ts : List Tok). loopAnswer o (namesAt s (o + 5)) (valuesOf ts)) (names-end s (o + 5) (m .within) .tokens)
+item-loop r s o g e =
+    let m = met-loop s o g r e in
+    let n = names-end r s (o + 5) (m .within) in
+    loop-item r s o m ∙ ap (λ (ts : List Tok). loopAnswer r o (namesAt r s (o + 5)) (headTag ts) (valuesOf ts)) (n .tokens) ∙ rw (head-tag r s (namesAt r s (o + 5) .next) (n .bare))
 
 -- a tag by what is found behind it
-single-answer : (t u : Tok) (us : List Tok) (c : Class) (n : ℕ) → ((k w : ℕ) → wanted c n ≡ Value k w → ⊥)
-    → itemAnswer (single t c u us) ≡ cond (isOverFound (wanted c n)) (Broken OverLimit (u .at)) (Failed (NoValue (numberOfWhy (whyFound (wanted c n)))) (t .at) (u .at))
-unfolding single wanted itemAnswer headAt reason
-single-answer t u us c n h = rw (← wanted-why c n) (by c h)
+unfoldable pub aloneAnswer : Reading → ℕ → ℕ → Found → Answered
+aloneAnswer r o p f = cond (isOverFound f) (Broken OverLimit p) (failedAs r (NoValue (numberOfWhy (whyFound f))) o p (whyFound f))
+
+single-answer : (r : Reading) (t u : Tok) (us : List Tok) (c : Class) (n : ℕ) → u .class ≡ c → ((k w : ℕ) → wanted c n ≡ Value k w → ⊥) → itemAnswer (single r t c u us) ≡ aloneAnswer r (t .at) (u .at) (wanted c n)
+unfolding single reason aloneAnswer
+single-answer r t u us c n q h = rw (← wanted-why c n) (by c q h)
   where
-    by : (c : Class) → ((k w : ℕ) → wanted c n ≡ Value k w → ⊥)
-        → itemAnswer (single t c u us) ≡ cond (isOverFound (wanted c n)) (Broken OverLimit (u .at)) (Failed (NoValue (numberOfWhy (whyNot c))) (t .at) (u .at))
-    by (value k) h = absurd (h k n refl)
-    by overLimit h = refl
-    by tag h = refl
-    by block h = refl
-    by loop h = refl
-    by save h = refl
-    by (nothing w) h = refl
+    fails : (c : Class) → u .class ≡ c → itemAnswer (failedBy r 6 (t .at) (numberOfWhy (whyNot c)) (u ∷ us)) ≡ failedAs r (NoValue (numberOfWhy (whyNot c))) (t .at) (u .at) (whyNot c)
+    fails c q = failed-answer r 6 (t .at) (numberOfWhy (whyNot c)) u us ∙ rw q
+
+    by : (c : Class) → u .class ≡ c → ((k w : ℕ) → wanted c n ≡ Value k w → ⊥)
+        → itemAnswer (single r t c u us) ≡ cond (isOverFound (wanted c n)) (Broken OverLimit (u .at)) (failedAs r (NoValue (numberOfWhy (whyNot c))) (t .at) (u .at) (whyNot c))
+    by (value k) q h = absurd (h k n (unfold wanted in refl))
+    by overLimit q h = unfold itemAnswer wanted in refl
+    by tag q h = unfold wanted in fails tag q
+    by block q h = unfold wanted in fails block q
+    by loop q h = unfold wanted in fails loop q
+    by save q h = unfold wanted in fails save q
+    by (nothing w) q h = unfold wanted in fails (nothing w) q
 
 -- THE TAG AT AN OFFSET
-tag-item : (s : List ℕ) (o w : ℕ) → Met inBlock s o (lexed tag w) → itemAt s o ≡ itemAnswer (tagItem (tok (lexed tag w) o) (tokensAt inBlock s (gapEnd s (o + w))))
+tag-item : (r : Reading) (s : List ℕ) (o w : ℕ) → Met r inBlock s o (lexed tag w) → itemAt r s o ≡ itemAnswer (tagItem r (tok (lexed tag w) o) (tokensAt r inBlock s (gapEnd s (o + w))))
 unfolding itemAt item itemBy lexed tok after
-tag-item s o w m = rw (tokens-gap inBlock s (o + w), m .next)
+tag-item r s o w m = rw (tokens-gap r inBlock s (o + w), m .next)
 
 single-size : (t u : Tok) (k : ℕ) → sizesOf (rec 4 t ∷ (rec k u ∷ [])) ≡ added (added noSizes 4 (t .size)) k (u .size)
 unfolding rec
 single-size t u k = sizes-snoc (rec 4 t ∷ []) (rec k u) ∙ rw (sizes-one (rec 4 t))
 
-value-answer : (t : Tok) (s : List ℕ) (p k w : ℕ) → Met inBlock s p (lexed (value k) w) → itemAnswer (tagItem t (tokensAt inBlock s p)) ≡ Single (gapEnd s (p + w)) (added (added noSizes 4 (t .size)) k w)
-unfolding tagItem single itemAnswer lexed tok after
-value-answer t s p k w m = rw (m .next, head-at inBlock s (p + w), single-size t (tok (lexed (value k) w) p) k)
+value-answer : (r : Reading) (t : Tok) (s : List ℕ) (p k w : ℕ) → Met r inBlock s p (lexed (value k) w) → itemAnswer (tagValued r t (tokensAt r inBlock s p)) ≡ Single (gapEnd s (p + w)) (added (added noSizes 4 (t .size)) k w)
+unfolding tagValued single itemAnswer lexed tok after
+value-answer r t s p k w m = rw (m .next, head-at r inBlock s (p + w), single-size t (tok (lexed (value k) w) p) k)
 
-pub item-value : (s : List ℕ) (o k w : ℕ) → gap (drop o s) ≡ 0 → tagAt s o ≡ true → foundAt s (gapEnd s (wordEnd s o)) ≡ Value k w
-    → itemAt s o ≡ Single (gapEnd s (gapEnd s (wordEnd s o) + w)) (added (added noSizes 4 (wordEnd s o - o)) k w)
-unfolding lexed tok
-item-value s o k w g e f =
-    let n = word (drop o s) in
-    let p = gapEnd s (o + n) in
-    let d : o + n - o ≡ n = omega arith in
-    let f′ : foundAt s p ≡ Value k w = rw (word-end s o) at f in
-    rw (word-end s o)
-    (tag-item s o n (met-tag s o g e) ∙ value-answer (tok (lexed tag n) o) s p k w (met-value s p k w (gap-none s (o + n)) f′) ∙ rw d)
+alone-answer : (r : Reading) (t : Tok) (s : List ℕ) (p : ℕ) → gap (drop p s) ≡ 0 → ((k w : ℕ) → foundAt r s p ≡ Value k w → ⊥) → itemAnswer (tagValued r t (tokensAt r inBlock s p)) ≡ aloneAnswer r (t .at) p (foundAt r s p)
+unfolding tagValued tok
+alone-answer r t s p g h =
+    let x = lexIn r (byteBefore s p) inBlock (drop p s) in
+    let q : foundAt r s p ≡ wanted (x .class) (x .size) = found-wanted r inBlock s p in
+    let f = first-in s p g r in
+    rw (f .1, q) (single-answer r t (tok x p) (f .0) (x .class) (x .size) refl (λ k w e. h k w (q ∙ e)))
 
-alone-answer : (t : Tok) (s : List ℕ) (p : ℕ) → gap (drop p s) ≡ 0 → ((k w : ℕ) → foundAt s p ≡ Value k w → ⊥)
-    → itemAnswer (tagItem t (tokensAt inBlock s p)) ≡ cond (isOverFound (foundAt s p)) (Broken OverLimit p) (Failed (NoValue (numberOfWhy (whyFound (foundAt s p)))) (t .at) p)
-unfolding tagItem tok lex
-alone-answer t s p g h =
-    let x = lexIn inBlock (drop p s) in
-    let q : foundAt s p ≡ wanted (x .class) (x .size) = found-wanted inBlock s p in
-    let f = first s p g inBlock in
-    rw (f .1, q) (single-answer t (tok x p) (f .0) (x .class) (x .size) (λ k w e. h k w (q ∙ e)))
+-- a tag by its length, and what stands behind it
+module _ (r : Reading) (s : List ℕ) (o : ℕ) (g : gap (drop o s) ≡ 0) (e : tagAt r s o ≡ true) where
+  tag-of : Tok
+  tag-of = tok (lexed tag (word (drop o s))) o
 
-pub item-alone : (s : List ℕ) (o : ℕ) → gap (drop o s) ≡ 0 → tagAt s o ≡ true → ((k w : ℕ) → foundAt s (gapEnd s (wordEnd s o)) ≡ Value k w → ⊥)
-    → let p = gapEnd s (wordEnd s o) in itemAt s o ≡ cond (isOverFound (foundAt s p)) (Broken OverLimit p) (Failed (NoValue (numberOfWhy (whyFound (foundAt s p)))) o p)
-unfolding lexed tok
-item-alone s o g e h =
-    let n = word (drop o s) in
-    let h′ : (k w : ℕ) → foundAt s (gapEnd s (o + n)) ≡ Value k w → ⊥ = λ k w q. h k w (rw (word-end s o) q) in
-    rw (word-end s o)
-    (tag-item s o n (met-tag s o g e) ∙ alone-answer (tok (lexed tag n) o) s (gapEnd s (o + n)) (gap-none s (o + n)) h′)
+  item-tag : itemAt r s o ≡ itemAnswer (cond (tagFits r (wordEnd s o - o)) (tagValued r tag-of (tokensAt r inBlock s (gapEnd s (wordEnd s o)))) (broken 17 o 0))
+  unfolding tag-of tagItem tok lexed
+  item-tag = tag-item r s o (word (drop o s)) (met-tag s o g r e) ∙ rw (word-size s o, word-end s o)
+
+  pub item-misnamed : tagFits r (wordEnd s o - o) ≡ false → itemAt r s o ≡ Broken BadName o
+  item-misnamed f = item-tag ∙ rw f (unfold itemAnswer in refl)
+
+  module _ (f : tagFits r (wordEnd s o - o) ≡ true) where
+    pub item-value : (k w : ℕ) → foundAt r s (gapEnd s (wordEnd s o)) ≡ Value k w → itemAt r s o ≡ Single (gapEnd s (gapEnd s (wordEnd s o) + w)) (added (added noSizes 4 (wordEnd s o - o)) k w)
+    unfolding tag-of tok lexed
+    item-value k w v =
+        let p = gapEnd s (wordEnd s o) in
+        item-tag ∙ rw f (value-answer r tag-of s p k w (met-value r s p k w (gap-none s (wordEnd s o)) v) ∙ rw (word-size s o))
+
+    pub item-alone : ((k w : ℕ) → foundAt r s (gapEnd s (wordEnd s o)) ≡ Value k w → ⊥) → let p = gapEnd s (wordEnd s o) in itemAt r s o ≡ aloneAnswer r o p (foundAt r s p)
+    unfolding tag-of tok
+    item-alone h = item-tag ∙ rw f (alone-answer r tag-of s (gapEnd s (wordEnd s o)) (gap-none s (wordEnd s o)) h)
 
 -- NO ITEM AT AN OFFSET
-none-answer : (c : Class) (t : Tok) (ts : List Tok) → startsItem c ≡ false → itemAnswer (itemBy c t ts) ≡ Absent (t .at)
+none-answer : (r : Reading) (c : Class) (t : Tok) (ts : List Tok) → startsItem c ≡ false → itemAnswer (itemBy r c t ts) ≡ Absent (t .at)
 unfolding startsItem itemBy itemAnswer headAt
-none-answer loop t ts e = absurd (true≢false e)
-none-answer tag t ts e = absurd (true≢false e)
-none-answer block t ts e = refl
-none-answer save t ts e = refl
-none-answer (value k) t ts e = refl
-none-answer overLimit t ts e = refl
-none-answer (nothing w) t ts e = refl
+none-answer r loop t ts e = absurd (true≢false e)
+none-answer r tag t ts e = absurd (true≢false e)
+none-answer r block t ts e = refl
+none-answer r save t ts e = refl
+none-answer r (value k) t ts e = refl
+none-answer r overLimit t ts e = refl
+none-answer r (nothing w) t ts e = refl
 
-no-item : (u : List ℕ) → starts keyLoop u ≡ false → tagFirst u ≡ false → startsItem (lexIn inBlock u .class) ≡ false
-unfolding tagFirst
-no-item [] e f = unfold lexIn lexed startsItem in refl
-no-item (b ∷ s) e f = lex-other inBlock b s e f
-
-pub item-none : (s : List ℕ) (o : ℕ) → gap (drop o s) ≡ 0 → startsAt keyLoop s o ≡ false → tagAt s o ≡ false → itemAt s o ≡ Absent o
-unfolding itemAt item tagAt lex tok
-item-none s o g e f =
-    let x = lexIn inBlock (drop o s) in
-    let n = first s o g inBlock in
-    rw (n .1) (none-answer (x .class) (tok x o) (n .0) (no-item (drop o s) (sym (starts-at keyLoop s o) ∙ e) f))
+pub item-none : (r : Reading) (s : List ℕ) (o : ℕ) → gap (drop o s) ≡ 0 → loopAt r s o ≡ false → tagAt r s o ≡ false → itemAt r s o ≡ Absent o
+unfolding itemAt item loopAt tagAt tok
+item-none r s o g e f =
+    let x = lexIn r (byteBefore s o) inBlock (drop o s) in
+    let n = first-in s o g r in
+    rw (n .1) (none-answer r (x .class) (tok x o) (n .0) (lex-other r (byteBefore s o) inBlock (drop o s) e f))
 
 -- rows as the code counts them
-pub rows-ragged : (o : ℕ) (names : Names) (values : Values) → (values .count % names .count ≡ 0 → ⊥) → Failed (Ragged (values .count % names .count)) o (values .next) ≡ rowsOf o names values
-unfolding rowsOf
-rows-ragged o names values h = rw (ne-eqb (values .count % names .count) 0 h)
+module _ (r : Reading) (o : ℕ) (names : Names) (values : Values) where
+  pub rows-none : lacksValues r (values .count) ≡ true → Broken (NoValue (numberOfWhy (values .why))) (names .last) ≡ rowsOf r o names values
+  unfolding rowsOf
+  rows-none e = rw e
 
-pub rows-whole : (o : ℕ) (names : Names) (values : Values) → values .count % names .count ≡ 0
-    → Loop (values .next) (added (joined (joined (added noSizes 5 5) (names .sizes)) (values .sizes)) 7 0) (values .why) ≡ rowsOf o names values
-unfolding rowsOf
-rows-whole o names values h = rw h
+  module _ (e : lacksValues r (values .count) ≡ false) where
+    pub rows-ragged : (values .count % names .count ≡ 0 → ⊥) → failedAs r (Ragged (values .count % names .count)) o (values .next) (values .why) ≡ rowsOf r o names values
+    unfolding rowsOf
+    rows-ragged h = rw (e, ne-eqb (values .count % names .count) 0 h)
+
+    pub rows-whole : values .count % names .count ≡ 0 → Loop (values .next) (added (joined (joined (added noSizes 5 5) (names .sizes)) (values .sizes)) 7 0) (values .why) ≡ rowsOf r o names values
+    unfolding rowsOf
+    rows-whole h = rw (e, h)
 
 -- a tag as the code reads it: its end, where what follows stands, and what is found there
-pub record TagRead (s : List ℕ) (o end stop : ℕ) (f : Found) : Type 0 where
+pub record TagRead (r : Reading) (s : List ℕ) (o end stop : ℕ) (f : Found) : Type 0 where
   pub bare : gap (drop o s) ≡ 0
-  pub tagged : tagAt s o ≡ true
+  pub tagged : tagAt r s o ≡ true
   pub ends : end ≡ wordEnd s o
+  pub named : tagFits r (end - o) ≡ true
   pub stops : stop ≡ gapEnd s end
-  pub finds : f ≡ foundAt s stop
+  pub finds : f ≡ foundAt r s stop
 
-module _ {s : List ℕ} {o end stop : ℕ} {f : Found} (r : TagRead s o end stop f) where
-  pub tag-onward : (o < end) × (end ≤ length s)
-  tag-onward = let n = name-step s o (r .bare) (r .tagged) in (rw (r .ends) (n .onward), rw (r .ends) (n .within))
-
+module _ {r : Reading} {s : List ℕ} {o end stop : ℕ} {f : Found} (t : TagRead r s o end stop f) where
   stop-bare : gap (drop stop s) ≡ 0
-  stop-bare = rw (r .stops) (gap-none s end)
+  stop-bare = rw (t .stops) (gap-none s end)
+
+  fits : tagFits r (wordEnd s o - o) ≡ true
+  fits = rw (← t .ends) (t .named)
 
   pub tag-value-within : (k w : ℕ) → f ≡ Value k w → (0 < w) × (stop + w ≤ length s)
-  tag-value-within k w e = let v = value-step s stop k w stop-bare (sym (r .finds) ∙ e) in (v .some-bytes, v .within)
+  tag-value-within k w e = let v = value-step r s stop k w stop-bare (sym (t .finds) ∙ e) in (v .some-bytes, v .within)
 
-  pub tag-value : (k w next : ℕ) (z : Sizes) → f ≡ Value k w → next ≡ gapEnd s (stop + w) → z ≡ added (added noSizes 4 (end - o)) k w → Single next z ≡ itemAt s o
+  pub tag-value : (k w next : ℕ) (z : Sizes) → f ≡ Value k w → next ≡ gapEnd s (stop + w) → z ≡ added (added noSizes 4 (end - o)) k w → Single next z ≡ itemAt r s o
   tag-value k w next z e p q =
-      rw (p, q, r .stops, r .ends) (sym (item-value s o k w (r .bare) (r .tagged) (rw (← r .ends, ← r .stops) (sym (r .finds) ∙ e))))
+      rw (p, q, t .stops, t .ends) (sym (item-value r s o (t .bare) (t .tagged) fits k w (rw (← t .ends, ← t .stops) (sym (t .finds) ∙ e))))
 
-  pub tag-alone : ((k w : ℕ) → f ≡ Value k w → ⊥) → cond (isOverFound f) (Broken OverLimit stop) (Failed (NoValue (numberOfWhy (whyFound f))) o stop) ≡ itemAt s o
+  pub tag-alone : ((k w : ℕ) → f ≡ Value k w → ⊥) → aloneAnswer r o stop f ≡ itemAt r s o
   tag-alone n =
-      rw (r .finds, r .stops, r .ends) (sym (item-alone s o (r .bare) (r .tagged) (λ k w e. n k w (rw (r .finds, r .stops, r .ends) e))))
+      rw (t .finds, t .stops, t .ends) (sym (item-alone r s o (t .bare) (t .tagged) fits (λ k w e. n k w (rw (t .finds, t .stops, t .ends) e))))
 
 -- a loop as the code reads it
-module _ (s : List ℕ) (o : ℕ) (g : gap (drop o s) ≡ 0) (e : startsAt keyLoop s o ≡ true) (names : Names) (n : names ≡ namesAt s (o + 5)) where
+module _ (r : Reading) (s : List ℕ) (o : ℕ) (g : gap (drop o s) ≡ 0) (e : loopAt r s o ≡ true) (names : Names) (n : names ≡ namesAt r s (o + 5)) where
   pub loop-from : o + 5 ≤ length s
   unfolding lexed
-  loop-from = met-loop s o g e .within
+  loop-from = met-loop s o g r e .within
 
   pub loop-named : (o + 5 ≤ names .next) × (names .next ≤ length s) × (gap (drop (names .next) s) ≡ 0) × Upto (names .next - (o + 5)) (names .sizes)
-  loop-named = let h = names-end s (o + 5) loop-from in rw n (h .onward, h .within, h .bare, h .fits)
+  loop-named = let h = names-end r s (o + 5) loop-from in rw n (h .onward, h .within, h .bare, h .fits)
 
-  pub loop-none : names .count ≡ 0 → Broken NoNames o ≡ itemAt s o
+  pub loop-misnamed : tagAt r s (names .next) ≡ true → Broken BadName (names .next) ≡ itemAt r s o
   unfolding loopAnswer
-  loop-none z = sym (item-loop s o g e ∙ rw (← n, z))
+  loop-misnamed z = sym (item-loop r s o g e ∙ rw (← n, z))
 
-  loop-some : (values : Values) → values ≡ valuesAt s (names .next) → (names .count ≡ 0 → ⊥) → itemAt s o ≡ cond (values .over) (Broken OverLimit (values .next)) (rowsOf o names values)
-  unfolding loopAnswer
-  loop-some values v h = item-loop s o g e ∙ rw (← n, ← v, ne-eqb (names .count) 0 h)
+  module _ (untagged : tagAt r s (names .next) ≡ false) where
+    pub loop-none : names .count ≡ 0 → Broken NoNames o ≡ itemAt r s o
+    unfolding loopAnswer
+    loop-none z = sym (item-loop r s o g e ∙ rw (← n, untagged, z))
 
-  module _ (values : Values) (v : values ≡ valuesAt s (names .next)) (h : names .count ≡ 0 → ⊥) where
-    pub loop-valued : Upto (values .next - names .next) (values .sizes) × (values .next ≤ length s)
-    loop-valued = let x = values-end s (names .next) (loop-named .1) in rw v (x .fits, x .within)
+    loop-some : (values : Values) → values ≡ valuesAt r s (names .next) → (names .count ≡ 0 → ⊥) → itemAt r s o ≡ cond (values .over) (Broken OverLimit (values .next)) (rowsOf r o names values)
+    unfolding loopAnswer
+    loop-some values v h = item-loop r s o g e ∙ rw (← n, untagged, ← v, ne-eqb (names .count) 0 h)
 
-    pub loop-over : values .over ≡ true → Broken OverLimit (values .next) ≡ itemAt s o
-    loop-over c = sym (loop-some values v h ∙ rw c)
+    module _ (values : Values) (v : values ≡ valuesAt r s (names .next)) (h : names .count ≡ 0 → ⊥) where
+      pub loop-valued : Upto (values .next - names .next) (values .sizes) × (values .next ≤ length s)
+      loop-valued = let x = values-end r s (names .next) (loop-named .1) in rw v (x .fits, x .within)
 
-    pub loop-rows : values .over ≡ false → rowsOf o names values ≡ itemAt s o
-    loop-rows c = sym (loop-some values v h ∙ rw c)
+      pub loop-over : values .over ≡ true → Broken OverLimit (values .next) ≡ itemAt r s o
+      loop-over c = sym (loop-some values v h ∙ rw c)
+
+      pub loop-rows : values .over ≡ false → rowsOf r o names values ≡ itemAt r s o
+      loop-rows c = sym (loop-some values v h ∙ rw c)

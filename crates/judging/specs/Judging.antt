@@ -1,8 +1,9 @@
--- Judging a text, before any room is looked at: a refusal, 1 to 9, or the room that its records need. Assumes nothing.
+-- Judging a text, before any room is looked at: a refusal, or the room that its records need. Assumes nothing.
 use Prim.Native.Nat.{ℕ}
 use mathlib.Core.Bool.{Bool, true, false, cond}
 use mathlib.Core.Path.{_≡_}
 use mathlib.Core.List.{List}
+use Rattle.rules.specs.declared.Reading.{Reading}
 use Rattle.places.specs.declared.Report.{Report}
 use Rattle.places.specs.Reports.{success}
 use Rattle.grammar.specs.Machine.{Rec, Answer, refused, done}
@@ -37,7 +38,7 @@ declined s t =
     (record { isRead = false; report = refusal s (t .number) (t .offset) (t .detail); sizes = noSizes })
 
 -- s is read, and its records take this room
-pub record IsRead (s : List ℕ) (z : Sizes) : Type 0 where
+pub record IsRead (r : Reading) (s : List ℕ) (z : Sizes) : Type 0 where
   pub records : List Rec
-  pub answer : outline s ≡ done records
+  pub answer : outline r s ≡ done records
   pub sizes : z ≡ sizesOf records

@@ -1,11 +1,17 @@
-// What a text comes to before any room is looked at: its refusal, 1 to 9, with its place, or the room that its records need.
+// What a text comes to before any room is looked at: its refusal with its place, or the room that its records need.
 ghost use mathlib.Core.Path.{_≡_};
-ghost use Rattle.grammar.specs.Reading.{outline as outlineOf};
-ghost use Rattle.deciding.specs.Decisions.{told};
+ghost use Prim.Native.Nat.{_≤_};
+ghost use lib.ListN.{length};
+ghost use Rattle.rules.specs.declared.Reading.the-variants.{Strict};
+ghost use Rattle.text.specs.Limits.{limit};
+ghost use Rattle.grammar.specs.Reading.{decided, checked, outline as outlineOf};
+ghost use Rattle.deciding.specs.Decisions.{told, tells};
 ghost use Rattle.judging.specs.Judging.{judgement, judgedAs, declined};
 use deciding::Decision;
 use grammar::Cause;
+use lines::Screen;
 use refusals::Refusal;
+use rules::Reading;
 use sizes::Sizes;
 
 // The bytes of the largest text.
@@ -32,9 +38,39 @@ fn placed(s: &[u8], decision: Decision) -> Judged
     }
 }
 
-// The two limits first, then what the tokens say.
-pub fn judge(s: &[u8]) -> Judged
-    ensures { λ r. ⌜ judgedAs r ≡ judgement (now (s .entry)) (outlineOf (now (s .entry))) ⌝ }
+// What a text comes to in the strict reading: long lines and control bytes first, then what the tokens say.
+fn decide_screened(s: &[u8]) -> Decision
+    requires { ⌜ length (now s) ≤ limit ⌝ }
+    ensures { λ r. ⌜ told r ≡ tells (checked Strict (now (s .entry)) (decided Strict (now (s .entry)))) ⌝ }
+{
+    let screen = lines::screen_bytes(s);
+    match screen {
+        Screen::Fine => deciding::lex_cif(Reading::Strict, s),
+        Screen::LongLine { at } => Decision::Refused {
+            cause: Cause::LongLine,
+            at,
+        },
+        Screen::Control { at } => Decision::Refused {
+            cause: Cause::ControlByte,
+            at,
+        },
+    }
+}
+
+// What a text within the limits comes to.
+fn decide(reading: Reading, s: &[u8]) -> Decision
+    requires { ⌜ length (now s) ≤ limit ⌝ }
+    ensures { λ r. ⌜ told r ≡ tells (checked reading (now (s .entry)) (decided reading (now (s .entry)))) ⌝ }
+{
+    match reading {
+        Reading::First => deciding::lex_cif(Reading::First, s),
+        Reading::Strict => decide_screened(s),
+    }
+}
+
+// The two limits first, then what the bytes and the tokens say.
+pub fn judge(reading: Reading, s: &[u8]) -> Judged
+    ensures { λ r. ⌜ judgedAs r ≡ judgement (now (s .entry)) (outlineOf reading (now (s .entry))) ⌝ }
 {
     if LIMIT < s.len() {
         return Judged::Declines {
@@ -50,5 +86,5 @@ pub fn judge(s: &[u8]) -> Judged
             },
         };
     }
-    placed(s, deciding::lex_cif(s))
+    placed(s, decide(reading, s))
 }

@@ -1,5 +1,6 @@
 -- Laws of keywords. Assumes nothing.
 use Prim.Native.Nat.{ℕ, suc, _+_, _≤_, _<_}
+use Prim.Native.Char.{code}
 use mathlib.Core.Path.{_≡_, refl, sym, ap, ap₂, _∙_}
 use mathlib.Core.Bool.{Bool, true, false, cond, not, _&&_, _||_, or-false, true≢false}
 use mathlib.Core.List.{List, [], _∷_}
@@ -9,13 +10,15 @@ use borrow.Author.Tests.{eq-eqb, ne-eqb, eqb-true, leb-true}
 use lib.Dec.{leb, eqb}
 use lib.ListN.{length, drop, getD, drop-of-length-le}
 use lib.Seq.{drop-cons}
-use Rattle.text.specs.Bytes.{is, endsWord}
+use Rattle.rules.specs.declared.Reading.{Reading}
+use Rattle.rules.specs.declared.Reading.the-variants.{First, Strict}
+use Rattle.text.specs.Bytes.{bytes, is, endsWord}
 use Rattle.text.proofs.Bools.{and-l, and-r}
 use Rattle.text.proofs.Ranges.{allBelow, passes, fails}
 use Rattle.words.specs.Words.{inWord, word}
 use Rattle.words.proofs.Words.{word-next}
 use Rattle.folding.specs.Folding.{lower}
-use Rattle.keywords.specs.Keywords.{starts, startsAt, keyData, keyGlobal, keyLoop, keySave, keyStop, reserved}
+use Rattle.keywords.specs.Keywords.{starts, startsAt, keyData, keyGlobal, keyLoop, keySave, keyStop, isWord, stands, reserved}
 
 -- letter by letter: what is left to compare from letter i of k on and from offset o of s on
 unfoldable pub rest : List ℕ → List ℕ → ℕ → ℕ → Bool
@@ -101,43 +104,59 @@ first c k s o x h e = rw (drop-cons s o 0, e) (twice (eqb x c) (starts k (drop (
     twice true b = refl
     twice false b = refl
 
--- each of the five, behind the test of its first letter
-reserved-first : (s : List ℕ) (o x : ℕ) → o < length s → lower (getD s o 0) ≡ x → reserved (drop o s) ≡ ((eqb x 100 && startsAt keyData s o) || (eqb x 103 && startsAt keyGlobal s o) || (eqb x 108 && startsAt keyLoop s o) || (eqb x 115 && startsAt keySave s o) || (eqb x 115 && startsAt keyStop s o))
-unfolding reserved startsAt keyData keyGlobal keyLoop keySave keyStop
-reserved-first s o x h e =
-    ap₂ _||_
-    (ap₂ _||_ (ap₂ _||_ (ap₂ _||_ (first 100 _ s o x h e) (first 103 _ s o x h e)) (first 108 _ s o x h e)) (first 115 _ s o x h e))
-    (first 115 _ s o x h e)
+-- the same of one that the strict reading knows as a whole word
+first-by : (r : Reading) (c : ℕ) (k s : List ℕ) (o x : ℕ) → o < length s → lower (getD s o 0) ≡ x → stands r (c ∷ k) (drop o s) ≡ (eqb x c && stands r (c ∷ k) (drop o s))
+unfolding isWord
+first-by First c k s o x h e = first c k s o x h e
+first-by Strict c k s o x h e = by (eqb x c) (starts (c ∷ k) (drop o s)) (eqb (word (drop o s)) (length (c ∷ k))) (first c k s o x h e)
+  where
+    by : (a b d : Bool) → b ≡ (a && b) → (b && d) ≡ (a && (b && d))
+    by true b d q = refl
+    by false b d q = rw q
 
-module _ (s : List ℕ) (o : ℕ) (h : o < length s) where
-  pub reserved-d : lower (getD s o 0) ≡ 100 → reserved (drop o s) ≡ startsAt keyData s o
-  reserved-d e = reserved-first s o 100 h e ∙ simp or-false
+module _ (r : Reading) where
+  -- each of the five, behind the test of its first letter
+  reserved-first : (s : List ℕ) (o x : ℕ) → o < length s → lower (getD s o 0) ≡ x → reserved r (drop o s) ≡ ((eqb x 100 && startsAt keyData s o) || (eqb x 103 && stands r keyGlobal (drop o s)) || (eqb x 108 && stands r keyLoop (drop o s)) || (eqb x 115 && startsAt keySave s o) || (eqb x 115 && stands r keyStop (drop o s)))
+  unfolding reserved startsAt keyData keyGlobal keyLoop keySave keyStop
+  reserved-first s o x h e =
+      ap₂ _||_
+      (ap₂ _||_ (ap₂ _||_ (ap₂ _||_ (first 100 _ s o x h e) (first-by r 103 _ s o x h e)) (first-by r 108 _ s o x h e)) (first 115 _ s o x h e))
+      (first-by r 115 _ s o x h e)
 
-  pub reserved-g : lower (getD s o 0) ≡ 103 → reserved (drop o s) ≡ startsAt keyGlobal s o
-  reserved-g e = reserved-first s o 103 h e ∙ simp or-false
+  module _ (s : List ℕ) (o : ℕ) (h : o < length s) where
+    pub reserved-d : lower (getD s o 0) ≡ 100 → reserved r (drop o s) ≡ startsAt keyData s o
+    reserved-d e = reserved-first s o 100 h e ∙ simp or-false
 
-  pub reserved-l : lower (getD s o 0) ≡ 108 → reserved (drop o s) ≡ startsAt keyLoop s o
-  reserved-l e = reserved-first s o 108 h e ∙ simp or-false
+    pub reserved-g : lower (getD s o 0) ≡ 103 → reserved r (drop o s) ≡ stands r keyGlobal (drop o s)
+    reserved-g e = reserved-first s o 103 h e ∙ simp or-false
 
-  pub reserved-s : lower (getD s o 0) ≡ 115 → reserved (drop o s) ≡ (startsAt keySave s o || startsAt keyStop s o)
-  reserved-s e = reserved-first s o 115 h e
+    pub reserved-l : lower (getD s o 0) ≡ 108 → reserved r (drop o s) ≡ stands r keyLoop (drop o s)
+    reserved-l e = reserved-first s o 108 h e ∙ simp or-false
 
-  pub reserved-none : (x : ℕ) → lower (getD s o 0) ≡ x → (x ≡ 100 → ⊥) → (x ≡ 103 → ⊥) → (x ≡ 108 → ⊥) → (x ≡ 115 → ⊥) → reserved (drop o s) ≡ false
-  reserved-none x e d g l t = reserved-first s o x h e ∙ rw (ne-eqb x 100 d, ne-eqb x 103 g, ne-eqb x 108 l, ne-eqb x 115 t)
+    pub reserved-s : lower (getD s o 0) ≡ 115 → reserved r (drop o s) ≡ (startsAt keySave s o || stands r keyStop (drop o s))
+    reserved-s e = reserved-first s o 115 h e
+
+    pub reserved-none : (x : ℕ) → lower (getD s o 0) ≡ x → (x ≡ 100 → ⊥) → (x ≡ 103 → ⊥) → (x ≡ 108 → ⊥) → (x ≡ 115 → ⊥) → reserved r (drop o s) ≡ false
+    reserved-none x e d g l t = reserved-first s o x h e ∙ rw (ne-eqb x 100 d, ne-eqb x 103 g, ne-eqb x 108 l, ne-eqb x 115 t)
 
 -- none at the end, nor where the byte is below `D`
-pub reserved-over : (s : List ℕ) (o : ℕ) → length s ≤ o → reserved (drop o s) ≡ false
-unfolding reserved starts keyData keyGlobal keyLoop keySave keyStop
-reserved-over s o h = rw (drop-of-length-le s h)
+no-bytes : (r : Reading) (c : ℕ) (k : List ℕ) → stands r (c ∷ k) [] ≡ false
+unfolding isWord starts
+no-bytes First c k = refl
+no-bytes Strict c k = refl
 
-pub reserved-low : (s : List ℕ) (o : ℕ) → o < length s → getD s o 0 < 68 → reserved (drop o s) ≡ false
+pub reserved-over : (r : Reading) (s : List ℕ) (o : ℕ) → length s ≤ o → reserved r (drop o s) ≡ false
+unfolding reserved starts keyData keyGlobal keyLoop keySave keyStop
+reserved-over r s o h = rw (drop-of-length-le s h, no-bytes r (code "g") (bytes "lobal_"), no-bytes r (code "l") (bytes "oop_"), no-bytes r (code "s") (bytes "top_"))
+
+pub reserved-low : (r : Reading) (s : List ℕ) (o : ℕ) → o < length s → getD s o 0 < 68 → reserved r (drop o s) ≡ false
 unfolding lower
-reserved-low s o h l =
+reserved-low r s o h l =
     let b = getD s o 0 in
     let no : (c : ℕ) → allBelow (λ k. not (eqb (lower (0 + k)) c)) 68 ≡ true → eqb (lower b) c ≡ false = λ c t. fails (λ x. eqb (lower x) c) 0 68 t b (omega arith) (omega arith) in
-    reserved-first s o (lower b) h refl ∙ rw (no 100 refl, no 103 refl, no 108 refl, no 115 refl)
+    reserved-first r s o (lower b) h refl ∙ rw (no 100 refl, no 103 refl, no 108 refl, no 115 refl)
 
--- the five reserved words
-pub reserved-words : (s : List ℕ) → reserved s ≡ (starts keyData s || starts keyGlobal s || starts keyLoop s || starts keySave s || starts keyStop s)
+-- the five reserved words, one by one
+pub reserved-words : (r : Reading) (s : List ℕ) → reserved r s ≡ (starts keyData s || stands r keyGlobal s || stands r keyLoop s || starts keySave s || stands r keyStop s)
 unfolding reserved
-reserved-words s = refl
+reserved-words r s = refl

@@ -7,6 +7,7 @@ use native.Mathlib.Omega.{arith}
 use borrow.Author.Tests.{leb-true, leb-false, eqb-false, not-true}
 use lib.Dec.{leb, eqb}
 use lib.ListN.{length, drop, getD}
+use Rattle.rules.specs.declared.Reading.{Reading}
 use Rattle.text.specs.Bytes.{is}
 use Rattle.text.proofs.Bools.{and-l, and-r, or-l, or-r}
 use Rattle.text.proofs.Ranges.{allBelow, passes}
@@ -36,12 +37,12 @@ free-letter-is f t b e =
     rw e at (passes (λ x. not (isFreeLetter x) || f x) 65 58 t b (r .0) (omega arith))
 
 -- where such a letter stands, no reserved word does
-pub free-letter : (s : List ℕ) (o : ℕ) → o < length s → isFreeLetter (getD s o 0) ≡ true → reserved (drop o s) ≡ false
+pub free-letter : (r : Reading) (s : List ℕ) (o : ℕ) → o < length s → isFreeLetter (getD s o 0) ≡ true → reserved r (drop o s) ≡ false
 unfolding isFreeLetter is
-free-letter s o h e =
+free-letter r s o h e =
     let c = lower (getD s o 0) in
     let f = and-r (leb 97 c) _ e in
     let n0 : (eqb c 100 || (eqb c 103 || (eqb c 108 || eqb c 115))) ≡ false = not-true _ (and-r (leb c 122) _ f) in
     let n1 : (eqb c 103 || (eqb c 108 || eqb c 115)) ≡ false = or-r (eqb c 100) _ n0 in
     let n2 : (eqb c 108 || eqb c 115) ≡ false = or-r (eqb c 103) _ n1 in
-    reserved-none s o h c refl (eqb-false c 100 (or-l (eqb c 100) _ n0)) (eqb-false c 103 (or-l (eqb c 103) _ n1)) (eqb-false c 108 (or-l (eqb c 108) _ n2)) (eqb-false c 115 (or-r (eqb c 108) _ n2))
+    reserved-none r s o h c refl (eqb-false c 100 (or-l (eqb c 100) _ n0)) (eqb-false c 103 (or-l (eqb c 103) _ n1)) (eqb-false c 108 (or-l (eqb c 108) _ n2)) (eqb-false c 115 (or-r (eqb c 108) _ n2))

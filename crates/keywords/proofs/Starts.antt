@@ -3,20 +3,37 @@ use Prim.Native.Nat.{ℕ, _≤_}
 use mathlib.Core.Bool.{Bool, true, false, not, _&&_, _||_, true≢false, false≢true}
 use mathlib.Core.Path.{_≡_, refl, sym, _∙_}
 use mathlib.Core.List.{List, [], _∷_}
-use borrow.Author.Tests.{eqb-true}
+use borrow.Author.Tests.{eqb-true, eq-eqb}
 use lib.Dec.{eqb}
-use lib.ListN.{drop}
+use lib.ListN.{length, drop}
+use Rattle.rules.specs.declared.Reading.{Reading}
+use Rattle.rules.specs.declared.Reading.the-variants.{First, Strict}
 use Rattle.text.specs.Bytes.{is}
 use Rattle.text.proofs.Bools.{and-l, and-r}
 use Rattle.words.specs.Words.{word}
 use Rattle.folding.specs.Folding.{lower}
-use Rattle.keywords.specs.Keywords.{starts, startsAt, keyData, keyGlobal, keyLoop, keySave, keyStop, reserved}
+use Rattle.keywords.specs.Keywords.{starts, startsAt, keyData, keyGlobal, keyLoop, keySave, keyStop, isWord, stands, reserved}
 use Rattle.keywords.proofs.Keywords.{data-word, save-word}
 
 -- at an offset means at the start of the rest
 pub starts-at : (k s : List ℕ) (o : ℕ) → startsAt k s o ≡ starts k (drop o s)
 unfolding startsAt
 starts-at k s o = refl
+
+-- a keyword that stands as a whole word is a prefix
+pub stands-starts : (r : Reading) (k s : List ℕ) → stands r k s ≡ true → starts k s ≡ true
+unfolding isWord
+stands-starts First k s e = e
+stands-starts Strict k s e = and-l (starts k s) _ e
+
+-- a keyword that is a whole word is as long as that
+pub word-is : (k s : List ℕ) → stands Strict k s ≡ true → word s ≡ length k
+unfolding isWord
+word-is k s e = eqb-true (word s) (length k) (and-r (starts k s) _ e)
+
+pub word-stands : (k s : List ℕ) → starts k s ≡ true → word s ≡ length k → stands Strict k s ≡ true
+unfolding isWord
+word-stands k s e f = rw (e, eq-eqb _ _ f)
 
 -- none of the five stands at the start of s
 pub record NoKeyword (s : List ℕ) : Type 0 where
@@ -26,8 +43,8 @@ pub record NoKeyword (s : List ℕ) : Type 0 where
   pub no-save : starts keySave s ≡ false
   pub no-stop : starts keyStop s ≡ false
 
--- where no reserved word stands, none of the five does
-pub not-reserved : (s : List ℕ) → reserved s ≡ false → NoKeyword s
+-- where no reserved word of the first reading stands, none of the five does
+pub not-reserved : (s : List ℕ) → reserved First s ≡ false → NoKeyword s
 unfolding reserved
 not-reserved s e = by (starts keyData s) (starts keyGlobal s) (starts keyLoop s) (starts keySave s) (starts keyStop s) refl refl refl refl refl e
   where

@@ -1,11 +1,15 @@
--- Keywords (document 01): they match in any letter case, as prefixes. Assumes nothing.
+-- Keywords (document 01): they match in any letter case, as prefixes; in the strict reading `loop_`, `global_` and `stop_` match as whole words alone (document 02,
+-- Three). Assumes nothing.
 use Prim.Native.Nat.{ℕ}
 use mathlib.Core.Bool.{Bool, true, false, not, _&&_, _||_}
 use Prim.Native.Char.{code}
 use mathlib.Core.List.{List, [], _∷_}
-use lib.Dec.{leb}
-use lib.ListN.{drop}
+use lib.Dec.{leb, eqb}
+use lib.ListN.{length, drop}
+use Rattle.rules.specs.declared.Reading.{Reading}
+use Rattle.rules.specs.declared.Reading.the-variants.{First, Strict}
 use Rattle.text.specs.Bytes.{bytes, is}
+use Rattle.words.specs.Words.{word}
 use Rattle.folding.specs.Folding.{lower}
 
 -- s starts with the keyword k, which is written in lower case, in any letter case
@@ -33,9 +37,18 @@ keySave = bytes "save_"
 unfoldable pub keyStop : List ℕ
 keyStop = bytes "stop_"
 
+-- s starts with a word that is the keyword k
+unfoldable pub isWord : List ℕ → List ℕ → Bool
+isWord k s = starts k s && eqb (word s) (length k)
+
+-- `loop_`, `global_` or `stop_` stands at the start of s: `loop_x` is a word like any other in the strict reading
+abbrev pub stands : Reading → List ℕ → List ℕ → Bool
+stands First k s = starts k s
+stands Strict k s = isWord k s
+
 -- no value starts with one of the five
-unfoldable pub reserved : List ℕ → Bool
-reserved s = starts keyData s || starts keyGlobal s || starts keyLoop s || starts keySave s || starts keyStop s
+unfoldable pub reserved : Reading → List ℕ → Bool
+reserved r s = starts keyData s || stands r keyGlobal s || stands r keyLoop s || starts keySave s || stands r keyStop s
 
 -- a letter that none of the five starts with: not d, g, l, s in either case
 unfoldable pub isFreeLetter : ℕ → Bool

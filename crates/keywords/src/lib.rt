@@ -1,8 +1,9 @@
-// Keywords: in any letter case, as prefixes.
+// Keywords: in any letter case, as prefixes; in the strict reading three of them as whole words alone.
 ghost use mathlib.Core.Path.{_≡_};
 ghost use Prim.Native.Nat.{_<_};
 ghost use lib.ListN.{drop};
-ghost use Rattle.keywords.specs.Keywords.{startsAt, keyData, keyLoop, keySave, reserved, isFreeLetter};
+ghost use Rattle.keywords.specs.Keywords.{startsAt, keyData, keyLoop, keySave, isWord, stands, reserved, isFreeLetter};
+use rules::Reading;
 
 // Whether a keyword, written in lower case, stands at an offset in any letter case.
 pub fn start_with(s: &[u8], at: usize, key: &[u8]) -> bool
@@ -44,9 +45,29 @@ pub fn at_save(s: &[u8], at: usize) -> bool
     start_with(s, at, b"save_")
 }
 
+// Whether a keyword is the whole word at an offset, in any letter case.
+fn is_word(s: &[u8], at: usize, key: &[u8]) -> bool
+    ensures { λ r. ⌜ r ≡ isWord (now (key .entry)) (drop at (now (s .entry))) ⌝ }
+{
+    if !start_with(s, at, key) {
+        return false;
+    }
+    words::parse_identifier(s, at) - at == key.len()
+}
+
+// Whether `loop_`, `global_` or `stop_` stands at an offset: as a prefix, or in the strict reading as a whole word.
+pub fn stands_at(reading: Reading, s: &[u8], at: usize, key: &[u8]) -> bool
+    ensures { λ r. ⌜ r ≡ stands reading (now (key .entry)) (drop at (now (s .entry))) ⌝ }
+{
+    match reading {
+        Reading::First => start_with(s, at, key),
+        Reading::Strict => is_word(s, at, key),
+    }
+}
+
 // Whether one of the five words that start no value stands at an offset. The first byte decides which can.
-pub fn is_reserved(s: &[u8], at: usize) -> bool
-    ensures { λ r. ⌜ r ≡ reserved (drop at (now (s .entry))) ⌝ }
+pub fn is_reserved(reading: Reading, s: &[u8], at: usize) -> bool
+    ensures { λ r. ⌜ r ≡ reserved reading (drop at (now (s .entry))) ⌝ }
 {
     if s.len() <= at {
         return false;
@@ -60,10 +81,10 @@ pub fn is_reserved(s: &[u8], at: usize) -> bool
         return at_data(s, at);
     }
     if first == b'g' {
-        return start_with(s, at, b"global_");
+        return stands_at(reading, s, at, b"global_");
     }
     if first == b'l' {
-        return at_loop(s, at);
+        return stands_at(reading, s, at, b"loop_");
     }
     if first != b's' {
         return false;
@@ -71,7 +92,7 @@ pub fn is_reserved(s: &[u8], at: usize) -> bool
     if at_save(s, at) {
         return true;
     }
-    start_with(s, at, b"stop_")
+    stands_at(reading, s, at, b"stop_")
 }
 
 // Whether a byte is a letter that no reserved word starts with.

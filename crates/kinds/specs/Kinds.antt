@@ -1,12 +1,12 @@
--- The kinds of records (document 01, 'Records'): their numbers, the shapes of their bodies, the lengths of those, and
+-- The kinds of records (document 01, 'Records'; 21 is document 02's, Three): their numbers, the shapes of their bodies, the lengths of those, and
 -- the marks that a token has and its content has not. Assumes nothing.
 use Prim.Native.Nat.{ℕ}
-use mathlib.Core.Bool.{Bool, true, false, cond}
-use lib.Dec.{eqb}
+use mathlib.Core.Bool.{Bool, true, false, cond, _&&_, _||_}
+use lib.Dec.{eqb, leb}
 use Rattle.kinds.specs.declared.Kind.{Kind}
 use Rattle.kinds.specs.declared.Kind.the-variants.{NoKind, Block, FrameOpen, FrameClose, Tag, Loop, LoopTag}
 use Rattle.kinds.specs.declared.Kind.the-variants.{LoopEnd, Inapplicable, Unknown, Bare, SingleQuoted}
-use Rattle.kinds.specs.declared.Kind.the-variants.{DoubleQuoted, Multiline, Number, Uncertain}
+use Rattle.kinds.specs.declared.Kind.the-variants.{DoubleQuoted, Multiline, Number, Uncertain, Quoted}
 use Rattle.kinds.specs.declared.Shape.{Shape}
 use Rattle.kinds.specs.declared.Shape.the-variants.{Empty, Place, Content, Count, Parts, PartsUncertain}
 
@@ -27,6 +27,7 @@ numberOf DoubleQuoted = 12
 numberOf Multiline = 13
 numberOf Number = 14
 numberOf Uncertain = 15
+numberOf Quoted = 21
 
 -- the kind of a number
 unfoldable pub kindOf : ℕ → Kind
@@ -45,7 +46,8 @@ kindOf k =
     (cond (eqb k 12) DoubleQuoted
     (cond (eqb k 13) Multiline
     (cond (eqb k 14) Number
-    (cond (eqb k 15) Uncertain NoKind))))))))))))))
+    (cond (eqb k 15) Uncertain
+    (cond (eqb k 21) Quoted NoKind)))))))))))))))
 
 unfoldable pub shapeOf : Kind → Shape
 shapeOf NoKind = Empty
@@ -64,6 +66,7 @@ shapeOf DoubleQuoted = Content
 shapeOf Multiline = Content
 shapeOf Number = Parts
 shapeOf Uncertain = PartsUncertain
+shapeOf Quoted = Content
 
 -- the bytes of a body
 unfoldable pub shapeLength : Shape → ℕ
@@ -83,7 +86,7 @@ outlineShape Count = Place
 outlineShape Parts = Place
 outlineShape PartsUncertain = Place
 
--- the bytes of a token that are no content: `data_` and `save_`, `_`, two marks
+-- the bytes of a token that are no content: `data_` and `save_`, `_`, two marks; a quoted value of the strict reading keeps the mark that opens it
 unfoldable pub marksOf : Kind → ℕ
 marksOf NoKind = 0
 marksOf Block = 5
@@ -101,6 +104,7 @@ marksOf DoubleQuoted = 2
 marksOf Multiline = 2
 marksOf Number = 0
 marksOf Uncertain = 0
+marksOf Quoted = 1
 
 -- how many of them stand before the content
 unfoldable pub opening : Kind → ℕ
@@ -120,6 +124,7 @@ opening DoubleQuoted = 1
 opening Multiline = 1
 opening Number = 0
 opening Uncertain = 0
+opening Quoted = 0
 
 -- a body with an area offset has content
 unfoldable pub isContent : Shape → Bool
@@ -139,3 +144,7 @@ outlineLength k = shapeLength (outlineShape (shapeOf (kindOf k)))
 
 unfoldable pub hasContent : ℕ → Bool
 hasContent k = isContent (shapeOf (kindOf k))
+
+-- the kinds of values: 8 to 15, and 21 of the strict reading
+unfoldable pub isValueKind : ℕ → Bool
+isValueKind k = (leb 8 k && leb k 15) || eqb k 21

@@ -5,7 +5,7 @@ ghost use lib.ListN.{length};
 ghost use Rattle.kinds.specs.Kinds.{kindOf, numberOf, shapeOf, shapeLength, marksOf, opening as openingOf};
 ghost use Rattle.kinds.specs.Kinds.{bodyLength, outlineLength};
 
-// The kinds of records, as document 01 numbers them; `NoKind` stands for every other number.
+// The kinds of records, as document 01 and document 02 number them; `NoKind` stands for every other number.
 pub enum Kind {
     NoKind,
     Block,
@@ -23,6 +23,7 @@ pub enum Kind {
     Multiline,
     Number,
     Uncertain,
+    Quoted,
 }
 
 // The shapes of bodies: nothing; a place; a place and an area offset; a place and a count of tags; a place and decimal
@@ -68,6 +69,9 @@ impl Kind {
 
     pub const UNCERTAIN: u8 = 15;
 
+    // Document 02's, of the strict reading.
+    pub const QUOTED: u8 = 21;
+
     // Offset, length, line and column: document 01's P.
     pub const PLACE: usize = 16;
 
@@ -95,6 +99,9 @@ impl Kind {
     // One of them before it.
     pub const QUOTE_OPENING: usize = 1;
 
+    // The one that closes a quoted value, where the mark that opens it is content.
+    pub const CLOSING_MARK: usize = 1;
+
     // The kind of a number.
     pub fn of(number: u8) -> Kind
         ensures { λ r. ⌜ r ≡ kindOf number ⌝ }
@@ -115,6 +122,7 @@ impl Kind {
             13 => Kind::Multiline,
             14 => Kind::Number,
             15 => Kind::Uncertain,
+            21 => Kind::Quoted,
             _ => Kind::NoKind,
         }
     }
@@ -140,6 +148,7 @@ impl Kind {
             Kind::Multiline => Self::MULTILINE,
             Kind::Number => Self::NUMBER,
             Kind::Uncertain => Self::UNCERTAIN,
+            Kind::Quoted => Self::QUOTED,
         }
     }
 
@@ -165,6 +174,7 @@ impl Kind {
             Kind::Block | Kind::FrameOpen => Self::HEADING_MARKS,
             Kind::Tag | Kind::LoopTag => Self::TAG_MARKS,
             Kind::SingleQuoted | Kind::DoubleQuoted | Kind::Multiline => Self::QUOTE_MARKS,
+            Kind::Quoted => Self::CLOSING_MARK,
             _ => 0,
         }
     }

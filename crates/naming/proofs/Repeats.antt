@@ -10,6 +10,7 @@ use borrow.Author.Tests.{leb-true, leb-false}
 use lib.Dec.{leb}
 use lib.ListN.{take, drop}
 use lib.Seq.{take-nil}
+use Rattle.rules.specs.declared.Reading.{Reading}
 use Rattle.stores.specs.Soundness.{sound}
 use Rattle.steps.specs.declared.Spot.{Spot}
 use Rattle.names.specs.Names.{Name, names, sameBoth}
@@ -140,10 +141,10 @@ fresh-from st ar s f =
     (λ j x p l d. first-none (names st ar) j x (λ i y q k o. fresh-at st ar s f i j y x q p k l o d)))
 
 -- the service by its two steps
-pub check-unsound : (st ar : List ℕ) → sound st ar ≡ false → NotSound ≡ nameCheck st ar
+pub check-unsound : (r : Reading) (st ar : List ℕ) → sound r st ar ≡ false → NotSound ≡ nameCheck r st ar
 unfolding nameCheck
-check-unsound st ar e = rw e
+check-unsound r st ar e = rw e
 
-pub check-sound : (st ar : List ℕ) (s : Spot) → sound st ar ≡ true → Fresh st ar s → namingOf (repeatFrom (take (s .count) (names st ar)) (namesAt st ar s)) ≡ nameCheck st ar
+pub check-sound : (r : Reading) (st ar : List ℕ) (s : Spot) → sound r st ar ≡ true → Fresh st ar s → namingOf (repeatFrom (take (s .count) (names st ar)) (namesAt st ar s)) ≡ nameCheck r st ar
 unfolding nameCheck
-check-sound st ar s e f = rw e (ap namingOf (fresh-from st ar s f))
+check-sound r st ar s e f = rw e (ap namingOf (fresh-from st ar s f))

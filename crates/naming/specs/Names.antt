@@ -1,10 +1,11 @@
--- NAME CHECK (document 01): within one scope (the block's own tags, or one frame's) no two names of kinds 4 and 6 are the same, which they are once A to Z is taken
+-- NAME CHECK (document 01): within one scope (a block's own tags, or one frame's) no two names of kinds 4 and 6 are the same, which they are once A to Z is taken
 -- as a to z (document 02, Two). 13 gives the number of the first record of that name, then of the earliest record that repeats one. Records count from 0 over the
 -- whole store. Assumes nothing.
 use Prim.Native.Nat.{ℕ}
 use mathlib.Core.Bool.{cond}
 use mathlib.Core.List.{List, [], _∷_, _++_}
 use mathlib.Core.Option.{Option, none, some}
+use Rattle.rules.specs.declared.Reading.{Reading}
 use Rattle.places.specs.declared.Report.{Report}
 use Rattle.places.specs.Reports.{success, refusedBare}
 use Rattle.stores.specs.Soundness.{sound}
@@ -39,8 +40,8 @@ namingOf fresh = Distinct
 namingOf (repeats i j) = Repeated i j
 
 -- NAME CHECK: 12, 13
-unfoldable pub nameCheck : List ℕ → List ℕ → Naming
-nameCheck st ar = cond (sound st ar) (namingOf (firstRepeat (names st ar))) NotSound
+unfoldable pub nameCheck : Reading → List ℕ → List ℕ → Naming
+nameCheck r st ar = cond (sound r st ar) (namingOf (firstRepeat (names st ar))) NotSound
 
 unfoldable pub namingReport : Naming → Report
 namingReport Distinct = success 0 0

@@ -10,6 +10,7 @@ ghost use Rattle.naming.specs.Names.{firstSame, repeatFrom, namingOf, na
 ghost use Rattle.naming.specs.Search.{earlierOf};
 use names::Named;
 use places::Report;
+use rules::Reading;
 use steps::Next;
 use steps::Spot;
 
@@ -86,10 +87,10 @@ fn repeat_from(store: &[u8], area: &[u8], spot: Spot) -> Naming
 }
 
 // The service Name check: 12, 13.
-pub fn check_names(store: &[u8], area: &[u8]) -> Naming
-    ensures { λ r. ⌜ r ≡ nameCheck (now (store .entry)) (now (area .entry)) ⌝ }
+pub fn check_names(reading: Reading, store: &[u8], area: &[u8]) -> Naming
+    ensures { λ r. ⌜ r ≡ nameCheck reading (now (store .entry)) (now (area .entry)) ⌝ }
 {
-    if !stores::is_sound(store, area) {
+    if !stores::is_sound(reading, store, area) {
         return Naming::NotSound;
     }
     repeat_from(store, area, scopes::fresh_end(store, area))

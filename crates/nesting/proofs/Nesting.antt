@@ -11,6 +11,8 @@ use native.Mathlib.Nat.{mod-zero}
 use borrow.Author.Tests.{eq-eqb, ne-eqb}
 use lib.Dec.{eqb, leb}
 use lib.ListN.{length}
+use Rattle.rules.specs.declared.Reading.{Reading}
+use Rattle.rules.specs.declared.Reading.the-variants.{First, Strict}
 use Rattle.kinds.specs.declared.Kind.{Kind}
 use Rattle.entries.specs.declared.Fields.{Fields}
 use Rattle.entries.specs.declared.Entry.{Entry}
@@ -24,7 +26,7 @@ use Rattle.nesting.specs.declared.Stand.the-variants.{Stands, Falls}
 use Rattle.entries.specs.Walk.{entries}
 use Rattle.entries.proofs.Walking.{rest, rest-all, rest-over, rest-none, next-at}
 use Rattle.nesting.proofs.Where.{the-type as where-type}
-use Rattle.nesting.specs.Nesting.{isValueKind, opensLoop, atItems, afterName, atNames, atValues, standing, ended, follow, nestedFrom, nested, counted}
+use Rattle.nesting.specs.Nesting.{isValueKind, opensLoop, further, atItems, afterName, atNames, endsLoop, atValues, standing, ended, follow, nestedFrom, nested, counted}
 
 -- a loop without tags falls, any other asks for its tags
 pub loop-none : (f : Bool) (n : ℕ) → n ≡ 0 → Falls ≡ opensLoop f n
@@ -76,23 +78,23 @@ ended-other f (Values all j) e = refl
 ended-other f Wants e = refl
 
 -- a store's end, an entry that is none, a record that may not stand here, one that may
-module _ (st : List ℕ) (at : ℕ) (f : Bool) (w : Where) where
-  pub nest-end : length st ≤ at → nestedFrom (rest st at) f w ≡ ended f w
+module _ (r : Reading) (st : List ℕ) (at : ℕ) (f : Bool) (w : Where) where
+  pub nest-end : length st ≤ at → nestedFrom r (rest st at) f w ≡ ended f w
   unfolding nestedFrom
   nest-end h = rw (rest-over st at h)
 
-  pub nest-none : at < length st → entryAt st at ≡ Nothing → nestedFrom (rest st at) f w ≡ false
+  pub nest-none : at < length st → entryAt st at ≡ Nothing → nestedFrom r (rest st at) f w ≡ false
   unfolding nestedFrom
   nest-none h e = rw (rest-none st at h e)
 
-  module _ (k : Kind) (r : Fields) (next : ℕ) (h : at < length st) (e : entryAt st at ≡ Record k r next) where
-    pub nest-falls : standing f w (numberOf k) (r .number) ≡ Falls → nestedFrom (rest st at) f w ≡ false
+  module _ (k : Kind) (x : Fields) (next : ℕ) (h : at < length st) (e : entryAt st at ≡ Record k x next) where
+    pub nest-falls : standing r f w (numberOf k) (x .number) ≡ Falls → nestedFrom r (rest st at) f w ≡ false
     unfolding nestedFrom follow
-    nest-falls s = rw (next-at st at k r next h e .here, s)
+    nest-falls s = rw (next-at st at k x next h e .here, s)
 
-    pub nest-stands : (f′ : Bool) (w′ : Where) → standing f w (numberOf k) (r .number) ≡ Stands f′ w′ → nestedFrom (rest st at) f w ≡ nestedFrom (rest st next) f′ w′
+    pub nest-stands : (f′ : Bool) (w′ : Where) → standing r f w (numberOf k) (x .number) ≡ Stands f′ w′ → nestedFrom r (rest st at) f w ≡ nestedFrom r (rest st next) f′ w′
     unfolding nestedFrom follow
-    nest-stands f′ w′ s = rw (next-at st at k r next h e .here, s)
+    nest-stands f′ w′ s = rw (next-at st at k x next h e .here, s)
 
 -- a record adds at most one to the values counted
 countedIn : Stand → ℕ
@@ -113,26 +115,37 @@ unfolding afterName countedIn
 name-counts f all zero n = omega arith
 name-counts f all (suc left) n = omega arith
 
-counts : (f : Bool) (w : Where) (k tags : ℕ) → countedIn (standing f w k tags) ≤ suc (counted w)
+further-counts : (r : Reading) (f : Bool) (k n : ℕ) → countedIn (further r f k) ≤ n
+unfolding countedIn
+further-counts First f k n = omega arith
+further-counts Strict true k n = either (eqb k 1) _ Falls n (omega arith) (omega arith)
+further-counts Strict false k n = either (eqb k 1) _ Falls n (omega arith) (omega arith)
+
+end-counts : (r : Reading) (f : Bool) (j n : ℕ) → countedIn (endsLoop r f j) ≤ n
+unfolding countedIn
+end-counts First f j n = omega arith
+end-counts Strict f j n = either (eqb j 0) Falls (Stands f (Items false)) n (omega arith) (omega arith)
+
+counts : (r : Reading) (f : Bool) (w : Where) (k tags : ℕ) → countedIn (standing r f w k tags) ≤ suc (counted w)
 unfolding standing atItems atNames atValues countedIn
-counts f Start k tags = either (eqb k 1) (Stands f (Items false)) Falls 1 (omega arith) (omega arith)
-counts f (Items e) k tags =
+counts r f Start k tags = either (eqb k 1) (Stands f (Items false)) Falls 1 (omega arith) (omega arith)
+counts r f (Items e) k tags =
     either (eqb k 4) (cond e Falls (Stands f Wants)) _ 1 (either e Falls (Stands f Wants) 1 (omega arith) (omega arith))
     (either (eqb k 5) (opensLoop f tags) _ 1 (loop-counts f tags 1)
     (either (eqb k 2) (cond f Falls (Stands true (Items false))) _ 1 (either f Falls (Stands true (Items false)) 1 (omega arith) (omega arith))
-    (either (eqb k 3) (cond f (Stands false (Items false)) Falls) Falls 1 (either f (Stands false (Items false)) Falls 1 (omega arith) (omega arith)) (omega arith))))
-counts f (Names all zero) k tags = omega arith
-counts f (Names all (suc left)) k tags = either (eqb k 6) (afterName f all left) Falls 1 (name-counts f all left 1) (omega arith)
-counts f (Values all j) k tags =
-    either (eqb k 7) (cond (eqb (j % all) 0) (Stands f (Items (eqb j 0))) Falls) _ (suc j) (either (eqb (j % all) 0) (Stands f (Items (eqb j 0))) Falls (suc j) (omega arith) (omega arith))
+    (either (eqb k 3) (cond f (Stands false (Items false)) Falls) (further r f k) 1 (either f (Stands false (Items false)) Falls 1 (omega arith) (omega arith)) (further-counts r f k 1))))
+counts r f (Names all zero) k tags = omega arith
+counts r f (Names all (suc left)) k tags = either (eqb k 6) (afterName f all left) Falls 1 (name-counts f all left 1) (omega arith)
+counts r f (Values all j) k tags =
+    either (eqb k 7) (cond (eqb (j % all) 0) (endsLoop r f j) Falls) _ (suc j) (either (eqb (j % all) 0) (endsLoop r f j) Falls (suc j) (end-counts r f j (suc j)) (omega arith))
     (either (isValueKind k) (Stands f (Values all (suc j))) Falls (suc j) (omega arith) (omega arith))
-counts f Wants k tags = either (isValueKind k) (Stands f (Items false)) Falls 1 (omega arith) (omega arith)
+counts r f Wants k tags = either (isValueKind k) (Stands f (Items false)) Falls 1 (omega arith) (omega arith)
 
-pub counted-one : (f : Bool) (w : Where) (k tags : ℕ) (f′ : Bool) (w′ : Where) → standing f w k tags ≡ Stands f′ w′ → counted w′ ≤ suc (counted w)
+pub counted-one : (r : Reading) (f : Bool) (w : Where) (k tags : ℕ) (f′ : Bool) (w′ : Where) → standing r f w k tags ≡ Stands f′ w′ → counted w′ ≤ suc (counted w)
 unfolding countedIn
-counted-one f w k tags f′ w′ e = rw e at (counts f w k tags)
+counted-one r f w k tags f′ w′ e = rw e at (counts r f w k tags)
 
 -- a walk begins at offset 0, outside frames, before the block
-pub nest-all : (st : List ℕ) → nested (entries st) ≡ nestedFrom (rest st 0) false Start
+pub nest-all : (r : Reading) (st : List ℕ) → nested r (entries st) ≡ nestedFrom r (rest st 0) false Start
 unfolding nested
-nest-all st = rw rest-all
+nest-all r st = rw rest-all

@@ -1,11 +1,13 @@
-// Whether a store is whole records, nested as document 01 says: a machine over their kinds.
+// Whether a store is whole records, nested as the reading has them: a machine over their kinds.
 ghost use mathlib.Core.Path.{_≡_};
 ghost use Prim.Native.Nat.{_+_, _%_, _^_, _<_};
 ghost use lib.Dec.{eqb};
 ghost use Rattle.entries.specs.Walk.{entries};
-ghost use Rattle.nesting.specs.Nesting.{isValueKind, opensLoop, atItems, atNames, atValues, counted, standing as standingOf, ended, nested};
+ghost use Rattle.nesting.specs.Nesting.{isValueKind, opensLoop, further, atItems, atNames, endsLoop, atValues};
+ghost use Rattle.nesting.specs.Nesting.{counted, standing as standingOf, ended, nested};
 use entries::Entry;
 use kinds::Kind;
+use rules::Reading;
 
 // What may stand next in a store.
 pub enum Where {
@@ -27,14 +29,17 @@ pub enum Stand {
     Falls,
 }
 
-// The kinds of values, from inapplicable to a number with uncertainty.
+// The kinds of values, from inapplicable to a number with uncertainty, and the strict reading's quoted ones.
 fn is_value(kind: u8) -> bool
     ensures { λ r. ⌜ r ≡ isValueKind kind ⌝ }
 {
     if kind < Kind::INAPPLICABLE {
         return false;
     }
-    kind <= Kind::UNCERTAIN
+    if kind <= Kind::UNCERTAIN {
+        return true;
+    }
+    kind == Kind::QUOTED
 }
 
 // A loop counts at least one tag.
@@ -53,9 +58,30 @@ fn open_loop(frame: bool, tags: usize) -> Stand
     }
 }
 
+// A record that is no item's and no frame's: in the strict reading a further block may stand outside frames.
+fn next_block(reading: Reading, frame: bool, kind: u8) -> Stand
+    ensures { λ r. ⌜ r ≡ further reading frame kind ⌝ }
+{
+    match reading {
+        Reading::First => Stand::Falls,
+        Reading::Strict => {
+            if kind != Kind::BLOCK {
+                return Stand::Falls;
+            }
+            if frame {
+                return Stand::Falls;
+            }
+            Stand::Stands {
+                frame: false,
+                place: Where::Items { empty: false },
+            }
+        }
+    }
+}
+
 // A record between items.
-fn at_items(frame: bool, empty: bool, kind: u8, tags: usize) -> Stand
-    ensures { λ r. ⌜ r ≡ atItems frame empty kind tags ⌝ }
+fn at_items(reading: Reading, frame: bool, empty: bool, kind: u8, tags: usize) -> Stand
+    ensures { λ r. ⌜ r ≡ atItems reading frame empty kind tags ⌝ }
 {
     if kind == Kind::TAG {
         if empty {
@@ -85,8 +111,9 @@ fn at_items(frame: bool, empty: bool, kind: u8, tags: usize) -> Stand
                 place: Where::Items { empty: false },
             };
         }
+        return Stand::Falls;
     }
-    Stand::Falls
+    next_block(reading, frame, kind)
 }
 
 // A record among a loop's tags.
@@ -124,17 +151,35 @@ fn whole_rows(all: usize, count: usize) -> bool
     count % all == 0
 }
 
+// The end of a loop of so many values: in the strict reading it has some.
+fn end_loop(reading: Reading, frame: bool, count: usize) -> Stand
+    ensures { λ r. ⌜ r ≡ endsLoop reading frame count ⌝ }
+{
+    match reading {
+        Reading::First => Stand::Stands {
+            frame,
+            place: Where::Items { empty: count == 0 },
+        },
+        Reading::Strict => {
+            if count == 0 {
+                return Stand::Falls;
+            }
+            Stand::Stands {
+                frame,
+                place: Where::Items { empty: false },
+            }
+        }
+    }
+}
+
 // A record among a loop's values.
-fn at_values(frame: bool, all: usize, count: usize, kind: u8) -> Stand
+fn at_values(reading: Reading, frame: bool, all: usize, count: usize, kind: u8) -> Stand
     requires { ⌜ count + 1 < 2 ^ 64 ⌝ }
-    ensures { λ r. ⌜ r ≡ atValues frame all count kind ⌝ }
+    ensures { λ r. ⌜ r ≡ atValues reading frame all count kind ⌝ }
 {
     if kind == Kind::LOOP_END {
         if whole_rows(all, count) {
-            return Stand::Stands {
-                frame,
-                place: Where::Items { empty: count == 0 },
-            };
+            return end_loop(reading, frame, count);
         }
         return Stand::Falls;
     }
@@ -151,9 +196,9 @@ fn at_values(frame: bool, all: usize, count: usize, kind: u8) -> Stand
 }
 
 // Where a record of a kind, with its number of tags, leads.
-fn standing(frame: bool, place: Where, kind: u8, tags: usize) -> Stand
+fn standing(reading: Reading, frame: bool, place: Where, kind: u8, tags: usize) -> Stand
     requires { ⌜ counted place + 1 < 2 ^ 64 ⌝ }
-    ensures { λ r. ⌜ r ≡ standingOf frame place kind tags ⌝ }
+    ensures { λ r. ⌜ r ≡ standingOf reading frame place kind tags ⌝ }
 {
     match place {
         Where::Start => {
@@ -165,9 +210,9 @@ fn standing(frame: bool, place: Where, kind: u8, tags: usize) -> Stand
             }
             Stand::Falls
         }
-        Where::Items { empty } => at_items(frame, empty, kind, tags),
+        Where::Items { empty } => at_items(reading, frame, empty, kind, tags),
         Where::Names { all, left } => at_names(frame, all, left, kind),
-        Where::Values { all, count } => at_values(frame, all, count, kind),
+        Where::Values { all, count } => at_values(reading, frame, all, count, kind),
         Where::Wants => {
             if is_value(kind) {
                 return Stand::Stands {
@@ -190,9 +235,9 @@ fn has_ended(frame: bool, place: Where) -> bool
     }
 }
 
-// Whether a store is whole records, nested as document 01 says.
-pub fn is_nested(store: &[u8]) -> bool
-    ensures { λ r. ⌜ r ≡ nested (entries (now (store .entry))) ⌝ }
+// Whether a store is whole records, nested as the reading has them.
+pub fn is_nested(reading: Reading, store: &[u8]) -> bool
+    ensures { λ r. ⌜ r ≡ nested reading (entries (now (store .entry))) ⌝ }
 {
     let mut frame = false;
     let mut place = Where::Start;
@@ -201,7 +246,7 @@ pub fn is_nested(store: &[u8]) -> bool
         let Entry::Record { kind, fields, next } = entries::read_record(store, at) else {
             return false;
         };
-        let stand = standing(frame, place, kind.number(), fields.number as usize);
+        let stand = standing(reading, frame, place, kind.number(), fields.number as usize);
         let Stand::Stands {
             frame: within,
             place: then,

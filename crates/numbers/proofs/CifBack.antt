@@ -1,12 +1,13 @@
--- Proved: a word that is a number here is a numeric of CIF 1.1, or has an exponent without digits, or a bracket without digits (number-is-cif).
--- Assumes nothing.
+-- Proved: a word that is a number of the first reading is a numeric of CIF 1.1, or has an exponent without digits,
+-- or a bracket without digits (number-is-cif); one that is a number of the strict reading is a numeric
+-- (numeric-is-cif). Assumes nothing.
 use Prim.Native.Nat.{ℕ}
 use mathlib.Core.Path.{_≡_, refl, sym, ap, _∙_, subst}
-use mathlib.Core.Bool.{Bool, true, false, not, _&&_, false≢true}
+use mathlib.Core.Bool.{Bool, true, false, not, _&&_, true≢false, false≢true}
 use mathlib.Core.List.{List, [], _∷_, _++_, append-assoc, append-nil}
 use Rattle.text.specs.Bytes.{is}
 use Rattle.text.proofs.Bools.{and-l, and-r}
-use Rattle.numbers.specs.Parts.{digits, sign, point, Part, isEmpty, exponent, bracket, parts, isNumber}
+use Rattle.numbers.specs.Parts.{digits, sign, point, Part, isEmpty, exponent, bracket, parts, isNumber, written, isNumeric}
 use Rattle.numbers.specs.Cif.{allDigits, Sign, Unsigned, exp, CifOptional, without, with-exp, CifNumber, integer, float-exp, float-frac, float-point, CifNumeric, exact, uncertain}
 use Rattle.numbers.proofs.Spell.{Bracket, unbracketed, bracketed, Exponent, unscaled, scaled, Point, whole, pointed, empty-nil, digits-split, digits-got, sign-split, sign-got, bracket-view, exponent-view, point-view}
 
@@ -110,3 +111,21 @@ number-is-cif w h =
     let j : w ≡ s .got ++ (i .got ++ i .left) = sign-split w ∙ ap (λ r. s .got ++ r) (digits-split (s .left)) in
     subst (λ r. Out (Standard r) e (bracket (e .left))) (sym j)
     (point-out (i .got) (sign-got w) (digits-got (s .left)) n (point-view (i .left) (exponent-view (f .left) q)))
+
+-- what the first reading takes beyond CIF 1.1 the strict one does not
+
+unwritten : (p : Part) → p .here ≡ true → isEmpty (p .run) ≡ true → written p ≡ true → ⊥
+unfolding written
+unwritten p h e w = true≢false (sym w ∙ rw (h, e))
+
+pub numeric-is-cif : (w : List ℕ) → isNumeric (parts w) ≡ true → Standard w
+unfolding isNumeric
+numeric-is-cif w e = by (number-is-cif w (and-l (isNumber (parts w)) _ e))
+  where
+    both : (written (parts w .exp) && written (parts w .unc)) ≡ true
+    both = and-r (isNumber (parts w)) _ e
+
+    by : Out (Standard w) (parts w .exp) (parts w .unc) → Standard w
+    by (fine s) = s
+    by (empty-exponent h r) = absurd (unwritten (parts w .exp) h r (and-l (written (parts w .exp)) _ both))
+    by (empty-bracket h r) = absurd (unwritten (parts w .unc) h r (and-r (written (parts w .exp)) _ both))

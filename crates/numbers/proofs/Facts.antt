@@ -7,12 +7,14 @@ use native.Mathlib.Omega.{arith}
 use lib.Dec.{eqb}
 use lib.ListN.{length, getD}
 use borrow.Author.Tests.{eqb-false, not-true}
+use Rattle.rules.specs.declared.Reading.{Reading}
+use Rattle.rules.specs.declared.Reading.the-variants.{First, Strict}
 use Rattle.text.specs.Bytes.{isDigit, is}
-use Rattle.text.proofs.Bools.{and-r, or-l, or-r}
+use Rattle.text.proofs.Bools.{and-l, and-r, or-l, or-r}
 use Rattle.numbers.specs.declared.Decimal.{Decimal}
 use Rattle.cuts.specs.declared.Cuts.{Cuts}
 use Rattle.numbers.specs.declared.Number.the-variants.{Not, Is, Over}
-use Rattle.numbers.specs.Parts.{cut, digits, sign, point, isEmpty, parts, isNumber, within, minus}
+use Rattle.numbers.specs.Parts.{Parts, cut, digits, sign, point, isEmpty, parts, isNumber, written, isNumeric, countsAs, within, minus}
 use Rattle.cuts.specs.Digits.{value, piece}
 use Rattle.numbers.specs.Meaning.{meaning, judged, numberOf}
 use Rattle.cuts.specs.Cuts.{cutsOf, Sound}
@@ -48,6 +50,17 @@ cuts-bounded w k s e =
       lowers = not-zero (value (piece w (k .exponent .digits) (k .exponent .end))) (minus (piece w (k .exponent .sign) (k .exponent .digits)));
     }
 
+-- a number of either reading is one of the first
+pub counts-number : (r : Reading) (p : Parts) → countsAs r p ≡ true → isNumber p ≡ true
+unfolding isNumeric
+counts-number First p e = e
+counts-number Strict p e = and-l (isNumber p) _ e
+
+pub counts-none : (r : Reading) (p : Parts) → isNumber p ≡ false → countsAs r p ≡ false
+unfolding isNumeric
+counts-none First p e = e
+counts-none Strict p e = rw e
+
 -- what each answer says of the parts
 
 pub record IsNumber (w : List ℕ) (d : Decimal) : Type 0 where
@@ -59,40 +72,40 @@ pub record IsNumber (w : List ℕ) (d : Decimal) : Type 0 where
 apart : _≡_ {A = ℕ} 0 1 → ⊥
 apart e = omega arith
 
-pub is-number : (w : List ℕ) (d : Decimal) → numberOf w ≡ Is d → IsNumber w d
+pub is-number : (r : Reading) (w : List ℕ) (d : Decimal) → numberOf r w ≡ Is d → IsNumber w d
 unfolding numberOf judged meaning
-is-number w d e = by (isNumber (parts w)) (within (parts w)) refl refl e
+is-number r w d e = by (countsAs r (parts w)) (within (parts w)) refl refl e
   where
-    by : (t u : Bool) → isNumber (parts w) ≡ t → within (parts w) ≡ u → cond t (cond u (Is (meaning (parts w))) Over) Not ≡ Is d → IsNumber w d
-    by true true p q e = let m : meaning (parts w) ≡ d = cc in record { number = p; kept = q; means = m; uncertain = ap (λ (x : Decimal). x .uncertain) (sym m) }
+    by : (t u : Bool) → countsAs r (parts w) ≡ t → within (parts w) ≡ u → cond t (cond u (Is (meaning (parts w))) Over) Not ≡ Is d → IsNumber w d
+    by true true p q e = let m : meaning (parts w) ≡ d = cc in record { number = counts-number r (parts w) p; kept = q; means = m; uncertain = ap (λ (x : Decimal). x .uncertain) (sym m) }
     by true false p q e = absurd (apart (cc))
     by false u p q e = absurd (apart (cc))
 
-pub is-over : (w : List ℕ) → numberOf w ≡ Over → (isNumber (parts w) ≡ true) × (within (parts w) ≡ false)
+pub is-over : (r : Reading) (w : List ℕ) → numberOf r w ≡ Over → (countsAs r (parts w) ≡ true) × (within (parts w) ≡ false)
 unfolding numberOf judged
-is-over w e = by (isNumber (parts w)) (within (parts w)) refl refl e
+is-over r w e = by (countsAs r (parts w)) (within (parts w)) refl refl e
   where
-    by : (t u : Bool) → isNumber (parts w) ≡ t → within (parts w) ≡ u → cond t (cond u (Is (meaning (parts w))) Over) Not ≡ Over → (isNumber (parts w) ≡ true) × (within (parts w) ≡ false)
+    by : (t u : Bool) → countsAs r (parts w) ≡ t → within (parts w) ≡ u → cond t (cond u (Is (meaning (parts w))) Over) Not ≡ Over → (countsAs r (parts w) ≡ true) × (within (parts w) ≡ false)
     by true true p q e = absurd (apart (cc))
     by true false p q e = (p, q)
     by false u p q e = absurd (apart (cc))
 
-pub is-not : (w : List ℕ) → numberOf w ≡ Not → isNumber (parts w) ≡ false
+pub is-not : (r : Reading) (w : List ℕ) → numberOf r w ≡ Not → countsAs r (parts w) ≡ false
 unfolding numberOf judged
-is-not w e = by (isNumber (parts w)) (within (parts w)) refl e
+is-not r w e = by (countsAs r (parts w)) (within (parts w)) refl e
   where
-    by : (t u : Bool) → isNumber (parts w) ≡ t → cond t (cond u (Is (meaning (parts w))) Over) Not ≡ Not → isNumber (parts w) ≡ false
+    by : (t u : Bool) → countsAs r (parts w) ≡ t → cond t (cond u (Is (meaning (parts w))) Over) Not ≡ Not → countsAs r (parts w) ≡ false
     by true true p e = absurd (apart (cc))
     by true false p e = absurd (apart (cc))
     by false u p e = p
 
-pub not-number : (w : List ℕ) → isNumber (parts w) ≡ false → numberOf w ≡ Not
+pub not-number : (r : Reading) (w : List ℕ) → isNumber (parts w) ≡ false → numberOf r w ≡ Not
 unfolding numberOf judged
-not-number w e = rw e
+not-number r w e = rw (counts-none r (parts w) e)
 
-pub number-facts : (w : List ℕ) (d : Decimal) → numberOf w ≡ Is d → Bounded d
-number-facts w d e =
-    let n : IsNumber w d = is-number w d e in
+pub number-facts : (r : Reading) (w : List ℕ) (d : Decimal) → numberOf r w ≡ Is d → Bounded d
+number-facts r w d e =
+    let n : IsNumber w d = is-number r w d e in
     rw (n .means) at (rw (← parts-cuts w) at (cuts-bounded w (cutsOf w) (cuts-sound w) (rw (parts-cuts w) at (n .kept))))
 
 -- words that are no numbers

@@ -5,17 +5,18 @@ use mathlib.Core.Bool.{Bool, false, cond, _||_}
 use mathlib.Core.List.{List, [], _∷_}
 use borrow.Author.Tests.{ne-eqb}
 use lib.ListN.{take, getD}
+use Rattle.rules.specs.declared.Reading.{Reading}
 use Rattle.text.specs.Bytes.{is, isDigit}
 use Rattle.numbers.specs.declared.Number.the-variants.{Not, Is, Over}
-use Rattle.numbers.specs.Parts.{Parts, parts, isNumber, within}
+use Rattle.numbers.specs.Parts.{Parts, parts, countsAs, within}
 use Rattle.numbers.specs.Meaning.{meaning, judged, numberOf}
 use Rattle.numbers.specs.Pieces.{startsNumber}
 use Rattle.numbers.proofs.Facts.{not-number, no-number-by-first-byte, dot-alone}
 
 -- a word is judged by its parts: is it a number, and does it keep the limits
-pub number-judged : (w : List ℕ) → numberOf w ≡ cond (isNumber (parts w)) (cond (within (parts w)) (Is (meaning (parts w))) Over) Not
+pub number-judged : (r : Reading) (w : List ℕ) → numberOf r w ≡ cond (countsAs r (parts w)) (cond (within (parts w)) (Is (meaning (parts w))) Over) Not
 unfolding numberOf judged
-number-judged w = refl
+number-judged r w = refl
 
 -- a number means something uncertain where it has a bracket
 pub meaning-uncertain : (p : Parts) → meaning p .uncertain ≡ p .unc .here
@@ -36,8 +37,8 @@ first-byte (suc n) [] e = refl
 first-byte (suc n) (b ∷ l) e = e
 
 -- a word whose first byte starts no number is none
-pub none-by-first-byte : (n : ℕ) (l : List ℕ) → startsNumber (getD l 0 0) ≡ false → numberOf (take n l) ≡ Not
-none-by-first-byte n l e = not-number (take n l) (no-number-by-first-byte (take n l) (first-byte n l e))
+pub none-by-first-byte : (r : Reading) (n : ℕ) (l : List ℕ) → startsNumber (getD l 0 0) ≡ false → numberOf r (take n l) ≡ Not
+none-by-first-byte r n l e = not-number r (take n l) (no-number-by-first-byte (take n l) (first-byte n l e))
 
 first-digit : (n : ℕ) (l : List ℕ) → isDigit (getD l 0 0) ≡ false → isDigit (getD (take n l) 0 0) ≡ false
 unfolding isDigit
@@ -46,7 +47,7 @@ first-digit (suc n) [] e = refl
 first-digit (suc n) (b ∷ l) e = e
 
 -- nor is one that starts with the point and has no digit behind it
-pub none-by-point : (n : ℕ) (l : List ℕ) → isDigit (getD l 0 0) ≡ false → numberOf (take n (46 ∷ l)) ≡ Not
+pub none-by-point : (r : Reading) (n : ℕ) (l : List ℕ) → isDigit (getD l 0 0) ≡ false → numberOf r (take n (46 ∷ l)) ≡ Not
 unfolding startsNumber isDigit is
-none-by-point zero l e = not-number [] (no-number-by-first-byte [] refl)
-none-by-point (suc n) l e = not-number (46 ∷ take n l) (dot-alone (take n l) (first-digit n l e))
+none-by-point r zero l e = not-number r [] (no-number-by-first-byte [] refl)
+none-by-point r (suc n) l e = not-number r (46 ∷ take n l) (dot-alone (take n l) (first-digit n l e))

@@ -1,7 +1,7 @@
 -- What the cuts of a word say of it: whether it is a number, and whether its digits keep their limits. Assumes nothing.
 use Prim.Native.Nat.{ℕ, _-_, _≤_}
 use mathlib.Core.Path.{_≡_, sym, _∙_}
-use mathlib.Core.Bool.{true, not, _&&_}
+use mathlib.Core.Bool.{true, not, _&&_, _||_, Bool·not-not}
 use mathlib.Core.List.{List}
 use lib.Dec.{leb, ltb}
 use lib.ListN.{length}
@@ -10,7 +10,7 @@ use Rattle.text.proofs.Bools.{and-l, and-r}
 use Rattle.cuts.specs.declared.Cuts.{Cuts}
 use Rattle.cuts.specs.Cuts.{Sound}
 use Rattle.cuts.proofs.DigitRuns.{piece-length}
-use Rattle.numbers.specs.Parts.{isNumber, within}
+use Rattle.numbers.specs.Parts.{isNumber, written, within}
 use Rattle.numbers.specs.Pieces.{partOf, partsOf}
 use Rattle.numbers.proofs.Pieces.{piece-empty, rest-empty}
 
@@ -20,6 +20,14 @@ pub number-cuts : (w : List ℕ) (k : Cuts) → Sound w k →
 unfolding isNumber partsOf partOf
 number-cuts w k s =
     rw (rest-empty w (k .bracket .next), piece-empty w (k .sign) (k .integer) (s .integer .to), piece-empty w (k .point) (k .fraction) (s .fraction .to))
+
+-- exponent and bracket have digits where they are there, by its cuts
+pub written-cuts : (w : List ℕ) (k : Cuts) → Sound w k →
+    (written (partsOf w k .exp) ≡ (not (k .exponent .here) || ltb (k .exponent .digits) (k .exponent .end)))
+    × (written (partsOf w k .unc) ≡ (not (k .bracket .here) || ltb (k .bracket .digits) (k .bracket .end)))
+unfolding written partsOf partOf
+written-cuts w k s =
+    (rw (piece-empty w (k .exponent .digits) (k .exponent .end) (s .exponent .to), Bool·not-not), rw (piece-empty w (k .bracket .digits) (k .bracket .end) (s .uncertainty .to), Bool·not-not))
 
 -- its digits keep the limits, by its cuts
 pub within-cuts : (w : List ℕ) (k : Cuts) → Sound w k →

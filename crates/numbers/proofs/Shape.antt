@@ -1,12 +1,15 @@
--- Proved: the parts of a word's shape are the shapes of its parts (parts-σ), so digits do not show in whether a word is a number, keeps the limits and has an
--- uncertainty (isNumber-σ, within-σ, here-σ). Assumes nothing.
+-- Proved: the parts of a word's shape are the shapes of its parts (parts-σ), so digits do not show in whether a
+-- word is a number, in either reading, keeps the limits and has an uncertainty (counts-σ, within-σ, here-σ).
+-- Assumes nothing.
 use Prim.Native.Nat.{ℕ}
 use mathlib.Core.Bool.{Bool, true, false, not, cond, _&&_, _||_}
 use mathlib.Core.Path.{_≡_, refl, sym}
 use mathlib.Core.List.{List, [], _∷_, map}
 use lib.ListN.{length-map}
+use Rattle.rules.specs.declared.Reading.{Reading}
+use Rattle.rules.specs.declared.Reading.the-variants.{First, Strict}
 use Rattle.text.specs.Bytes.{isDigit, is}
-use Rattle.numbers.specs.Parts.{Cut, cut, consGot, digits, sign, point, Part, absent, signedDigits, isEmpty, exponent, close, bracket, Parts, parts, isNumber, within}
+use Rattle.numbers.specs.Parts.{Cut, cut, consGot, digits, sign, point, Part, absent, signedDigits, isEmpty, exponent, close, bracket, Parts, parts, isNumber, written, isNumeric, countsAs, within}
 use Rattle.text.proofs.Shape.{σ, blind, digit-σ}
 
 -- a function goes into both branches
@@ -91,9 +94,18 @@ parts-σ w =
     let e = exponent (f .left) in
     rw (sign-σ w, digits-σ (s .left), point-σ (i .left), exponent-σ (f .left), bracket-σ (e .left))
 
-pub isNumber-σ : (w : List ℕ) → isNumber (parts (map σ w)) ≡ isNumber (parts w)
+isNumber-σ : (w : List ℕ) → isNumber (parts (map σ w)) ≡ isNumber (parts w)
 unfolding isNumber mapParts mapPart
 isNumber-σ w = rw (parts-σ w, isEmpty-σ (parts w .unc .left), isEmpty-σ (parts w .int), isEmpty-σ (parts w .frac))
+
+written-σ : (p : Part) → written (mapPart p) ≡ written p
+unfolding written mapPart
+written-σ p = rw (isEmpty-σ (p .run))
+
+pub counts-σ : (r : Reading) (w : List ℕ) → countsAs r (parts (map σ w)) ≡ countsAs r (parts w)
+unfolding isNumeric mapParts
+counts-σ First w = isNumber-σ w
+counts-σ Strict w = rw (isNumber-σ w, parts-σ w, written-σ (parts w .exp), written-σ (parts w .unc))
 
 pub within-σ : (w : List ℕ) → within (parts (map σ w)) ≡ within (parts w)
 unfolding within mapParts mapPart

@@ -11,7 +11,8 @@ use lib.ListN.{length, length-append}
 use Rattle.text.specs.Bytes.{isDigit, is}
 use Rattle.text.proofs.Bools.{and-r}
 use Rattle.numbers.specs.declared.Decimal.{Decimal}
-use Rattle.numbers.specs.Parts.{Part, absent, isEmpty, exponent, Parts, parts, isNumber, within, minus as isMinus}
+use Rattle.rules.specs.declared.Reading.the-variants.{First}
+use Rattle.numbers.specs.Parts.{Part, absent, isEmpty, exponent, Parts, parts, isNumber, within, minus as isMinus, countsAs}
 use Rattle.cuts.specs.Digits.{valueFrom, value}
 use Rattle.numbers.specs.declared.Number.the-variants.{Is}
 use Rattle.numbers.specs.Meaning.{meaning, judged, numberOf}
@@ -252,6 +253,6 @@ number-means d k =
     )
 
 -- so a word that is rendered from a number is read as that number
-pub number-reads : (d : Decimal) → Kept d → numberOf (renderNumber d) ≡ Is d
+pub number-reads : (d : Decimal) → Kept d → numberOf First (renderNumber d) ≡ Is d
 unfolding numberOf judged
 number-reads d k = rw (number-is d, number-within d k, number-means d k)

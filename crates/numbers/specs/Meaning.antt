@@ -5,10 +5,11 @@ use mathlib.Core.Bool.{not, cond, _&&_}
 use mathlib.Core.List.{List}
 use lib.Dec.{eqb}
 use lib.ListN.{length}
+use Rattle.rules.specs.declared.Reading.{Reading}
 use Rattle.numbers.specs.declared.Decimal.{Decimal}
 use Rattle.numbers.specs.declared.Number.{Number}
 use Rattle.numbers.specs.declared.Number.the-variants.{Not, Is, Over}
-use Rattle.numbers.specs.Parts.{Parts, parts, isNumber, within, minus}
+use Rattle.numbers.specs.Parts.{Parts, parts, countsAs, within, minus}
 use Rattle.cuts.specs.Digits.{value}
 
 -- absent digits mean 0; an exponent of 0 has no sign
@@ -26,9 +27,9 @@ meaning p =
     }
 
 -- only a word that is a number is judged by the limits
-unfoldable pub judged : Parts → Number
-judged p = cond (isNumber p) (cond (within p) (Is (meaning p)) Over) Not
+unfoldable pub judged : Reading → Parts → Number
+judged r p = cond (countsAs r p) (cond (within p) (Is (meaning p)) Over) Not
 
 -- what a word says as a number
-unfoldable pub numberOf : List ℕ → Number
-numberOf w = judged (parts w)
+unfoldable pub numberOf : Reading → List ℕ → Number
+numberOf r w = judged r (parts w)

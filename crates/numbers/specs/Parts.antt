@@ -1,11 +1,14 @@
 -- Numbers (document 01): a word is cut greedily into its parts; a word whose parts leave nothing over, with a digit
--- before or after the point, is a number. Assumes nothing.
+-- before or after the point, is a number; in the strict reading exponent and bracket then have digits too, as CIF 1.1
+-- has it (document 02, Three). Assumes nothing.
 use Prim.Native.Nat.{ℕ}
 use Prim.Native.Char.{code}
 use mathlib.Core.Bool.{Bool, true, false, not, cond, _&&_, _||_}
 use mathlib.Core.List.{List, [], _∷_}
 use lib.Dec.{leb}
 use lib.ListN.{length}
+use Rattle.rules.specs.declared.Reading.{Reading}
+use Rattle.rules.specs.declared.Reading.the-variants.{First, Strict}
 use Rattle.text.specs.Bytes.{isDigit, is, openBracket, closeBracket, plusSign, minusSign, fullStop}
 
 -- what a part took, and what it left
@@ -85,6 +88,19 @@ parts w =
 -- the word is a number: nothing is left, and a digit stands before or after the point
 unfoldable pub isNumber : Parts → Bool
 isNumber p = isEmpty (p .unc .left) && not (isEmpty (p .int) && isEmpty (p .frac))
+
+-- an exponent, or a bracket, that is there has digits
+unfoldable pub written : Part → Bool
+written p = not (p .here) || not (isEmpty (p .run))
+
+-- a number by CIF 1.1: `1e+` and `1()` are none
+unfoldable pub isNumeric : Parts → Bool
+isNumeric p = isNumber p && (written (p .exp) && written (p .unc))
+
+-- which words are numbers, by the reading
+abbrev pub countsAs : Reading → Parts → Bool
+countsAs First p = isNumber p
+countsAs Strict p = isNumeric p
 
 -- the digit limits, by counts
 unfoldable pub within : Parts → Bool

@@ -1,14 +1,16 @@
 // Numbers: whether a word is one, and what it means.
 ghost use mathlib.Core.Path.{_≡_};
 ghost use Prim.Native.Nat.{_-_, _<_};
-ghost use mathlib.Core.Bool.{true, not, _&&_};
-ghost use lib.Dec.{eqb};
-ghost use Rattle.numbers.specs.Parts.{parts, isNumber, within, minus};
+ghost use mathlib.Core.Bool.{true, not, _&&_, _||_};
+ghost use lib.Dec.{eqb, ltb};
+ghost use Rattle.numbers.specs.Parts.{parts, isNumber, written, countsAs, within, minus};
 ghost use Rattle.numbers.specs.Meaning.{meaning, numberOf};
 ghost use Rattle.cuts.specs.Digits.{piece};
 ghost use Rattle.numbers.specs.Pieces.{startsNumber, partsOf};
 ghost use Rattle.cuts.specs.Cuts.{Sound};
 use cuts::Cuts;
+use cuts::Extent;
+use rules::Reading;
 
 // What a number means: its sign, integer, fraction and how many digits that has, sign and size of the exponent, and
 // uncertainty.
@@ -58,6 +60,43 @@ fn is_number(w: &[u8], k: Cuts) -> bool
         return true;
     }
     k.point < k.fraction
+}
+
+// Whether a part, if it is there, has digits.
+fn is_written(x: Extent) -> bool
+    ensures { λ r. ⌜ r ≡ (not (x .here) || ltb (x .digits) (x .end)) ⌝ }
+{
+    if !x.here {
+        return true;
+    }
+    x.digits < x.end
+}
+
+// Whether exponent and bracket do.
+fn is_standard(w: &[u8], k: Cuts) -> bool
+    requires { ⌜ Sound (now w) k ⌝ }
+    ensures { λ r. ⌜ r ≡ (written (partsOf (now (w .entry)) k .exp) && written (partsOf (now (w .entry)) k .unc)) ⌝ }
+{
+    let exponent = k.exponent;
+    if !is_written(exponent) {
+        return false;
+    }
+    let bracket = k.bracket;
+    is_written(bracket)
+}
+
+// Whether the parts make a number of the reading.
+fn counts_as(reading: Reading, w: &[u8], k: Cuts) -> bool
+    requires { ⌜ Sound (now w) k ⌝ }
+    ensures { λ r. ⌜ r ≡ countsAs reading (partsOf (now (w .entry)) k) ⌝ }
+{
+    if !is_number(w, k) {
+        return false;
+    }
+    match reading {
+        Reading::First => true,
+        Reading::Strict => is_standard(w, k),
+    }
 }
 
 // Whether the digits of each part keep their limit, counted with leading zeros.
@@ -130,14 +169,14 @@ pub fn decimal_by_cuts(w: &[u8]) -> Decimal
 }
 
 // What a word says as a number. Most words are no numbers and show it by their first byte.
-pub fn parse_numeric(w: &[u8]) -> Number
-    ensures { λ r. ⌜ r ≡ numberOf (now (w .entry)) ⌝ }
+pub fn parse_numeric(reading: Reading, w: &[u8]) -> Number
+    ensures { λ r. ⌜ r ≡ numberOf reading (now (w .entry)) ⌝ }
 {
     if !starts_number(cuts::byte_at(w, 0)) {
         return Number::Not;
     }
     let k = cuts::cut(w);
-    if !is_number(w, k) {
+    if !counts_as(reading, w, k) {
         return Number::Not;
     }
     if !in_limits(w, k) {

@@ -4,6 +4,7 @@ ghost use lib.ListN.{length};
 use libc::STDIN_FILENO;
 use libc::STDOUT_FILENO;
 use places::Report;
+use rules::Reading;
 
 // The longest text that is taken, and the bytes of the store.
 const LIMIT: usize = 65536;
@@ -89,7 +90,7 @@ fn say_outline(text: &[u8]) {
         return;
     }
     let mut store = io::large_buffer(); // it has LIMIT bytes
-    let report = outlining::outline(text, &mut store).report();
+    let report = outlining::outline(Reading::First, text, &mut store).report();
     if report.number != 0 {
         say_refusal(report);
         return;

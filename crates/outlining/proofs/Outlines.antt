@@ -7,6 +7,7 @@ use native.Mathlib.Omega.{arith}
 use borrow.Author.Tests.{lt-ltb, le-ltb}
 use lib.Dec.{ltb}
 use lib.ListN.{length}
+use Rattle.rules.specs.declared.Reading.{Reading}
 use Rattle.places.specs.Reports.{success, noRoom}
 use Rattle.records.specs.Put.{front}
 use Rattle.sizes.specs.declared.Sizes.{Sizes}
@@ -26,35 +27,35 @@ use Rattle.outlining.specs.Outlining.{outlineRoom, outlineBy, outlineAns
 use Rattle.judging.proofs.Judgements.{Refuses}
 
 -- a text that is refused
-pub outline-refused : (s l : List ℕ) (r : Refusal) → Refuses s r → (outlinedReport (Declined r) ≡ outlineAnswer s (length l)) × (l ≡ outlineStore s l)
+pub outline-refused : (g : Reading) (s l : List ℕ) (r : Refusal) → Refuses g s r → (outlinedReport (Declined r) ≡ outlineAnswer g s (length l)) × (l ≡ outlineStore g s l)
 unfolding outlinedReport outlineAnswer outlineStore outlineBy outlineStoreBy
-outline-refused s l r i = (rw (i .answer) (i .report), rw (i .answer))
+outline-refused g s l r i = (rw (i .answer) (i .report), rw (i .answer))
 
 -- room, for records whose length is m
-module _ (s l : List ℕ) (rs : List Rec) (e : outline s ≡ done rs) (m : ℕ) (p : m ≡ outlineSize rs) where
-  pub no-outline : length l < m → (outlinedReport (NoRoom m) ≡ outlineAnswer s (length l)) × (l ≡ outlineStore s l)
+module _ (g : Reading) (s l : List ℕ) (rs : List Rec) (e : outline g s ≡ done rs) (m : ℕ) (p : m ≡ outlineSize rs) where
+  pub no-outline : length l < m → (outlinedReport (NoRoom m) ≡ outlineAnswer g s (length l)) × (l ≡ outlineStore g s l)
   unfolding outlinedReport outlineAnswer outlineStore outlineBy outlineStoreBy outlineRoom writtenIf noRoom
   no-outline h =
       let t : ltb (length l) (outlineSize rs) ≡ true = lt-ltb (length l) (outlineSize rs) (omega arith) in
       (rw (e, t, p), rw (e, t))
 
-  pub all-outlined : (l′ : List ℕ) → m ≤ length l → l′ ≡ front (storeOf false s 0 rs) l → (outlinedReport (Written m) ≡ outlineAnswer s (length l)) × (l′ ≡ outlineStore s l)
+  pub all-outlined : (l′ : List ℕ) → m ≤ length l → l′ ≡ front (storeOf false s 0 rs) l → (outlinedReport (Written m) ≡ outlineAnswer g s (length l)) × (l′ ≡ outlineStore g s l)
   unfolding outlinedReport outlineAnswer outlineStore outlineBy outlineStoreBy outlineRoom writtenIf success
   all-outlined l′ h v =
       let t : ltb (length l) (outlineSize rs) ≡ false = le-ltb (length l) (outlineSize rs) (omega arith) in
       (rw (e, t, p), rw (e, t) v)
 
 -- the length that a read text needs
-pub need-outline : (s : List ℕ) (z : Sizes) (i : IsRead s z) → z .outline ≡ outlineSize (i .records)
-need-outline s z i = ap (λ (x : Sizes). x .outline) (i .sizes ∙ sizes-of (i .records))
+pub need-outline : (g : Reading) (s : List ℕ) (z : Sizes) (i : IsRead g s z) → z .outline ≡ outlineSize (i .records)
+need-outline g s z i = ap (λ (x : Sizes). x .outline) (i .sizes ∙ sizes-of (i .records))
 
 -- what the write pass asks, and what it leaves behind, where there is room for the records
-module _ (s : List ℕ) (z : Sizes) (i : IsRead s z) where
-  abbrev text : (length s ≤ limit) × (decided s ≡ done (i .records))
-  text = outline-read s (i .records) (i .answer)
+module _ (g : Reading) (s : List ℕ) (z : Sizes) (i : IsRead g s z) where
+  abbrev text : (length s ≤ limit) × (decided g s ≡ done (i .records))
+  text = outline-read g s (i .records) (i .answer)
 
-  pub outline-asks : (l a : List ℕ) → z .outline ≤ length l → Fits false s l a
-  outline-asks l a h = outline-fits s (i .records) (text .1) l a (text .0) (omega (arith, need-outline s z i))
+  pub outline-asks : (l a : List ℕ) → z .outline ≤ length l → Fits g false s l a
+  outline-asks l a h = outline-fits g s (i .records) (text .1) l a (text .0) (omega (arith, need-outline g s z i))
 
-  pub stored : (l m : List ℕ) → m ≡ front (storeBytes false s) l → m ≡ front (storeOf false s 0 (i .records)) l
-  stored l m e = e ∙ ap (λ (x : List ℕ). front x l) (store-bytes s (i .records) (text .1) false)
+  pub stored : (l m : List ℕ) → m ≡ front (storeBytes g false s) l → m ≡ front (storeOf false s 0 (i .records)) l
+  stored l m e = e ∙ ap (λ (x : List ℕ). front x l) (store-bytes g s (i .records) (text .1) false)

@@ -1,10 +1,11 @@
--- The service Outline (document 01): what it answers and what the lent store holds afterwards, for every text and every room. Order: 1, 2, the first of 3 to 9, then 10.
+-- The service Outline (document 01): what it answers and what the lent store holds afterwards, for every text and every room. Order: 1, 2, in the strict reading 16 and 18, the first of the others, then 10.
 -- A refusal writes nothing; exactly enough room is room. Assumes nothing.
 use Prim.Native.Nat.{ℕ}
 use mathlib.Core.Bool.{false, cond}
 use mathlib.Core.List.{List}
 use lib.Dec.{eqb, ltb}
 use lib.ListN.{length}
+use Rattle.rules.specs.declared.Reading.{Reading}
 use Rattle.places.specs.Reports.{success, noRoom}
 use Rattle.places.specs.declared.Report.{Report}
 use Rattle.grammar.specs.Machine.{Rec, Answer, refused, done}
@@ -23,15 +24,15 @@ unfoldable pub outlineBy : List ℕ → ℕ → Answer → Report
 outlineBy s m (refused n o d) = refusal s n o d
 outlineBy s m (done rs) = outlineRoom m rs
 
-unfoldable pub outlineAnswer : List ℕ → ℕ → Report
-outlineAnswer s m = outlineBy s m (outline s)
+unfoldable pub outlineAnswer : Reading → List ℕ → ℕ → Report
+outlineAnswer g s m = outlineBy s m (outline g s)
 
 unfoldable pub outlineStoreBy : List ℕ → List ℕ → Answer → List ℕ
 outlineStoreBy s l (refused n o d) = l
 outlineStoreBy s l (done rs) = writtenIf (eqb (outlineRoom (length l) rs .number) 0) (storeOf false s 0 rs) l
 
-unfoldable pub outlineStore : List ℕ → List ℕ → List ℕ
-outlineStore s l = outlineStoreBy s l (outline s)
+unfoldable pub outlineStore : Reading → List ℕ → List ℕ → List ℕ
+outlineStore g s l = outlineStoreBy s l (outline g s)
 
 -- document 01's numbers for each case of the code's answer
 unfoldable pub outlinedReport : Outlined → Report

@@ -6,6 +6,7 @@ ghost use Rattle.judging.specs.Judging.{IsRead};
 use judging::Judged;
 use places::Report;
 use refusals::Refusal;
+use rules::Reading;
 use sizes::Sizes;
 
 // Outline's answer.
@@ -29,28 +30,28 @@ impl Outlined {
 }
 
 // Outline of a text that is read. The outline has no area.
-fn outline_fitting(s: &[u8], store: &mut [u8], sizes: Sizes) -> Outlined
-    requires { ⌜ IsRead (now s) sizes ⌝ }
-    ensures { λ r. ⌜ outlinedReport r ≡ outlineAnswer (now (s .entry)) (length (now (store .entry))) ⌝ }
-    ensures { λ r. ⌜ now (store .exit) ≡ outlineStore (now (s .entry)) (now (store .entry)) ⌝ }
+fn outline_fitting(reading: Reading, s: &[u8], store: &mut [u8], sizes: Sizes) -> Outlined
+    requires { ⌜ IsRead reading (now s) sizes ⌝ }
+    ensures { λ r. ⌜ outlinedReport r ≡ outlineAnswer reading (now (s .entry)) (length (now (store .entry))) ⌝ }
+    ensures { λ r. ⌜ now (store .exit) ≡ outlineStore reading (now (s .entry)) (now (store .entry)) ⌝ }
 {
     let room = sizes.outline;
     if store.len() < room {
         return Outlined::NoRoom { store: room };
     }
     let mut area = [0u8; 1];
-    writing::write_block(s, false, store, &mut area);
+    writing::write_block(reading, s, false, store, &mut area);
     Outlined::Written { store: room }
 }
 
 // OUTLINE: the same without 11; kinds and places only.
-pub fn outline(text: &[u8], store: &mut [u8]) -> Outlined
-    ensures answers { λ r. ⌜ outlinedReport r ≡ outlineAnswer (now (text .entry)) (length (now (store .entry))) ⌝ }
-    ensures writes { λ r. ⌜ now (store .exit) ≡ outlineStore (now (text .entry)) (now (store .entry)) ⌝ }
+pub fn outline(reading: Reading, text: &[u8], store: &mut [u8]) -> Outlined
+    ensures answers { λ r. ⌜ outlinedReport r ≡ outlineAnswer reading (now (text .entry)) (length (now (store .entry))) ⌝ }
+    ensures writes { λ r. ⌜ now (store .exit) ≡ outlineStore reading (now (text .entry)) (now (store .entry)) ⌝ }
 {
-    let judged = judging::judge(text);
+    let judged = judging::judge(reading, text);
     match judged {
         Judged::Declines { refusal } => Outlined::Declined { refusal },
-        Judged::Fits { sizes } => outline_fitting(text, store, sizes),
+        Judged::Fits { sizes } => outline_fitting(reading, text, store, sizes),
     }
 }

@@ -6,6 +6,7 @@ use mathlib.Core.Path.{_≡_, refl, sym, ap, _∙_}
 use mathlib.Core.List.{List, [], _∷_, _++_}
 use native.Mathlib.Omega.{arith}
 use lib.ListN.{length, getD}
+use Rattle.rules.specs.declared.Reading.the-variants.{First}
 use Rattle.text.specs.Bytes.{is, isAscii, isDigit, isEol}
 use Rattle.places.specs.Reports.{success, refusedAt}
 use Rattle.numbers.specs.Spelling.{padded, trim, plain, signBytes, uncBytes, expBytes, fracBytes, renderNumber}
@@ -19,8 +20,10 @@ use Rattle.walking.specs.Writing.{tagsOf, storeOf}
 use Rattle.reading.specs.Services.{readStoreBy, readStore, readAreaBy, readArea}
 use Rattle.refusals.specs.Answers.{writtenIf}
 use Rattle.entries.specs.Walk.{onward, entriesFrom, entries}
-use Rattle.nesting.specs.Nesting.{isValueKind, opensLoop, atItems, afterName, atNames, atValues, standing, ended, follow, nestedFrom, nested}
-use Rattle.contents.specs.Contents.{isName, readableBy, readable, exponentKept, partsKept, contentLength, contentBytes, lies, isInside, isReadable}
+use Rattle.nesting.specs.Nesting.{isValueKind, further, endsLoop, opensLoop, atItems, afterName, atNames, atValues, standing, ended, follow, nestedFrom, nested}
+use Rattle.readable.specs.Tokens.{marked, lead, stands, isLed}
+use Rattle.readable.specs.Readable.{isName, isKept, readableBy, readable}
+use Rattle.contents.specs.Contents.{exponentKept, partsKept, contentLength, contentBytes, lies, isInside, isReadable}
 use Rattle.values.specs.Alone.{isKind as isKindAlone, isAlone}
 use Rattle.stores.specs.Soundness.{takes, filledFrom, filled, eachReadable, eachInside, follows, laidOut}
 use Rattle.stores.specs.Soundness.{sound}
@@ -42,10 +45,10 @@ sevens zero = []
 sevens (suc n) = 7 ∷ sevens n
 
 store : String → List ℕ
-store t = storeBytes (bytes t) (sevens 80) (sevens 4)
+store t = storeBytes First (bytes t) (sevens 80) (sevens 4)
 
 area : String → List ℕ
-area t = areaBytes (bytes t) (sevens 80) (sevens 4)
+area t = areaBytes First (bytes t) (sevens 80) (sevens 4)
 
 -- all that the examples compute with
 unfoldable all : ℕ
@@ -62,7 +65,7 @@ area-example : area "data_x _a 1" ≡ bytes "xa"
 unfolding all
 area-example = refl
 
-rendered-example : renderedBytes (store "data_x _a 01.50") (area "data_x _a 01.50") (sevens 40) ≡ bytes "data_x\n_a\n1.50\n"
+rendered-example : renderedBytes First (store "data_x _a 01.50") (area "data_x _a 01.50") (sevens 40) ≡ bytes "data_x\n_a\n1.50\n"
 unfolding all
 rendered-example = refl
 
@@ -126,11 +129,11 @@ letter-example d = false≢true (stays-digit (d .bytes 1 (omega arith)) refl)
 
 -- Digits change in a loop's value and in the open quote behind it: the refusal stays, whole, with why the loop's list ended
 
-refused-example : outlineAnswer (bytes "data_x loop_ _a 1 '2") 0 ≡ refusedAt 7 (record { offset = 18; line = 1; column = 19 }) 4
+refused-example : outlineAnswer First (bytes "data_x loop_ _a 1 '2") 0 ≡ refusedAt 7 (record { offset = 18; line = 1; column = 19 }) 4
 unfolding all outlineBy outlineAnswer
 refused-example = refl
 
-detail-example : outlineAnswer (bytes "data_x loop_ _a 9 '0") 0 ≡ refusedAt 7 (record { offset = 18; line = 1; column = 19 }) 4
+detail-example : outlineAnswer First (bytes "data_x loop_ _a 9 '0") 0 ≡ refusedAt 7 (record { offset = 18; line = 1; column = 19 }) 4
 unfolding all outlineBy outlineAnswer
 detail-example = refl
 

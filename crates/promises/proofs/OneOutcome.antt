@@ -10,7 +10,7 @@ use Rattle.places.specs.declared.Report.{Report}
 use Rattle.deciding.specs.declared.Decision.{Decision}
 use Rattle.deciding.specs.declared.Decision.the-variants.{Fits, Refused as RefusedText}
 use Rattle.grammar.specs.declared.Cause.{Cause}
-use Rattle.grammar.specs.declared.Cause.the-variants.{NotAscii, NoData, OpenFrame, Ragged, NoValue, NoItem, NoNames, OverLimit}
+use Rattle.grammar.specs.declared.Cause.the-variants.{NotAscii, NoData, OpenFrame, Ragged, NoValue, NoItem, NoNames, OverLimit, NotParted, LongLine, BadName, ControlByte}
 use Rattle.grammar.specs.Causes.{causeNumber, causeDetail}
 use Rattle.grammar.proofs.Causes.{cause-has-place}
 use Rattle.deciding.specs.Decisions.{Told, refusal, room, told}
@@ -19,8 +19,8 @@ use Rattle.rendering.specs.declared.Rendered.the-variants.{Done as DoneText, No
 use Rattle.rendering.specs.Rendering.{renderedReport}
 use Rattle.refusals.specs.declared.Refusal.{Refusal}
 use Rattle.refusals.specs.declared.Refusal.the-variants.{TooLong, At}
-use Rattle.reading.specs.declared.Reading.{Reading}
-use Rattle.reading.specs.declared.Reading.the-variants.{Done, Refused, StoreFull, AreaFull}
+use Rattle.reading.specs.declared.Stored.{Stored}
+use Rattle.reading.specs.declared.Stored.the-variants.{Done, Refused, StoreFull, AreaFull}
 use Rattle.outlining.specs.declared.Outlined.{Outlined}
 use Rattle.outlining.specs.declared.Outlined.the-variants.{Written, Declined, NoRoom}
 use Rattle.reading.specs.Services.{readingReport}
@@ -39,7 +39,11 @@ causeIn n d =
     (cond (eqb n 5) (Ragged d)
     (cond (eqb n 6) (NoValue d)
     (cond (eqb n 7) (NoItem d)
-    (cond (eqb n 8) NoNames OverLimit))))))
+    (cond (eqb n 8) NoNames
+    (cond (eqb n 9) OverLimit
+    (cond (eqb n 15) NotParted
+    (cond (eqb n 16) LongLine
+    (cond (eqb n 17) BadName ControlByte))))))))))
 
 cause-back : (c : Cause) → causeIn (causeNumber c) (causeDetail c) ≡ c
 unfolding causeIn
@@ -51,6 +55,10 @@ cause-back (NoValue d) = refl
 cause-back (NoItem d) = refl
 cause-back NoNames = refl
 cause-back OverLimit = refl
+cause-back NotParted = refl
+cause-back LongLine = refl
+cause-back BadName = refl
+cause-back ControlByte = refl
 
 unfoldable refusalIn : Report → Refusal
 refusalIn p = cond (eqb (p .number) 1) TooLong (At (causeIn (p .number) (p .detail)) (placeIn p))
@@ -70,14 +78,18 @@ cause-low (NoValue d) = (refl, refl, refl)
 cause-low (NoItem d) = (refl, refl, refl)
 cause-low NoNames = (refl, refl, refl)
 cause-low OverLimit = (refl, refl, refl)
+cause-low NotParted = (refl, refl, refl)
+cause-low LongLine = (refl, refl, refl)
+cause-low BadName = (refl, refl, refl)
+cause-low ControlByte = (refl, refl, refl)
 
-unfoldable readingIn : Report → Reading
+unfoldable readingIn : Report → Stored
 readingIn p =
     cond (eqb (p .number) 0) (Done (p .first) (p .second))
     (cond (eqb (p .number) 10) (StoreFull (p .first) (p .second))
     (cond (eqb (p .number) 11) (AreaFull (p .first) (p .second)) (Refused (refusalIn p))))
 
-reading-back : (r : Reading) → readingIn (readingReport r) ≡ r
+reading-back : (r : Stored) → readingIn (readingReport r) ≡ r
 unfolding readingIn refusalIn placeIn readingReport refusalReport success refusedAt refusedBare noRoom
 reading-back (Done m k) = refl
 reading-back (StoreFull m k) = refl
@@ -85,7 +97,7 @@ reading-back (AreaFull m k) = refl
 reading-back (Refused TooLong) = refl
 reading-back (Refused (At c p)) = rw (cause-low c .0, cause-low c .1, cause-low c .2) (ap Refused (refusal-back (At c p)))
 
-pub one-reading : (a b : Reading) → readingReport a ≡ readingReport b → a ≡ b
+pub one-reading : (a b : Stored) → readingReport a ≡ readingReport b → a ≡ b
 one-reading a b e = sym (reading-back a) ∙ ap readingIn e ∙ reading-back b
 
 unfoldable outlinedIn : Report → Outlined

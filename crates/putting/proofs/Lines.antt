@@ -7,15 +7,14 @@ use native.Mathlib.Omega.{arith}
 use borrow.Author.Tests.{eqb-true, eqb-false}
 use lib.Dec.{eqb}
 use lib.ListN.{length, drop, getD, length-drop}
+use Rattle.rules.specs.declared.Reading.{Reading}
 use Rattle.text.specs.Bytes.{isEol}
 use Rattle.words.specs.Words.{word, wordEnd}
 use Rattle.words.proofs.Words.{word-end, word-plain, word-fits}
-use Rattle.values.proofs.Laws.{lies-within, lies-plain, lies-last}
+use Rattle.values.proofs.Laws.{lies-within, lies-plain, lies-last, found-lies, found-marks}
 use Rattle.kinds.specs.Kinds.{kindOf, marksOf}
-use Rattle.kinds.proofs.Marks.{value-marks}
 use Rattle.values.specs.declared.Found.the-variants.{Value}
 use Rattle.values.specs.Finding.{foundAt}
-use Rattle.values.proofs.Laws.{found-lies}
 use Rattle.putting.specs.Desk.{IsToken}
 
 -- the first bytes of a word
@@ -36,21 +35,21 @@ unfolding isEol
 semicolon-plain b e = rw e
 
 -- a value that is found
-pub value-token : (s : List ℕ) (o k n : ℕ) → foundAt s o ≡ Value k n → IsToken s k o n
-value-token s o k n f =
-    let i = found-lies s o k n f in
+pub value-token : (r : Reading) (s : List ℕ) (o k n : ℕ) → foundAt r s o ≡ Value k n → IsToken s k o n
+value-token r s o k n f =
+    let i = found-lies r s o k n f in
     record {
       some = i .pos;
-      within = lies-within s o k n i;
-      marks = value-marks k n (i .low) (i .high) (i .marks);
-      line = λ q. lies-plain s o k n i (eqb-false k 13 q);
+      within = lies-within r s o k n i;
+      marks = found-marks r s o k n f;
+      line = λ q. lies-plain r s o k n i (eqb-false k 13 q);
       last = λ j e. ends j e (eqb k 13) refl;
     }
   where
     ends : (j : ℕ) → suc j ≡ o + n → (t : Bool) → eqb k 13 ≡ t → isEol (getD s j 0) ≡ false
     ends j e true q =
         let z : j ≡ o + n - 1 = omega arith in
-        semicolon-plain (getD s j 0) (rw z (lies-last s o k n (found-lies s o k n f) (eqb-true k 13 q)))
+        semicolon-plain (getD s j 0) (rw z (lies-last r s o k n (found-lies r s o k n f) (eqb-true k 13 q)))
     ends j e false q =
-        let i = found-lies s o k n f in
-        lies-plain s o k n i (eqb-false k 13 q) j (omega (arith, i .pos)) (omega arith)
+        let i = found-lies r s o k n f in
+        lies-plain r s o k n i (eqb-false k 13 q) j (omega (arith, i .pos)) (omega arith)

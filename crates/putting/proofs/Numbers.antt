@@ -2,17 +2,20 @@
 use Prim.Native.Nat.{ℕ, zero, suc, _+_, _-_, _≤_, _<_}
 use mathlib.Core.Path.{_≡_, refl}
 use mathlib.Core.Bool.{true}
+use mathlib.Core.Bool.{true}
 use mathlib.Core.List.{List}
 use native.Mathlib.Omega.{arith}
 use lib.ListN.{take, drop}
+use Rattle.rules.specs.declared.Reading.{Reading}
 use Rattle.numbers.specs.declared.Decimal.{Decimal}
 use Rattle.numbers.specs.Parts.{parts, within}
 use Rattle.numbers.specs.Meaning.{meaning}
 use Rattle.numbers.proofs.Facts.{number-facts}
 use Rattle.values.specs.Finding.{kindOfNumber}
-use Rattle.values.proofs.Laws.{found-lies, found-number}
+use Rattle.values.proofs.Laws.{found-number}
 use Rattle.kinds.specs.declared.Shape.the-variants.{Place as PlaceAlone, Content}
-use Rattle.kinds.specs.Kinds.{kindOf, shapeOf}
+use Rattle.kinds.specs.Kinds.{kindOf, shapeOf, isValueKind}
+use Rattle.kinds.proofs.Marks.{each-value}
 use Rattle.putting.specs.Written.{decimalOf, tokenText}
 use Rattle.putting.specs.Desk.{IsToken, ValueHere, recAt}
 use Rattle.putting.proofs.Lines.{value-token as found-token}
@@ -20,19 +23,17 @@ use Rattle.putting.proofs.Lines.{value-token as found-token}
 -- what Read and Outline want of a number
 pub record NumberToken (s : List ℕ) (o k n : ℕ) : Type 0 where
   pub token : IsToken s k o n
-  pub most : k ≤ 15
   pub kind : k ≡ kindOfNumber (decimalOf s (recAt k o n))
   pub limits : within (parts (take n (drop o s))) ≡ true
   pub places : decimalOf s (recAt k o n) .places < 256
 
-pub number-token : (s : List ℕ) (o k n : ℕ) → ValueHere s o k n → 14 ≤ k → NumberToken s o k n
+pub number-token : (r : Reading) (s : List ℕ) (o k n : ℕ) → ValueHere r s o k n → 14 ≤ k → k ≤ 15 → NumberToken s o k n
 unfolding decimalOf tokenText
-number-token s o k n h l =
-    let f = found-number s o k n (h .found) l in
-    let b = number-facts (take n (drop o s)) _ (f .number) in
+number-token r s o k n h l u =
+    let f = found-number r s o k n (h .found) l u in
+    let b = number-facts r (take n (drop o s)) _ (f .number) in
     record {
-      token = found-token s o k n (h .found);
-      most = found-lies s o k n (h .found) .high;
+      token = found-token r s o k n (h .found);
       kind = f .kind;
       limits = f .kept;
       places = omega (arith, b .places);
@@ -45,7 +46,7 @@ decimal-here s o k n d e =
     let z : o + n - o ≡ n = omega arith in
     rw z at e
 
--- the shape of a value's record
+-- the shapes of values' records
 pub mark-kind : (k : ℕ) → 8 ≤ k → k < 10 → shapeOf (kindOf k) ≡ PlaceAlone
 unfolding kindOf shapeOf
 mark-kind k l h = by (k - 8) (omega arith)
@@ -55,13 +56,9 @@ mark-kind k l h = by (k - 8) (omega arith)
     by (suc zero) e = rw e
     by (suc (suc j)) e = absurd (omega arith)
 
-pub text-kind : (k : ℕ) → 10 ≤ k → k ≤ 13 → shapeOf (kindOf k) ≡ Content
+-- a value that is neither a mark nor a number is text
+pub text-kind : (k : ℕ) → isValueKind k ≡ true → (14 ≤ k → k ≤ 15 → ⊥) → 10 ≤ k → shapeOf (kindOf k) ≡ Content
 unfolding kindOf shapeOf
-text-kind k l h = by (k - 10) (omega arith)
-  where
-    by : (j : ℕ) → k ≡ 10 + j → shapeOf (kindOf k) ≡ Content
-    by zero e = rw e
-    by (suc zero) e = rw e
-    by (suc (suc zero)) e = rw e
-    by (suc (suc (suc zero))) e = rw e
-    by (suc (suc (suc (suc j)))) e = absurd (omega arith)
+text-kind k v =
+    each-value (λ k. (14 ≤ k → k ≤ 15 → ⊥) → 10 ≤ k → shapeOf (kindOf k) ≡ Content) (λ n l. absurd (omega arith)) (λ n l. absurd (omega arith)) (λ n l. refl)
+    (λ n l. refl) (λ n l. refl) (λ n l. refl) (λ n l. absurd (n (omega arith) (omega arith))) (λ n l. absurd (n (omega arith) (omega arith))) (λ n l. refl) k v

@@ -5,6 +5,7 @@ use mathlib.Core.Bool.{Bool, true, false, cond}
 use mathlib.Core.List.{List, [], _∷_}
 use lib.Dec.{eqb}
 use lib.ListN.{length, drop, getD}
+use Rattle.rules.specs.declared.Reading.{Reading}
 use Rattle.text.specs.Bytes.{isEol}
 use Rattle.gaps.specs.Gaps.{gap}
 use Rattle.places.specs.Places.{placeAt, IsPlace}
@@ -69,9 +70,9 @@ pub record WroteOne (full : Bool) (s : List ℕ) (n : ℕ) (r : Rec) (o : ℕ) (
   pub area : e .area ≡ put (d .cursor .area) (cond full (contentOf s r) []) (d .area)
 
 -- a value of kind k and n bytes stands at offset o, where no space does
-pub record ValueHere (s : List ℕ) (o k n : ℕ) : Type 0 where
+pub record ValueHere (r : Reading) (s : List ℕ) (o k n : ℕ) : Type 0 where
   pub bare : gap (drop o s) ≡ 0
-  pub found : foundAt s o ≡ Value k n
+  pub found : foundAt r s o ≡ Value k n
 
 -- there is room in the store l for one record
 abbrev pub StoreRoom : Bool → Rec → Cursor → List ℕ → Type 0
@@ -99,11 +100,13 @@ pub record MarkAhead (full : Bool) (s : List ℕ) (k n : ℕ) (c : Cursor) (l : 
   pub alone : shapeOf (kindOf k) ≡ PlaceAlone
   pub room : StoreRoom full (recAt k (c .place .offset) n) c l
 
--- a number stands there
+-- a number stands there, in some reading: what is written of it is the same in either
 pub record NumberAhead (full : Bool) (s : List ℕ) (k n : ℕ) (c : Cursor) (l : List ℕ) : Type 0 where
   pub going : Going s c
-  pub here : ValueHere s (c .place .offset) k n
-  pub number : 14 ≤ k
+  pub reading : Reading
+  pub here : ValueHere reading s (c .place .offset) k n
+  pub least : 14 ≤ k
+  pub most : k ≤ 15
   pub room : StoreRoom full (recAt k (c .place .offset) n) c l
 
 -- the record of a token without content is written: every area stays as it is

@@ -1,8 +1,8 @@
--- Laws of contents between marks: a quote takes in a content and the mark behind it just where the content is plain; a text field just where the content ends in a line
--- end and holds no `;` behind one before. Assumes nothing.
+-- Laws of contents between marks: a quote takes in a content and the mark behind it just where the content is plain, in the strict reading where it is plain by its rule; a
+-- text field just where the content ends in a line end and holds no `;` behind one before. Assumes nothing.
 use Prim.Native.Nat.{ℕ, zero, suc, _+_, _-_, _≤_, _<_}
-use mathlib.Core.Path.{_≡_, refl, ap, _∙_}
-use mathlib.Core.Bool.{Bool, true, false, not, cond, _&&_, _||_}
+use mathlib.Core.Path.{_≡_, refl, sym, ap, _∙_}
+use mathlib.Core.Bool.{Bool, true, false, not, cond, _&&_, _||_, and-false, or-true}
 use mathlib.Core.List.{List, [], _∷_, _++_}
 use mathlib.Core.Option.{Option, none, some}
 use native.Mathlib.Omega.{arith}
@@ -11,9 +11,9 @@ use borrow.Author.Tests.{eq-eqb, ne-eqb}
 use lib.Dec.{eqb, eqb·suc-suc}
 use lib.ListN.{length, drop, getD, drop-of-length-le}
 use lib.Seq.{drop-cons}
-use Rattle.text.specs.Bytes.{is, isEol}
-use Rattle.quotes.specs.Quotes.{more, quoted, fieldIn, field}
-use Rattle.quotes.specs.Content.{inQuotes, plain, lastEol, endsAt, isNone}
+use Rattle.text.specs.Bytes.{is, isEol, isSpace}
+use Rattle.quotes.specs.Quotes.{more, quoted, endsHere, strictQuoted, fieldIn, field}
+use Rattle.quotes.specs.Content.{inQuotes, plain, strictPlain, lastEol, endsAt, isNone}
 
 -- a content is plain from an offset on: a byte that may stand there, the mark, a line end, the end
 module _ (m : ℕ) (c : List ℕ) (o : ℕ) where
@@ -51,6 +51,48 @@ quoted-plain m (b ∷ c) = by (quoted-plain m c) (eqb b m) refl (isEol b) refl
     by h true e u f = rw e (ends-short (length c))
     by h false e true f = rw (e, f)
     by h false e false f = rw (e, f) (ends-more (suc (length c)) (quoted m (c ++ (m ∷ []))) ∙ h)
+
+-- in the strict reading: behind the mark no space, and else as if it did not stand before
+strict-flag : (m : ℕ) → isSpace m ≡ false → (c : List ℕ) → strictPlain true m c ≡ (not (endsHere (c ++ (m ∷ []))) && strictPlain false m c)
+unfolding strictPlain endsHere
+strict-flag m g [] = rw g
+strict-flag m g (b ∷ c) = by (isSpace b)
+  where
+    by : (t : Bool) → (not (t || isEol b) && strictPlain (is m b) m c) ≡ (not t && (not (isEol b) && strictPlain (is m b) m c))
+    by true = refl
+    by false = refl
+
+-- a quote takes in a content and the mark behind it just where the content is plain by that rule
+pub strict-plain : (m : ℕ) → isSpace m ≡ false → (c : List ℕ) → endsAt (suc (length c)) (strictQuoted m (c ++ (m ∷ []))) ≡ strictPlain false m c
+unfolding strictQuoted strictPlain endsHere is
+strict-plain m g [] = rw (eq-eqb m m refl)
+strict-plain m g (b ∷ c) = by (eqb b m) (endsHere (c ++ (m ∷ []))) refl (isEol b) (strictQuoted m (c ++ (m ∷ []))) (strict-plain m g c)
+  where
+    by : (t u : Bool) → endsHere (c ++ (m ∷ [])) ≡ u → (v : Bool) (q : Option ℕ) → endsAt (suc (length c)) q ≡ strictPlain false m c
+        → endsAt (suc (suc (length c))) (cond (t && u) (some 1) (cond v none (more q))) ≡ (not v && strictPlain t m c)
+    by true true e v q h = ends-short (length c) ∙ sym (rw (strict-flag m g c, e) (and-false (not v)))
+    by true false e true q h = refl
+    by true false e false q h = ends-more (suc (length c)) q ∙ h ∙ sym (rw (strict-flag m g c, e))
+    by false u e true q h = refl
+    by false u e false q h = ends-more (suc (length c)) q ∙ h
+
+-- a content is so plain from an offset on, where the mark stands before it or not: a byte that may stand there, a line end, space behind the mark, the end
+module _ (e : Bool) (m : ℕ) (c : List ℕ) (o : ℕ) where
+  pub strict-go : o < length c → (e && isSpace (getD c o 0)) ≡ false → isEol (getD c o 0) ≡ false → strictPlain e m (drop o c) ≡ strictPlain (is m (getD c o 0)) m (drop (o + 1) c)
+  unfolding strictPlain
+  strict-go h s f = rw (drop-cons c o 0, s, f, add-one)
+
+  pub strict-eol : o < length c → isEol (getD c o 0) ≡ true → strictPlain e m (drop o c) ≡ false
+  unfolding strictPlain
+  strict-eol h f = rw (drop-cons c o 0, f, or-true (e && isSpace (getD c o 0)))
+
+  pub strict-space : o < length c → (e && isSpace (getD c o 0)) ≡ true → strictPlain e m (drop o c) ≡ false
+  unfolding strictPlain
+  strict-space h s = rw (drop-cons c o 0, s)
+
+  pub strict-over : length c ≤ o → strictPlain e m (drop o c) ≡ true
+  unfolding strictPlain
+  strict-over h = rw (drop-of-length-le c h)
 
 none-more : (r : Option ℕ) → isNone (more r) ≡ isNone r
 unfolding more

@@ -1,4 +1,5 @@
 pub mod Quotes
+pub mod Strict
 pub mod Shape
 pub mod Ended
 pub mod Content

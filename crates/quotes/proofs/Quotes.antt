@@ -17,8 +17,9 @@ use Rattle.text.proofs.Runs.{span-from, span-ends}
 use Rattle.quotes.specs.declared.Closing.{Closing}
 use Rattle.quotes.specs.declared.Closing.the-variants.{Behind, Nothing}
 use Rattle.text.specs.Blocks.{clear}
-use Rattle.quotes.specs.Quotes.{more, quoted, fieldIn, field}
-use Rattle.quotes.specs.Answers.{closing, quoteEnd, fieldEnd}
+use Rattle.rules.specs.declared.Reading.{Reading}
+use Rattle.quotes.specs.Quotes.{more, quoted, quotedBy, fieldIn, field}
+use Rattle.quotes.specs.Answers.{closing, markEnd, quoteEnd, fieldEnd}
 use Rattle.text.proofs.Blocks.{clear-least, clear-other, clear-mark, block-keeps, span-keeps}
 
 -- byte by byte
@@ -29,20 +30,20 @@ closing-more o none = refl
 closing-more o (some n) = ap Behind (omega arith)
 
 module _ (m : ℕ) (s : List ℕ) (o : ℕ) where
-  pub quote-go : o < length s → is m (getD s o 0) ≡ false → isEol (getD s o 0) ≡ false → quoteEnd m s o ≡ quoteEnd m s (o + 1)
-  unfolding quoteEnd quoted
+  pub quote-go : o < length s → is m (getD s o 0) ≡ false → isEol (getD s o 0) ≡ false → markEnd m s o ≡ markEnd m s (o + 1)
+  unfolding markEnd quoted
   quote-go h e f = rw (drop-cons s o 0, e, f, closing-more, add-one)
 
-  pub quote-here : o < length s → is m (getD s o 0) ≡ true → quoteEnd m s o ≡ Behind (o + 1)
-  unfolding quoteEnd quoted closing
+  pub quote-here : o < length s → is m (getD s o 0) ≡ true → markEnd m s o ≡ Behind (o + 1)
+  unfolding markEnd quoted closing
   quote-here h e = rw (drop-cons s o 0, e)
 
-  pub quote-open : o < length s → is m (getD s o 0) ≡ false → isEol (getD s o 0) ≡ true → quoteEnd m s o ≡ Nothing
-  unfolding quoteEnd quoted closing
+  pub quote-open : o < length s → is m (getD s o 0) ≡ false → isEol (getD s o 0) ≡ true → markEnd m s o ≡ Nothing
+  unfolding markEnd quoted closing
   quote-open h e f = rw (drop-cons s o 0, e, f)
 
-  pub quote-over : length s ≤ o → quoteEnd m s o ≡ Nothing
-  unfolding quoteEnd quoted closing
+  pub quote-over : length s ≤ o → markEnd m s o ≡ Nothing
+  unfolding markEnd quoted closing
   quote-over h = rw (drop-of-length-le s h)
 
 -- a byte of at least 14 ends no line, so that a block of such bytes without the mark may be skipped
@@ -50,8 +51,8 @@ high-plain : (b : ℕ) → 14 ≤ b → isEol b ≡ false
 unfolding isEol
 high-plain b h = rw (ne-eqb b 10 (λ e. omega arith), ne-eqb b 13 (λ e. omega arith))
 
-pub quote-block : (m : ℕ) (s : List ℕ) (o n : ℕ) → runs (clear 14 m) n s o ≡ true → quoteEnd m s o ≡ quoteEnd m s (o + n)
-quote-block m s o n e = block-keeps (quoteEnd m s) (clear 14 m) s o (λ k l h t. quote-go m s k h (clear-other 14 m (getD s k 0) t) (high-plain (getD s k 0) (clear-least 14 m (getD s k 0) t))) n e
+pub quote-block : (m : ℕ) (s : List ℕ) (o n : ℕ) → runs (clear 14 m) n s o ≡ true → markEnd m s o ≡ markEnd m s (o + n)
+quote-block m s o n e = block-keeps (markEnd m s) (clear 14 m) s o (λ k l h t. quote-go m s k h (clear-other 14 m (getD s k 0) t) (high-plain (getD s k 0) (clear-least 14 m (getD s k 0) t))) n e
 
 -- the end of a text field from offset o on; the flag: a byte of a line end stands before
 unfoldable pub fieldFrom : Bool → List ℕ → ℕ → Closing
@@ -134,13 +135,21 @@ closing-nothing o (some n) q =
     let z : _≡_ {A = ℕ} 0 1 = cc in
     absurd (omega arith)
 
-pub quote-behind : (m : ℕ) (s : List ℕ) (o e : ℕ) → quoteEnd m s o ≡ Behind e → (o ≤ e) × (quoted m (drop o s) ≡ some (e - o))
-unfolding quoteEnd
-quote-behind m s o e q = closing-behind o e (quoted m (drop o s)) q
+pub mark-behind : (m : ℕ) (s : List ℕ) (o e : ℕ) → markEnd m s o ≡ Behind e → (o ≤ e) × (quoted m (drop o s) ≡ some (e - o))
+unfolding markEnd
+mark-behind m s o e q = closing-behind o e (quoted m (drop o s)) q
 
-pub quote-nothing : (m : ℕ) (s : List ℕ) (o : ℕ) → quoteEnd m s o ≡ Nothing → quoted m (drop o s) ≡ none
+pub mark-nothing : (m : ℕ) (s : List ℕ) (o : ℕ) → markEnd m s o ≡ Nothing → quoted m (drop o s) ≡ none
+unfolding markEnd
+mark-nothing m s o q = closing-nothing o (quoted m (drop o s)) q
+
+pub quote-behind : (r : Reading) (m : ℕ) (s : List ℕ) (o e : ℕ) → quoteEnd r m s o ≡ Behind e → (o ≤ e) × (quotedBy r m (drop o s) ≡ some (e - o))
 unfolding quoteEnd
-quote-nothing m s o q = closing-nothing o (quoted m (drop o s)) q
+quote-behind r m s o e q = closing-behind o e (quotedBy r m (drop o s)) q
+
+pub quote-nothing : (r : Reading) (m : ℕ) (s : List ℕ) (o : ℕ) → quoteEnd r m s o ≡ Nothing → quotedBy r m (drop o s) ≡ none
+unfolding quoteEnd
+quote-nothing r m s o q = closing-nothing o (quotedBy r m (drop o s)) q
 
 pub field-behind : (s : List ℕ) (o e : ℕ) → fieldEnd s o ≡ Behind e → (o ≤ e) × (field (drop o s) ≡ some (e - o))
 unfolding fieldEnd
@@ -163,7 +172,7 @@ ends-more m b s (suc n) i =
     let q : suc (suc n) - 1 ≡ suc n = omega arith in
     record { pos = omega arith; fits = omega (arith, i .fits); last = rw q (rw p at (i .last)) }
 
-ends-step : (m b : ℕ) (s : List ℕ) (n : ℕ) (t u : Bool) (r : Option ℕ) → (t ≡ true → b ≡ m) → ((k : ℕ) → r ≡ some k → Ends m s k) → cond t (some 1) (cond u none (more r)) ≡ some n → Ends m (b ∷ s) n
+pub ends-step : (m b : ℕ) (s : List ℕ) (n : ℕ) (t u : Bool) (r : Option ℕ) → (t ≡ true → b ≡ m) → ((k : ℕ) → r ≡ some k → Ends m s k) → cond t (some 1) (cond u none (more r)) ≡ some n → Ends m (b ∷ s) n
 unfolding more
 ends-step m b s n true u r f g e =
     let q : 1 ≡ n = cc in

@@ -8,6 +8,7 @@ use mathlib.Core.Path.{_≡_}
 use mathlib.Core.Bool.{Bool, true, false, cond}
 use mathlib.Core.List.{List, [], _∷_, map}
 use lib.Dec.{eqb}
+use Rattle.rules.specs.declared.Reading.the-variants.{First}
 use Rattle.places.specs.declared.Report.{Report}
 use Rattle.places.specs.Places.{placeAt}
 use Rattle.numbers.specs.declared.Decimal.{Decimal}
@@ -48,8 +49,8 @@ pub data Question : Type 0 where
 
 -- a text is read into a store and an area of 65,536 bytes each
 unfoldable pub asked : Question → Seen
-asked (text s) = seen (bytes s) (readAnswer (bytes s) 65536 65536) (outline (bytes s))
-asked (word s) = says (valueAnswer (bytes s))
+asked (text s) = seen (bytes s) (readAnswer First (bytes s) 65536 65536) (outline First (bytes s))
+asked (word s) = says (valueAnswer First 10 (bytes s))
 
 pub record Reading : Type 0 where
   pub question : Question

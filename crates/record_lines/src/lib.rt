@@ -4,15 +4,18 @@ ghost use mathlib.Core.Bool.{true};
 ghost use Prim.Native.Nat.{_+_, _-_, _≤_, _<_};
 ghost use lib.ListN.{length, take, drop};
 ghost use Rattle.entries.specs.declared.Entry.the-variants.{Record};
-ghost use Rattle.record_lines.specs.Lines.{decimalOf, isEnd, lineOf};
-ghost use Rattle.contents.specs.Contents.{ownRule};
-ghost use Rattle.record_lines.specs.Writing.{sizeOf, markOf, openingText, bodyText, closingText, keepsDigits, lineLength};
+ghost use Rattle.readable.specs.Tokens.{mark};
+ghost use Rattle.contents.specs.Contents.{contentBytes, ownRule};
+ghost use Rattle.record_lines.specs.Lines.{decimalOf, isEnd, plainLine, lineOf};
+ghost use Rattle.record_lines.specs.Writing.{sizeOf, markOf, openingText, bodyText, closingText};
+ghost use Rattle.record_lines.specs.Writing.{keepsDigits, isWritable, plainLength, lineLength};
 ghost use Rattle.numerals.specs.Written.{Wrote};
 use entries::Fields;
 use entries::Parts;
 use kinds::Kind;
 use kinds::Shape;
 use numbers::Decimal;
+use rules::Reading;
 
 // A part of a source.
 fn put_part(out: &mut [u8], at: usize, source: &[u8], from: usize, size: usize) -> usize
@@ -87,7 +90,8 @@ fn put_opening(out: &mut [u8], at: usize, kind: Kind) -> usize
     ensures { λ r. ⌜ Wrote at (openingText kind) (now (out .entry)) (now (out .exit)) r ⌝ }
 {
     match kind {
-        Kind::NoKind | Kind::LoopEnd | Kind::Bare | Kind::Number | Kind::Uncertain => at,
+        Kind::NoKind | Kind::LoopEnd | Kind::Bare | Kind::Number | Kind::Uncertain | Kind::Quoted =>
+            at,
         Kind::Block => put_part(out, at, b"data_", 0, 5),
         Kind::FrameOpen | Kind::FrameClose => put_part(out, at, b"save_", 0, 5),
         Kind::Loop => put_part(out, at, b"loop_", 0, 5),
@@ -97,7 +101,7 @@ fn put_opening(out: &mut [u8], at: usize, kind: Kind) -> usize
 
 // What stands in a token: its content or its number.
 fn put_body(out: &mut [u8], at: usize, area: &[u8], kind: Kind, fields: Fields) -> usize
-    requires { ⌜ (ownRule (now area) kind fields ≡ true) × (at + length (bodyText (now area) kind fields) ≤ length (now out)) ⌝ }
+    requires { ⌜ (isWritable (now area) kind fields ≡ true) × (at + length (bodyText (now area) kind fields) ≤ length (now out)) ⌝ }
     ensures { λ r. ⌜ Wrote at (bodyText (now (area .entry)) kind fields) (now (out .entry)) (now (out .exit)) r ⌝ }
 {
     let shape = kind.shape();
@@ -117,37 +121,73 @@ fn put_body(out: &mut [u8], at: usize, area: &[u8], kind: Kind, fields: Fields) 
     }
 }
 
+// The first byte of a part of a source, if it has one.
+fn put_first(out: &mut [u8], at: usize, source: &[u8], from: usize, size: usize) -> usize
+    requires { ⌜ (at + length (mark (take size (drop from (now source)))) ≤ length (now out)) × (size ≤ length (now source) - from) ⌝ }
+    ensures { λ r. ⌜ Wrote at (mark (take size (drop from (now (source .entry))))) (now (out .entry)) (now (out .exit)) r ⌝ }
+{
+    if size == 0 {
+        return at;
+    }
+    numerals::put_byte(out, at, source[from])
+}
+
 // What closes a token, and LF.
-fn put_closing(out: &mut [u8], at: usize, kind: Kind) -> usize
-    requires { ⌜ at + length (closingText kind) ≤ length (now out) ⌝ }
-    ensures { λ r. ⌜ Wrote at (closingText kind) (now (out .entry)) (now (out .exit)) r ⌝ }
+fn put_closing(out: &mut [u8], at: usize, area: &[u8], kind: Kind, fields: Fields) -> usize
+    requires { ⌜ (isWritable (now area) kind fields ≡ true) × (at + length (closingText kind (contentBytes (now area) kind fields)) ≤ length (now out)) ⌝ }
+    ensures { λ r. ⌜ Wrote at (closingText kind (contentBytes (now (area .entry)) kind fields)) (now (out .entry)) (now (out .exit)) r ⌝ }
 {
     match kind {
         Kind::SingleQuoted | Kind::DoubleQuoted | Kind::Multiline => {
             let end = numerals::put_byte(out, at, mark_of(kind));
             numerals::put_byte(out, end, b'\n')
         }
+        Kind::Quoted => {
+            let from = fields.number as usize;
+            let size = contents::content_length(kind, fields);
+            let end = put_first(out, at, area, from, size);
+            numerals::put_byte(out, end, b'\n')
+        }
         _ => numerals::put_byte(out, at, b'\n'),
     }
 }
 
-// A record's line.
-pub fn write_line(out: &mut [u8], at: usize, area: &[u8], kind: Kind, fields: Fields) -> usize
-    requires { ⌜ (ownRule (now area) kind fields ≡ true) × (at + length (lineOf (now area) (Record kind fields 0)) ≤ length (now out)) ⌝ }
-    ensures { λ r. ⌜ Wrote at (lineOf (now (area .entry)) (Record kind fields 0)) (now (out .entry)) (now (out .exit)) r ⌝ }
+// A record's token and LF; of a loop's end nothing.
+fn put_token(out: &mut [u8], at: usize, area: &[u8], kind: Kind, fields: Fields) -> usize
+    requires { ⌜ (isWritable (now area) kind fields ≡ true) × (at + length (plainLine (now area) kind fields) ≤ length (now out)) ⌝ }
+    ensures { λ r. ⌜ Wrote at (plainLine (now (area .entry)) kind fields) (now (out .entry)) (now (out .exit)) r ⌝ }
 {
     if is_end(kind) {
         return at;
     }
     let body = put_opening(out, at, kind);
     let closing = put_body(out, body, area, kind, fields);
-    put_closing(out, closing, kind)
+    put_closing(out, closing, area, kind, fields)
 }
 
-// Its length: that of a token with content stands in the record.
-pub fn line_length(kind: Kind, fields: Fields) -> usize
+// A record's line: a space first where the reading puts one.
+pub fn write_line(
+    reading: Reading,
+    out: &mut [u8],
+    at: usize,
+    area: &[u8],
+    kind: Kind,
+    fields: Fields,
+) -> usize
+    requires { ⌜ (ownRule reading (now area) kind fields ≡ true) × (at + length (lineOf reading (now area) (Record kind fields 0)) ≤ length (now out)) ⌝ }
+    ensures { λ r. ⌜ Wrote at (lineOf reading (now (area .entry)) (Record kind fields 0)) (now (out .entry)) (now (out .exit)) r ⌝ }
+{
+    if contents::is_led(reading, area, kind, fields) {
+        let token = numerals::put_byte(out, at, b' ');
+        return put_token(out, token, area, kind, fields);
+    }
+    put_token(out, at, area, kind, fields)
+}
+
+// The length of a token and LF: that of one with content stands in the record.
+fn plain_length(kind: Kind, fields: Fields) -> usize
     requires { ⌜ keepsDigits kind fields ≡ true ⌝ }
-    ensures { λ r. ⌜ r ≡ lineLength kind fields ⌝ }
+    ensures { λ r. ⌜ r ≡ plainLength kind fields ⌝ }
 {
     let token = fields.token;
     let parts = fields.parts;
@@ -159,4 +199,16 @@ pub fn line_length(kind: Kind, fields: Fields) -> usize
         Kind::Uncertain => 1 + numerals::number_length(decimal_of(true, parts)),
         _ => 1 + token.length as usize,
     }
+}
+
+// The length of a record's line.
+pub fn line_length(reading: Reading, area: &[u8], kind: Kind, fields: Fields) -> usize
+    requires { ⌜ ownRule reading (now area) kind fields ≡ true ⌝ }
+    ensures { λ r. ⌜ r ≡ lineLength reading (now (area .entry)) kind fields ⌝ }
+{
+    let plain = plain_length(kind, fields);
+    if contents::is_led(reading, area, kind, fields) {
+        return 1 + plain;
+    }
+    plain
 }

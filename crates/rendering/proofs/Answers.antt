@@ -7,6 +7,7 @@ use native.Mathlib.Omega.{arith}
 use borrow.Author.Tests.{ltb-true, lt-ltb, le-ltb}
 use lib.Dec.{ltb}
 use lib.ListN.{length}
+use Rattle.rules.specs.declared.Reading.{Reading}
 use Rattle.places.specs.Reports.{success, refusedBare, noRoom}
 use Rattle.records.specs.Put.{front}
 use Rattle.stores.specs.Soundness.{sound}
@@ -16,9 +17,9 @@ use Rattle.rendering.specs.Rendering.{rendering, limit, renderRoom, rend
 use Rattle.rendering.specs.Rendering.{capped}
 
 -- the answer and the bytes that are right
-pub record Right (st ar l m : List ℕ) (r : Rendered) : Type 0 where
-  pub answer : renderedReport r ≡ renderAnswer st ar (length l)
-  pub bytes : m ≡ renderOut st ar l
+pub record Right (r : Reading) (st ar l m : List ℕ) (x : Rendered) : Type 0 where
+  pub answer : renderedReport x ≡ renderAnswer r st ar (length l)
+  pub bytes : m ≡ renderOut r st ar l
 
 -- a capped length that keeps the limit is the length
 capped-is : (n : ℕ) → capped n ≤ 16777216 → capped n ≡ n
@@ -38,33 +39,33 @@ over-is n h = by (ltb 16777216 n) refl h
     by true e h = ltb-true 16777216 n e
     by false e h = h
 
-module _ (st ar l : List ℕ) where
-  pub right-unsound : sound st ar ≡ false → Right st ar l l NotSound
+module _ (r : Reading) (st ar l : List ℕ) where
+  pub right-unsound : sound r st ar ≡ false → Right r st ar l l NotSound
   unfolding renderedReport renderAnswer renderOut refusedBare
   right-unsound s = record { answer = rw s; bytes = rw s }
 
-  module _ (s : sound st ar ≡ true) (n : ℕ) (e : n ≡ capped (length (rendering st ar))) where
-    pub right-long : 16777216 < n → Right st ar l l TooLong
+  module _ (s : sound r st ar ≡ true) (n : ℕ) (e : n ≡ capped (length (rendering r st ar))) where
+    pub right-long : 16777216 < n → Right r st ar l l TooLong
     unfolding renderedReport renderAnswer renderRoom renderOut refusedBare limit
     right-long h =
-        let over = lt-ltb 16777216 (length (rendering st ar)) (over-is (length (rendering st ar)) (omega arith)) in
+        let over = lt-ltb 16777216 (length (rendering r st ar)) (over-is (length (rendering r st ar)) (omega arith)) in
         record { answer = rw (s, over); bytes = rw (s, over) }
 
     module _ (k : n ≤ 16777216) where
-      pub needed : n ≡ length (rendering st ar)
-      needed = e ∙ capped-is (length (rendering st ar)) (omega arith)
+      pub needed : n ≡ length (rendering r st ar)
+      needed = e ∙ capped-is (length (rendering r st ar)) (omega arith)
 
-      kept : ltb 16777216 (length (rendering st ar)) ≡ false
-      kept = le-ltb 16777216 (length (rendering st ar)) (omega (arith, needed))
+      kept : ltb 16777216 (length (rendering r st ar)) ≡ false
+      kept = le-ltb 16777216 (length (rendering r st ar)) (omega (arith, needed))
 
-      pub right-room : length l < n → Right st ar l l (NoRoom n)
+      pub right-room : length l < n → Right r st ar l l (NoRoom n)
       unfolding renderedReport renderAnswer renderRoom renderOut noRoom limit
       right-room h =
-          let full = lt-ltb (length l) (length (rendering st ar)) (omega (arith, needed)) in
+          let full = lt-ltb (length l) (length (rendering r st ar)) (omega (arith, needed)) in
           record { answer = rw (s, kept, full, needed); bytes = rw (s, kept, full) }
 
-      pub right-done : (m : List ℕ) → n ≤ length l → m ≡ front (rendering st ar) l → Right st ar l m (Done n)
+      pub right-done : (m : List ℕ) → n ≤ length l → m ≡ front (rendering r st ar) l → Right r st ar l m (Done n)
       unfolding renderedReport renderAnswer renderRoom renderOut success limit
       right-done m h w =
-          let room = le-ltb (length l) (length (rendering st ar)) (omega (arith, needed)) in
+          let room = le-ltb (length l) (length (rendering r st ar)) (omega (arith, needed)) in
           record { answer = rw (s, kept, room, needed); bytes = w ∙ rw (s, kept, room) }

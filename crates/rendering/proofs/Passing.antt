@@ -7,6 +7,7 @@ use native.Mathlib.Omega.{arith}
 use borrow.Author.Tests.{lt-ltb, le-ltb}
 use lib.ListN.{length, take, drop, length-append, length-take, length-drop}
 use lib.Seq.{take-all, take-add, drop-drop, take-append-seam, drop-append-seam}
+use Rattle.rules.specs.declared.Reading.{Reading}
 use Rattle.entries.specs.declared.Entry.{Entry}
 use Rattle.entries.specs.declared.Entry.the-variants.{Record, Nothing}
 use Rattle.kinds.specs.declared.Kind.{Kind}
@@ -19,48 +20,48 @@ use Rattle.contents.specs.Contents.{ownRule}
 use Rattle.entries.proofs.Walking.{rest, rest-all, rest-over, rest-none, next-at}
 use Rattle.rendering.specs.Rendering.{linesOf, rendering, limit}
 use Rattle.record_lines.specs.Lines.{lineOf}
-use Rattle.record_lines.specs.Writing.{keepsDigits, lineLength}
+use Rattle.record_lines.specs.Writing.{lineLength}
 use Rattle.rendering.specs.Rendering.{capped}
 use Rattle.numerals.specs.Written.{Wrote}
 use Rattle.stores.specs.Soundness.{Owned, none, more}
-use Rattle.record_lines.proofs.Lines.{rule-digits, line-size}
+use Rattle.record_lines.proofs.Lines.{line-size}
 
 -- The lines from an offset of the store on
 
-owned-first : (ar : List ℕ) (k : Kind) (f : Fields) (n : ℕ) (es : List Entry) → Owned ar (Record k f n ∷ es) → (ownRule ar k f ≡ true) × Owned ar es
-owned-first ar k f n es (more h o) = (h, o)
+owned-first : (r : Reading) (ar : List ℕ) (k : Kind) (f : Fields) (n : ℕ) (es : List Entry) → Owned r ar (Record k f n ∷ es) → (ownRule r ar k f ≡ true) × Owned r ar es
+owned-first r ar k f n es (more h o) = (h, o)
 
-pub lines : List ℕ → List ℕ → ℕ → List ℕ
-lines st ar from = linesOf ar (rest st from)
+pub lines : (r : Reading) → List ℕ → List ℕ → ℕ → List ℕ
+lines r st ar from = linesOf r ar (rest st from)
 
-module _ (st ar : List ℕ) (from : ℕ) where
-  lines-over : length st ≤ from → lines st ar from ≡ []
+module _ (r : Reading) (st ar : List ℕ) (from : ℕ) where
+  lines-over : length st ≤ from → lines r st ar from ≡ []
   unfolding lines linesOf
   lines-over h = rw (rest-over st from h)
 
-  lines-none : from < length st → entryAt st from ≡ Nothing → lines st ar from ≡ []
+  lines-none : from < length st → entryAt st from ≡ Nothing → lines r st ar from ≡ []
   unfolding lines linesOf lineOf
   lines-none h e = rw (rest-none st from h e)
 
   module _ (k : Kind) (f : Fields) (next : ℕ) (h : from < length st) (e : entryAt st from ≡ Record k f next) where
-    lines-next : lines st ar from ≡ lineOf ar (Record k f 0) ++ lines st ar next
+    lines-next : lines r st ar from ≡ lineOf r ar (Record k f 0) ++ lines r st ar next
     unfolding lines linesOf lineOf
     lines-next = rw (next-at st from k f next h e .here)
 
-    owned-next : Owned ar (rest st from) → (ownRule ar k f ≡ true) × Owned ar (rest st next)
-    owned-next o = owned-first ar k f (next - from) (rest st next) (rw (next-at st from k f next h e .here) at o)
+    owned-next : Owned r ar (rest st from) → (ownRule r ar k f ≡ true) × Owned r ar (rest st next)
+    owned-next o = owned-first r ar k f (next - from) (rest st next) (rw (next-at st from k f next h e .here) at o)
 
 -- The first walk: the lines so far have the total as their length, which keeps the limit
 
-pub record Summing (st ar : List ℕ) (from total : ℕ) : Type 0 where
-  pub owned : Owned ar (rest st from)
+pub record Summing (r : Reading) (st ar : List ℕ) (from total : ℕ) : Type 0 where
+  pub owned : Owned r ar (rest st from)
   pub few : total ≤ 16777216
-  pub sum : length (rendering st ar) ≡ total + length (lines st ar from)
+  pub sum : length (rendering r st ar) ≡ total + length (lines r st ar from)
 
-pub summing-first : (st ar : List ℕ) → Owned ar (entries st) → Summing st ar 0 0
+pub summing-first : (r : Reading) (st ar : List ℕ) → Owned r ar (entries st) → Summing r st ar 0 0
 unfolding rendering lines
-summing-first st ar o =
-    record { owned = rw (← rest-all st) o; few = omega arith; sum = omega (arith, ap (λ (es : List Entry). length (linesOf ar es)) (rest-all st)) }
+summing-first r st ar o =
+    record { owned = rw (← rest-all st) o; few = omega arith; sum = omega (arith, ap (λ (es : List Entry). length (linesOf r ar es)) (rest-all st)) }
 
 capped-few : (n : ℕ) → n ≤ 16777216 → n ≡ capped n
 unfolding capped limit
@@ -70,103 +71,103 @@ capped-over : (n : ℕ) → 16777216 < n → 16777216 + 1 ≡ capped n
 unfolding capped limit
 capped-over n h = rw (lt-ltb 16777216 n h)
 
-summed : (st ar : List ℕ) (from total : ℕ) → lines st ar from ≡ [] → Summing st ar from total → total ≡ capped (length (rendering st ar))
-summed st ar from total e w =
-    let sum : length (rendering st ar) ≡ total = w .sum ∙ rw e (omega arith) in
+summed : (r : Reading) (st ar : List ℕ) (from total : ℕ) → lines r st ar from ≡ [] → Summing r st ar from total → total ≡ capped (length (rendering r st ar))
+summed r st ar from total e w =
+    let sum : length (rendering r st ar) ≡ total = w .sum ∙ rw e (omega arith) in
     rw sum (capped-few total (w .few))
 
-pub summing-end : (st ar : List ℕ) (from total : ℕ) → length st ≤ from → Summing st ar from total → total ≡ capped (length (rendering st ar))
-summing-end st ar from total h w = summed st ar from total (lines-over st ar from h) w
+pub summing-end : (r : Reading) (st ar : List ℕ) (from total : ℕ) → length st ≤ from → Summing r st ar from total → total ≡ capped (length (rendering r st ar))
+summing-end r st ar from total h w = summed r st ar from total (lines-over r st ar from h) w
 
-pub summing-none : (st ar : List ℕ) (from total : ℕ) → from < length st → entryAt st from ≡ Nothing → Summing st ar from total → total ≡ capped (length (rendering st ar))
-summing-none st ar from total h e w = summed st ar from total (lines-none st ar from h e) w
+pub summing-none : (r : Reading) (st ar : List ℕ) (from total : ℕ) → from < length st → entryAt st from ≡ Nothing → Summing r st ar from total → total ≡ capped (length (rendering r st ar))
+summing-none r st ar from total h e w = summed r st ar from total (lines-none r st ar from h e) w
 
-module _ (st ar : List ℕ) (from total : ℕ) (k : Kind) (f : Fields) (next : ℕ) (h : from < length st) (e : entryAt st from ≡ Record k f next) (w : Summing st ar from total) where
-  pub summing-digits : keepsDigits k f ≡ true
-  summing-digits = rule-digits ar k f (owned-next st ar from k f next h e (w .owned) .0)
+module _ (r : Reading) (st ar : List ℕ) (from total : ℕ) (k : Kind) (f : Fields) (next : ℕ) (h : from < length st) (e : entryAt st from ≡ Record k f next) (w : Summing r st ar from total) where
+  pub summing-own : ownRule r ar k f ≡ true
+  summing-own = owned-next r st ar from k f next h e (w .owned) .0
 
   -- the next line is one more of them
-  more-lines : length (rendering st ar) ≡ total + (lineLength k f + length (lines st ar next))
+  more-lines : length (rendering r st ar) ≡ total + (lineLength r ar k f + length (lines r st ar next))
   more-lines =
-      let size = line-size ar k f (owned-next st ar from k f next h e (w .owned) .0) in
-      let line : length (lines st ar from) ≡ lineLength k f + length (lines st ar next) =
-      ap length (lines-next st ar from k f next h e) ∙ (length-append (lineOf ar (Record k f 0)) (lines st ar next) ∙ rw size) in
+      let size = line-size r ar k f (owned-next r st ar from k f next h e (w .owned) .0) in
+      let line : length (lines r st ar from) ≡ lineLength r ar k f + length (lines r st ar next) =
+      ap length (lines-next r st ar from k f next h e) ∙ (length-append (lineOf r ar (Record k f 0)) (lines r st ar next) ∙ rw size) in
       omega (arith, w .sum, line)
 
-  pub summing-over : 16777216 - total < lineLength k f → 16777216 + 1 ≡ capped (length (rendering st ar))
-  summing-over o = capped-over (length (rendering st ar)) (omega (arith, more-lines, w .few))
+  pub summing-over : 16777216 - total < lineLength r ar k f → 16777216 + 1 ≡ capped (length (rendering r st ar))
+  summing-over o = capped-over (length (rendering r st ar)) (omega (arith, more-lines, w .few))
 
-  pub summing-more : lineLength k f ≤ 16777216 - total → Summing st ar next (total + lineLength k f)
+  pub summing-more : lineLength r ar k f ≤ 16777216 - total → Summing r st ar next (total + lineLength r ar k f)
   summing-more o =
-      record { owned = owned-next st ar from k f next h e (w .owned) .1; few = omega (arith, w .few); sum = omega (arith, more-lines) }
+      record { owned = owned-next r st ar from k f next h e (w .owned) .1; few = omega (arith, w .few); sum = omega (arith, more-lines) }
 
 -- The second walk: the lines so far are written over l, which gives m, and the others are left
 
-pub record Writing (st ar l m : List ℕ) (from at : ℕ) : Type 0 where
-  pub owned : Owned ar (rest st from)
-  pub room : length (rendering st ar) ≤ length l
-  pub within : at ≤ length (rendering st ar)
-  pub done : m ≡ front (take at (rendering st ar)) l
-  pub left : drop at (rendering st ar) ≡ lines st ar from
+pub record Writing (r : Reading) (st ar l m : List ℕ) (from at : ℕ) : Type 0 where
+  pub owned : Owned r ar (rest st from)
+  pub room : length (rendering r st ar) ≤ length l
+  pub within : at ≤ length (rendering r st ar)
+  pub done : m ≡ front (take at (rendering r st ar)) l
+  pub left : drop at (rendering r st ar) ≡ lines r st ar from
 
-pub writing-first : (st ar l : List ℕ) → Owned ar (entries st) → length (rendering st ar) ≤ length l → Writing st ar l l 0 0
+pub writing-first : (r : Reading) (st ar l : List ℕ) → Owned r ar (entries st) → length (rendering r st ar) ≤ length l → Writing r st ar l l 0 0
 unfolding rendering lines
-writing-first st ar l o h =
+writing-first r st ar l o h =
     record {
       owned = rw (← rest-all st) o;
       room = h;
       within = omega arith;
       done = sym (front-none l);
-      left = ap (linesOf ar) (rest-all st);
+      left = ap (linesOf r ar) (rest-all st);
     }
 
-module _ (st ar l m : List ℕ) (from at : ℕ) (w : Writing st ar l m from at) where
-  so-far : length (take at (rendering st ar)) ≡ at
-  so-far = omega (arith, w .within, length-take at (rendering st ar))
+module _ (r : Reading) (st ar l m : List ℕ) (from at : ℕ) (w : Writing r st ar l m from at) where
+  so-far : length (take at (rendering r st ar)) ≡ at
+  so-far = omega (arith, w .within, length-take at (rendering r st ar))
 
   pub writing-length : length m ≡ length l
-  writing-length = ap length (w .done) ∙ length-front (take at (rendering st ar)) l (omega (arith, so-far, w .within, w .room))
+  writing-length = ap length (w .done) ∙ length-front (take at (rendering r st ar)) l (omega (arith, so-far, w .within, w .room))
 
-  written : lines st ar from ≡ [] → m ≡ front (rendering st ar) l
+  written : lines r st ar from ≡ [] → m ≡ front (rendering r st ar) l
   written e =
-      let none : length (drop at (rendering st ar)) ≡ 0 = ap length (w .left ∙ e) in
-      w .done ∙ rw (take-all at (rendering st ar) (omega (arith, length-drop at (rendering st ar))))
+      let none : length (drop at (rendering r st ar)) ≡ 0 = ap length (w .left ∙ e) in
+      w .done ∙ rw (take-all at (rendering r st ar) (omega (arith, length-drop at (rendering r st ar))))
 
-  pub writing-end : length st ≤ from → m ≡ front (rendering st ar) l
-  writing-end h = written (lines-over st ar from h)
+  pub writing-end : length st ≤ from → m ≡ front (rendering r st ar) l
+  writing-end h = written (lines-over r st ar from h)
 
-  pub writing-none : from < length st → entryAt st from ≡ Nothing → m ≡ front (rendering st ar) l
-  writing-none h e = written (lines-none st ar from h e)
+  pub writing-none : from < length st → entryAt st from ≡ Nothing → m ≡ front (rendering r st ar) l
+  writing-none h e = written (lines-none r st ar from h e)
 
   module _ (k : Kind) (f : Fields) (next : ℕ) (h : from < length st) (e : entryAt st from ≡ Record k f next) where
-    pub writing-own : ownRule ar k f ≡ true
-    writing-own = owned-next st ar from k f next h e (w .owned) .0
+    pub writing-own : ownRule r ar k f ≡ true
+    writing-own = owned-next r st ar from k f next h e (w .owned) .0
 
-    line-first : drop at (rendering st ar) ≡ lineOf ar (Record k f 0) ++ lines st ar next
-    line-first = w .left ∙ lines-next st ar from k f next h e
+    line-first : drop at (rendering r st ar) ≡ lineOf r ar (Record k f 0) ++ lines r st ar next
+    line-first = w .left ∙ lines-next r st ar from k f next h e
 
-    pub writing-room : at + length (lineOf ar (Record k f 0)) ≤ length m
+    pub writing-room : at + length (lineOf r ar (Record k f 0)) ≤ length m
     writing-room =
         omega (
           arith,
           w .within,
           w .room,
           writing-length,
-          length-drop at (rendering st ar),
+          length-drop at (rendering r st ar),
           ap length line-first,
-          length-append (lineOf ar (Record k f 0)) (lines st ar next),
+          length-append (lineOf r ar (Record k f 0)) (lines r st ar next),
         )
 
-    pub writing-more : (n : List ℕ) (r : ℕ) → Wrote at (lineOf ar (Record k f 0)) m n r → Writing st ar l n next r
-    writing-more n r p =
-        let line = lineOf ar (Record k f 0) in
-        let all = rendering st ar in
-        let taken : take r all ≡ take at all ++ line =
+    pub writing-more : (n : List ℕ) (q : ℕ) → Wrote at (lineOf r ar (Record k f 0)) m n q → Writing r st ar l n next q
+    writing-more n q p =
+        let line = lineOf r ar (Record k f 0) in
+        let all = rendering r st ar in
+        let taken : take q all ≡ take at all ++ line =
         ap (λ (i : ℕ). take i all) (p .next) ∙ (take-add at (length line) all ∙ rw (line-first, take-append-seam)) in
         record {
-          owned = owned-next st ar from k f next h e (w .owned) .1;
+          owned = owned-next r st ar from k f next h e (w .owned) .1;
           room = w .room;
-          within = omega (arith, p .next, w .within, length-drop at all, ap length line-first, length-append line (lines st ar next));
+          within = omega (arith, p .next, w .within, length-drop at all, ap length line-first, length-append line (lines r st ar next));
           done = p .bytes ∙ (ap (put at line) (w .done) ∙ (front-next at (take at all) line l so-far ∙ rw taken));
           left = ap (λ (i : ℕ). drop i all) (p .next) ∙ (sym (drop-drop (length line) at all) ∙ rw (line-first, drop-append-seam));
         }

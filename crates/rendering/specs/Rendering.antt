@@ -5,6 +5,7 @@ use mathlib.Core.Bool.{cond}
 use mathlib.Core.List.{List, [], _∷_, _++_}
 use lib.Dec.{eqb, ltb}
 use lib.ListN.{length}
+use Rattle.rules.specs.declared.Reading.{Reading}
 use Rattle.places.specs.declared.Report.{Report}
 use Rattle.places.specs.Reports.{success, refusedBare, noRoom}
 use Rattle.entries.specs.declared.Entry.{Entry}
@@ -16,12 +17,12 @@ use Rattle.rendering.specs.declared.Rendered.{Rendered}
 use Rattle.rendering.specs.declared.Rendered.the-variants.{Done, NotSound, TooLong, NoRoom}
 
 -- the lines of entries, one behind the other
-unfoldable pub linesOf : List ℕ → List Entry → List ℕ
-linesOf ar [] = []
-linesOf ar (e ∷ es) = lineOf ar e ++ linesOf ar es
+unfoldable pub linesOf : Reading → List ℕ → List Entry → List ℕ
+linesOf r ar [] = []
+linesOf r ar (e ∷ es) = lineOf r ar e ++ linesOf r ar es
 
-unfoldable pub rendering : List ℕ → List ℕ → List ℕ
-rendering st ar = linesOf ar (entries st)
+unfoldable pub rendering : Reading → List ℕ → List ℕ → List ℕ
+rendering r st ar = linesOf r ar (entries st)
 
 -- the largest rendering
 unfoldable pub limit : ℕ
@@ -35,12 +36,12 @@ capped n = cond (ltb limit n) (limit + 1) n
 unfoldable pub renderRoom : ℕ → ℕ → Report
 renderRoom needed m = cond (ltb limit needed) (refusedBare 1) (cond (ltb m needed) (noRoom 11 needed 0) (success needed 0))
 
-unfoldable pub renderAnswer : List ℕ → List ℕ → ℕ → Report
-renderAnswer st ar m = cond (sound st ar) (renderRoom (length (rendering st ar)) m) (refusedBare 12)
+unfoldable pub renderAnswer : Reading → List ℕ → List ℕ → ℕ → Report
+renderAnswer r st ar m = cond (sound r st ar) (renderRoom (length (rendering r st ar)) m) (refusedBare 12)
 
 -- the lent text afterwards
-unfoldable pub renderOut : List ℕ → List ℕ → List ℕ → List ℕ
-renderOut st ar l = cond (eqb (renderAnswer st ar (length l) .number) 0) (front (rendering st ar) l) l
+unfoldable pub renderOut : Reading → List ℕ → List ℕ → List ℕ → List ℕ
+renderOut r st ar l = cond (eqb (renderAnswer r st ar (length l) .number) 0) (front (rendering r st ar) l) l
 
 unfoldable pub renderedReport : Rendered → Report
 renderedReport (Done n) = success n 0

@@ -9,6 +9,7 @@ ghost use Rattle.rendering.specs.Rendering.{rendering, capped, renderAns
 ghost use Rattle.stores.specs.Soundness.{Owned};
 use entries::Entry;
 use places::Report;
+use rules::Reading;
 
 // Render's answer: done, with the length written; 12; 1; or 11 with the length needed.
 pub enum Rendered {
@@ -51,9 +52,9 @@ impl Rendered {
 const LIMIT: usize = 16777216;
 
 // The length of all lines, or one over the limit as soon as they are over it.
-fn rendered_length(store: &[u8], area: &[u8]) -> usize
-    requires { ⌜ Owned (now area) (entries (now store)) ⌝ }
-    ensures { λ r. ⌜ r ≡ capped (length (rendering (now (store .entry)) (now (area .entry)))) ⌝ }
+fn rendered_length(reading: Reading, store: &[u8], area: &[u8]) -> usize
+    requires { ⌜ Owned reading (now area) (entries (now store)) ⌝ }
+    ensures { λ r. ⌜ r ≡ capped (length (rendering reading (now (store .entry)) (now (area .entry)))) ⌝ }
 {
     let mut from = 0;
     let mut total = 0;
@@ -61,7 +62,7 @@ fn rendered_length(store: &[u8], area: &[u8]) -> usize
         let Entry::Record { kind, fields, next } = entries::read_record(store, from) else {
             return total;
         };
-        let line = record_lines::line_length(kind, fields);
+        let line = record_lines::line_length(reading, area, kind, fields);
         if LIMIT - total < line {
             return LIMIT + 1;
         }
@@ -72,9 +73,9 @@ fn rendered_length(store: &[u8], area: &[u8]) -> usize
 }
 
 // All lines, into a text that has room for them.
-fn write_lines(store: &[u8], area: &[u8], out: &mut [u8])
-    requires { ⌜ Owned (now area) (entries (now store)) × (length (rendering (now store) (now area)) ≤ length (now out)) ⌝ }
-    ensures { λ r. ⌜ now (out .exit) ≡ front (rendering (now (store .entry)) (now (area .entry))) (now (out .entry)) ⌝ }
+fn write_lines(reading: Reading, store: &[u8], area: &[u8], out: &mut [u8])
+    requires { ⌜ Owned reading (now area) (entries (now store)) × (length (rendering reading (now store) (now area)) ≤ length (now out)) ⌝ }
+    ensures { λ r. ⌜ now (out .exit) ≡ front (rendering reading (now (store .entry)) (now (area .entry))) (now (out .entry)) ⌝ }
 {
     let mut from = 0;
     let mut at = 0;
@@ -82,25 +83,25 @@ fn write_lines(store: &[u8], area: &[u8], out: &mut [u8])
         let Entry::Record { kind, fields, next } = entries::read_record(store, from) else {
             return;
         };
-        at = record_lines::write_line(out, at, area, kind, fields);
+        at = record_lines::write_line(reading, out, at, area, kind, fields);
         from = next;
     }
 }
 
 // A store and its area as a text: the store is judged, then the length, then the room.
-pub fn render(store: &[u8], area: &[u8], out: &mut [u8]) -> Rendered
-    ensures { λ r. ⌜ (renderedReport r ≡ renderAnswer (now (store .entry)) (now (area .entry)) (length (now (out .entry)))) × (now (out .exit) ≡ renderOut (now (store .entry)) (now (area .entry)) (now (out .entry))) ⌝ }
+pub fn render(reading: Reading, store: &[u8], area: &[u8], out: &mut [u8]) -> Rendered
+    ensures { λ r. ⌜ (renderedReport r ≡ renderAnswer reading (now (store .entry)) (now (area .entry)) (length (now (out .entry)))) × (now (out .exit) ≡ renderOut reading (now (store .entry)) (now (area .entry)) (now (out .entry))) ⌝ }
 {
-    if !stores::is_sound(store, area) {
+    if !stores::is_sound(reading, store, area) {
         return Rendered::NotSound;
     }
-    let length = rendered_length(store, area);
+    let length = rendered_length(reading, store, area);
     if LIMIT < length {
         return Rendered::TooLong;
     }
     if out.len() < length {
         return Rendered::NoRoom { length };
     }
-    write_lines(store, area, out);
+    write_lines(reading, store, area, out);
     Rendered::Done { length }
 }

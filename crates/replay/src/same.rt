@@ -6,6 +6,7 @@ use entries::Parts;
 use harness::fields::body_end;
 use harness::parts::part;
 use places::Report;
+use rules::Reading;
 use stores::Walked;
 
 // What differs, if anything does.
@@ -194,7 +195,7 @@ fn same_refusal(a: Report, b: Report) -> bool {
 // Whether Outline answers as Read did, which left this store.
 fn outlines(text: &[u8], read: Report, store: &[u8]) -> bool {
     let mut room = [0u8; 4096];
-    let outlined = outlining::outline(text, &mut room).report();
+    let outlined = outlining::outline(Reading::First, text, &mut room).report();
     if !same_refusal(read, outlined) {
         return false;
     }
@@ -227,7 +228,7 @@ pub fn judge(entry: &[u8]) -> Verdict {
     }
     let mut store = [0u8; 4096];
     let mut area = [0u8; 256];
-    let read = reading::read(list::text_of(entry), &mut store, &mut area).report();
+    let read = reading::read(Reading::First, list::text_of(entry), &mut store, &mut area).report();
     if !same_answer(entry, read) {
         return Verdict::Answer;
     }

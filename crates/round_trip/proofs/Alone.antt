@@ -1,46 +1,51 @@
--- The tokens that a sound store renders to. Proved: the token of each record, by itself, is read whole as its kind (reads-tag, reads-name, reads-loop, reads-open,
--- reads-shut, reads-value, heads), and is ASCII (token-ascii). Assumes nothing.
-use Prim.Native.Nat.{ℕ, zero, suc, _+_, _-_, _^_, _≤_, _<_}
-use mathlib.Core.Bool.{true≢false, false≢true, Bool, true, false, cond, _||_}
+-- The tokens that a sound store renders to, by either reading. Proved: the token of each record, on its line, is read whole as its kind (reads-tag, reads-head,
+-- reads-loop, reads-open, reads-shut, reads-value), and is ASCII (token-ascii). Assumes nothing.
+use Prim.Native.Nat.{ℕ, suc, _+_, _-_, _^_, _<_}
+use mathlib.Core.Bool.{true≢false, false≢true, Bool, true, false, cond, _&&_, _||_}
 use mathlib.Core.Path.{_≡_, refl, sym, ap, _∙_}
 use mathlib.Core.List.{List, [], _∷_, _++_}
 use native.Mathlib.Omega.{arith}
-use borrow.Author.Tests.{eqb-true, ltb-true, leb-true, leb-false, ltb-false}
+use borrow.Author.Tests.{eqb-true, ltb-true, leb-true, leb-false}
 use lib.Dec.{eqb, leb, ltb}
-use lib.ListN.{length, take, drop, length-append, length-take, length-drop}
-use Rattle.text.specs.Bytes.{is, isAscii, isDigit, endsWord}
+use lib.ListN.{length}
+use Rattle.rules.specs.declared.Reading.{Reading}
+use Rattle.rules.specs.declared.Reading.the-variants.{First, Strict}
+use Rattle.text.specs.Bytes.{is, isAscii, isDigit, isSpace, endsWord}
 use Rattle.text.specs.Runs.{span}
 use Rattle.text.proofs.Bools.{and-l, and-r, or-cases}
+use Rattle.columns.specs.Before.{isParted}
 use Rattle.words.specs.Words.{inWord, word}
 use Rattle.folding.specs.Folding.{lower}
-use Rattle.keywords.specs.Keywords.{starts, keyData, keyLoop, keySave, keyGlobal, keyStop, reserved}
+use Rattle.keywords.specs.Keywords.{starts, isWord, stands, keyData, keyLoop, keySave, keyGlobal, keyStop, reserved}
 use Rattle.numbers.specs.declared.Decimal.{Decimal}
-use Rattle.numbers.specs.Parts.{cut, consGot, digits, sign, point, absent, isEmpty, exponent, bracket, parts, isNumber}
+use Rattle.numbers.specs.Parts.{cut, digits, sign, point, absent, isEmpty, exponent, bracket, parts, isNumber}
 use Rattle.numbers.specs.Spelling.{renderNumber, Kept}
 use Rattle.numbers.proofs.Made.{all, others, number-made}
 use Rattle.numbers.proofs.Spelled.{number-is}
 use Rattle.entries.specs.declared.Fields.{Fields}
 use Rattle.kinds.specs.declared.Kind.{Kind}
-use Rattle.kinds.specs.declared.Kind.the-variants.{NoKind, Block, FrameOpen, FrameClose, Tag, Loop, LoopTag, LoopEnd, Inapplicable, Unknown, Bare, SingleQuoted, DoubleQuoted, Multiline, Number, Uncertain}
+use Rattle.kinds.specs.declared.Kind.the-variants.{NoKind, Block, FrameOpen, FrameClose, Tag, Loop, LoopTag, LoopEnd, Inapplicable, Unknown, Bare, SingleQuoted, DoubleQuoted, Multiline, Number, Uncertain, Quoted}
 use Rattle.entries.specs.declared.Parts.{Parts}
 use Rattle.kinds.specs.declared.Shape.{Shape}
 use Rattle.kinds.specs.declared.Shape.the-variants.{Empty, Place, Content, Count, Parts as PartsShape, PartsUncertain}
-use Rattle.kinds.specs.Kinds.{kindOf, numberOf, shapeOf, isContent, marksOf}
+use Rattle.kinds.specs.Kinds.{numberOf, shapeOf, isContent}
 use Rattle.entries.specs.Entries.{noParts, isKind as isKindOf}
-use Rattle.values.specs.Values.{Class, block, loop, save, tag, value, overLimit, nothing, Lexed, lexed, numberOr, wordOr, lexValue, lexAsValue}
-use Rattle.values.proofs.Laws.{Lies, value-lies}
-use Rattle.grammar.specs.Tokens.{Mode, inBlock, inFrame, saveSize, lexIn}
-use Rattle.grammar.proofs.Advance.{Whole}
-use Rattle.grammar.proofs.Lexes.{lex-tag, lex-loop, lex-save}
+use Rattle.values.specs.Values.{Class, block, loop, save, tag, value, lexed, numberOr, wordOr, aloneOr, lexValue, lexAsValue}
+use Rattle.values.proofs.Laws.{value-lies}
+use Rattle.values.proofs.Alone.{alone-token, alone-none}
+use Rattle.grammar.specs.Tokens.{Mode, inBlock, inFrame, saveSize, saveLength, lexIn, lex, tagFirst}
+use Rattle.grammar.proofs.Lexes.{lex-tag, lex-loop, lex-save, lex-data}
 use Rattle.nesting.specs.Nesting.{isValueKind}
-use Rattle.contents.specs.Contents.{isName, readableBy, readable, exponentKept, partsKept, contentLength, contentBytes, ownRule}
-use Rattle.contents.proofs.Kept.{content-length, content-size, rule-read, own-lies, own-inside, own-parts}
+use Rattle.readable.specs.Tokens.{mark, marked, isBareField, lead, stands as stands-behind}
+use Rattle.readable.specs.Readable.{isName, readableBy, readable, keepsLines, isKept}
+use Rattle.contents.specs.Contents.{exponentKept, partsKept, contentLength, contentBytes, ownRule}
+use Rattle.contents.proofs.Kept.{content-length, content-size, own-inside, own-readable, own-parts}
 use Rattle.values.specs.Alone.{isKind, isAlone}
 use Rattle.record_lines.specs.Lines.{decimalOf, tokenText}
 use Rattle.written.proofs.Runs.{span-all}
-use Rattle.written.proofs.Lexing.{modeOf, in-any-mode, key-word, plainKey, keyTag}
-use Rattle.round_trip.proofs.NumberLex.{number-whole}
-use Rattle.round_trip.proofs.Trip.{Reads}
+use Rattle.written.proofs.Lexing.{modeOf, in-any-mode}
+use Rattle.round_trip.proofs.NumberLex.{number-size, number-whole}
+use Rattle.round_trip.proofs.Passes.{Reads, first-passes, strict-passes}
 
 -- shapes with decimal parts
 unfoldable pub hasParts : Shape → Bool
@@ -59,18 +64,18 @@ pub record Stored (k : Kind) (f : Fields) : Type 0 where
   pub none : hasParts (shapeOf k) ≡ false → f .parts ≡ noParts
 
 -- a record of a sound store
-pub record Fine (ar : List ℕ) (k : Kind) (f : Fields) : Type 0 where
-  pub content : isContent (shapeOf k) ≡ true → readable k (contentBytes ar k f) ≡ true
+pub record Fine (r : Reading) (ar : List ℕ) (k : Kind) (f : Fields) : Type 0 where
+  pub content : isContent (shapeOf k) ≡ true → readable r k (contentBytes ar k f) ≡ true
   pub size : isContent (shapeOf k) ≡ true → length (contentBytes ar k f) ≡ contentLength k f
   pub parts : isContent (shapeOf k) ≡ false → partsKept (f .parts) ≡ true
   pub stored : Stored k f
 
-pub fine : (ar : List ℕ) (k : Kind) (f : Fields) → ownRule ar k f ≡ true → Stored k f → Fine ar k f
-fine ar k f e g =
+pub fine : (r : Reading) (ar : List ℕ) (k : Kind) (f : Fields) → ownRule r ar k f ≡ true → Stored k f → Fine r ar k f
+fine r ar k f e g =
     record {
-      content = λ q. sym (rule-read ar k f q (own-lies ar k f e q)) ∙ e;
-      size = λ q. omega (arith, content-size ar k f (own-inside ar k f e q), content-length k f);
-      parts = λ q. own-parts ar k f e q;
+      content = λ q. own-readable r ar k f e q;
+      size = λ q. omega (arith, content-size ar k f (own-inside r ar k f e q), content-length k f);
+      parts = λ q. own-parts r ar k f e q;
       stored = g;
     }
 
@@ -105,72 +110,141 @@ number-kept u p e small certain =
 
 -- Tokens that are read whole
 
+-- in the block and in a frame every token is read
+in-block : (f : Bool) (s : List ℕ) → lex First 10 (modeOf f) s ≡ lexIn First 10 (modeOf f) s
+unfolding modeOf lex
+in-block true s = refl
+in-block false s = refl
+
+module _ (f : Bool) (w : List ℕ) (c : Class) (some-bytes : 0 < length w) where
+  first-line : lexIn First 10 (modeOf f) w ≡ lexed c (length w) → Reads First (modeOf f) [] w c
+  unfolding lexed
+  first-line e = first-passes (modeOf f) w c (record { reads = e; fills = refl; some-bytes = some-bytes }) (λ t. in-block f (w ++ 10 ∷ t))
+
+  -- what is one token by itself is read so on its line: before a token that is no bare value stands no space
+  line-reads : (r : Reading) (k : Kind) (b : List ℕ) → eqb (numberOf k) 10 ≡ false → lexIn r 10 (modeOf f) w ≡ lexed c (length w) → Reads r (modeOf f) (lead r k b) w c
+  unfolding isBareField
+  line-reads First k b n e = first-line e
+  line-reads Strict k b n e = rw n (strict-passes false (modeOf f) w c e some-bytes)
+
+parted-lf : (r : Reading) (x : Bool) → x ≡ true → (isParted r 10 && x) ≡ true
+unfolding isSpace
+parted-lf First x e = e
+parted-lf Strict x e = e
+
 name-length : (c : List ℕ) → isName c ≡ true → word c ≡ length c
 unfolding isName
 name-length c e = eqb-true (word c) (length c) e
 
-pub reads-tag : (f : Bool) (c : List ℕ) → isName c ≡ true → Reads f (95 ∷ c) tag
-unfolding Reads lexed word span inWord endsWord is
-reads-tag f c e =
-    record { reads = lex-tag (modeOf f) 95 c refl ∙ ap (λ (n : ℕ). lexed tag (suc n)) (name-length c e); fills = refl; some-bytes = omega arith }
+module _ (r : Reading) (f : Bool) (c : List ℕ) (e : isName c ≡ true) where
+  pub reads-tag : (k : Kind) → eqb (numberOf k) 10 ≡ false → Reads r (modeOf f) (lead r k c) (95 ∷ c) tag
+  unfolding word span inWord endsWord is tagFirst
+  reads-tag k n =
+      line-reads f (95 ∷ c) tag (omega arith) r k c n (lex-tag 10 (modeOf f) r (95 ∷ c) (parted-lf r (tagFirst (95 ∷ c)) refl) ∙ ap (λ (n : ℕ). lexed tag (suc n)) (name-length c e))
 
-pub reads-loop : (f : Bool) → Reads f keyLoop loop
-unfolding Reads lexed keyLoop starts lower is
-reads-loop f = record { reads = lex-loop (modeOf f) 108 _ refl; fills = refl; some-bytes = omega arith }
+data-word : (c : List ℕ) → isName c ≡ true → word (keyData ++ c) ≡ length (keyData ++ c)
+unfolding keyData word span inWord endsWord
+data-word c e = ap (λ (n : ℕ). suc (suc (suc (suc (suc n))))) (name-length c e)
 
-pub reads-shut : Reads true keySave save
-unfolding Reads lexed keySave starts lower is modeOf saveSize
-reads-shut = record { reads = lex-save inFrame 115 _ refl; fills = refl; some-bytes = omega arith }
+save-word : (c : List ℕ) → isName c ≡ true → word (keySave ++ c) ≡ length (keySave ++ c)
+unfolding keySave word span inWord endsWord
+save-word c e = ap (λ (n : ℕ). suc (suc (suc (suc (suc n))))) (name-length c e)
 
-pub reads-open : (c : List ℕ) → isName c ≡ true → Reads false (keySave ++ c) save
-unfolding Reads lexed keySave starts lower is modeOf saveSize word span inWord endsWord
-reads-open c e =
-    record { reads = lex-save inBlock 115 _ refl ∙ ap (λ (n : ℕ). lexed save (suc (suc (suc (suc (suc n)))))) (name-length c e); fills = refl; some-bytes = omega arith }
+-- a heading: in the strict reading one in the block, too
+data-strict : (m : Mode) (c : List ℕ) → isName c ≡ true → lexIn Strict 10 m (keyData ++ c) ≡ lexed block (length (keyData ++ c))
+unfolding starts keyData lower is isSpace
+data-strict m c e = lex-data 10 m (keyData ++ c) refl ∙ ap (λ (n : ℕ). lexed block n) (data-word c e)
 
--- w alone is a value of kind k
-pub alone-reads : (f : Bool) (k : ℕ) (w : List ℕ) → isAlone k w ≡ true → Reads f w (value k)
-unfolding Reads lexed isAlone
-alone-reads f k w e =
-    let c = kind-class (lexAsValue w .class) (and-l (isKind k (lexAsValue w .class)) _ e) in
-    let n : lexAsValue w .size ≡ length w = eqb-true (lexAsValue w .size) (length w) (and-r (isKind k (lexAsValue w .class)) _ e) in
-    let x : lexAsValue w ≡ lexed (value k) (length w) = λ i. record { class = c i; size = n i } in
-    let l : Lies w k (length w) = value-lies w k (length w) x in
-    record { reads = in-any-mode (modeOf f) w k (length w) x; fills = refl; some-bytes = l .pos }
-  where
-    kind-class : (c : Class) → isKind k c ≡ true → c ≡ value k
-    kind-class (value j) e = ap value (unfold isKind in eqb-true j k e)
-    kind-class block e = absurd (unfold isKind in false≢true e)
-    kind-class loop e = absurd (unfold isKind in false≢true e)
-    kind-class save e = absurd (unfold isKind in false≢true e)
-    kind-class tag e = absurd (unfold isKind in false≢true e)
-    kind-class overLimit e = absurd (unfold isKind in false≢true e)
-    kind-class (nothing w) e = absurd (unfold isKind in false≢true e)
+pub reads-head : (m : Mode) (c : List ℕ) → isName c ≡ true → Reads Strict m (lead Strict Block c) (keyData ++ c) block
+unfolding isBareField keyData
+reads-head m c e = strict-passes false m (keyData ++ c) block (data-strict m c e) (omega arith)
 
-point-alone : isAlone 8 (46 ∷ []) ≡ true
-unfolding isAlone isKind lexAsValue reserved starts keyData keyGlobal keyLoop keySave keyStop lower is lexValue lexed wordOr numberOr word span inWord endsWord parts sign digits isDigit point cut exponent absent bracket isNumber isEmpty
-point-alone = refl
+loop-stands : (r : Reading) → stands r keyLoop keyLoop ≡ true
+unfolding isWord starts keyLoop lower is word span inWord endsWord
+loop-stands First = refl
+loop-stands Strict = refl
 
-unknown-alone : isAlone 9 (63 ∷ []) ≡ true
-unfolding isAlone isKind lexAsValue reserved starts keyData keyGlobal keyLoop keySave keyStop lower is lexValue lexed
-unknown-alone = refl
+pub reads-loop : (r : Reading) (f : Bool) (c : List ℕ) → Reads r (modeOf f) (lead r Loop c) keyLoop loop
+unfolding keyLoop
+reads-loop r f c = line-reads f keyLoop loop (omega arith) r Loop c refl (lex-loop 10 (modeOf f) r keyLoop (parted-lf r (stands r keyLoop keyLoop) (loop-stands r)))
+
+save-starts : (c : List ℕ) → starts keySave (keySave ++ c) ≡ true
+unfolding starts keySave lower is
+save-starts c = refl
+
+shut-length : (r : Reading) → saveLength r inFrame keySave ≡ length keySave
+unfolding saveSize keySave word span inWord endsWord
+shut-length First = refl
+shut-length Strict = refl
+
+pub reads-shut : (r : Reading) (c : List ℕ) → Reads r inFrame (lead r FrameClose c) keySave save
+unfolding keySave modeOf starts lower is
+reads-shut r c = line-reads true keySave save (omega arith) r FrameClose c refl (lex-save 10 inFrame r keySave (parted-lf r (starts keySave keySave) refl) ∙ ap (λ (n : ℕ). lexed save n) (shut-length r))
+
+pub shut-five : length keySave ≡ 5
+unfolding keySave
+shut-five = refl
+
+open-length : (r : Reading) (c : List ℕ) → isName c ≡ true → saveLength r inBlock (keySave ++ c) ≡ length (keySave ++ c)
+unfolding saveSize
+open-length First c e = save-word c e
+open-length Strict c e = save-word c e
+
+pub reads-open : (r : Reading) (c : List ℕ) → isName c ≡ true → Reads r inBlock (lead r FrameOpen c) (keySave ++ c) save
+unfolding keySave modeOf
+reads-open r c e =
+    line-reads false (keySave ++ c) save (omega arith) r FrameOpen c refl (lex-save 10 inBlock r (keySave ++ c) (parted-lf r (starts keySave (keySave ++ c)) (save-starts c)) ∙ ap (λ (n : ℕ). lexed save n) (open-length r c e))
+
+-- w alone, where rendering puts it, is a value of kind k
+pub alone-reads : (r : Reading) (f : Bool) (k : Kind) (c w : List ℕ) → isAlone r (stands-behind r k c) (numberOf k) w ≡ true → Reads r (modeOf f) (lead r k c) w (value (numberOf k))
+alone-reads First f k c w e =
+    let x = alone-token First 10 (numberOf k) w e in
+    first-line f w (value (numberOf k)) (value-lies First 10 w (numberOf k) (length w) x .pos) (in-any-mode First 10 (modeOf f) w (numberOf k) (length w) x)
+alone-reads Strict f k c w e =
+    let p : ℕ = cond (isBareField k c) 32 10 in
+    let x = alone-token Strict p (numberOf k) w e in
+    strict-passes (isBareField k c) (modeOf f) w (value (numberOf k)) (in-any-mode Strict p (modeOf f) w (numberOf k) (length w) x) (value-lies Strict p w (numberOf k) (length w) x .pos)
+
+point-alone : (r : Reading) (f : Bool) (c : List ℕ) → Reads r (modeOf f) (lead r Inapplicable c) (46 ∷ []) (value 8)
+unfolding isAlone isKind lexAsValue reserved starts isWord keyData keyGlobal keyLoop keySave keyStop lower is isSpace lexValue lexed wordOr numberOr aloneOr word span inWord endsWord parts sign digits isDigit point cut exponent absent bracket isNumber isEmpty isBareField
+point-alone First f c = alone-reads First f Inapplicable c (46 ∷ []) refl
+point-alone Strict f c = alone-reads Strict f Inapplicable c (46 ∷ []) refl
+
+unknown-alone : (r : Reading) (f : Bool) (c : List ℕ) → Reads r (modeOf f) (lead r Unknown c) (63 ∷ []) (value 9)
+unfolding isAlone isKind lexAsValue reserved starts isWord keyData keyGlobal keyLoop keySave keyStop lower is isSpace lexValue lexed aloneOr word span inWord endsWord isBareField
+unknown-alone First f c = alone-reads First f Unknown c (63 ∷ []) refl
+unknown-alone Strict f c = alone-reads Strict f Unknown c (63 ∷ []) refl
 
 -- the token of a record
 unfoldable pub wordFor : List ℕ → Kind → Fields → List ℕ
 wordFor ar k f = tokenText k (contentBytes ar k f) (f .parts)
 
--- a content that is readable is readable by its kind
-pub by-kind : (ar : List ℕ) (f : Fields) (k : Kind) → isContent (shapeOf k) ≡ true → Fine ar k f → readableBy k (contentBytes ar k f) ≡ true
-unfolding readable
-by-kind ar f k e h = and-r (eqb (span isAscii (contentBytes ar k f)) (length (contentBytes ar k f))) _ (h .content e)
+-- what stands before it
+unfoldable pub leadFor : Reading → List ℕ → Kind → Fields → List ℕ
+leadFor r ar k f = lead r k (contentBytes ar k f)
 
-module _ (ar : List ℕ) (fr : Bool) (f : Fields) where
-  number-reads : (u : Bool) (k : Kind) → isContent (shapeOf k) ≡ false → Fine ar k f → (u ≡ false → k ≡ Number) → Reads fr (renderNumber (decimalOf u (f .parts))) (value (cond u 15 14))
-  unfolding Reads decimalOf
-  number-reads u k e h c = number-whole (modeOf fr) (decimalOf u (f .parts)) (number-kept u (f .parts) (h .parts e) (h .stored .exponent) (λ q. h .stored .certain (c q)))
+module _ (r : Reading) (ar : List ℕ) (f : Fields) where
+  -- a content that is readable is so by its kind, and keeps the rules of lines
+  kept-content : (k : Kind) → isContent (shapeOf k) ≡ true → Fine r ar k f → isKept r k (contentBytes ar k f) ≡ true
+  unfolding readable
+  kept-content k e h = and-r (eqb (span isAscii (contentBytes ar k f)) (length (contentBytes ar k f))) _ (h .content e)
+
+  pub by-kind : (k : Kind) → isContent (shapeOf k) ≡ true → Fine r ar k f → readableBy r k (contentBytes ar k f) ≡ true
+  by-kind k e h = and-r (keepsLines r (lead r k (contentBytes ar k f) ++ marked k (contentBytes ar k f))) _ (kept-content k e h)
+
+  pub content-lines : (k : Kind) → isContent (shapeOf k) ≡ true → Fine r ar k f → keepsLines r (lead r k (contentBytes ar k f) ++ marked k (contentBytes ar k f)) ≡ true
+  content-lines k e h = and-l (keepsLines r (lead r k (contentBytes ar k f) ++ marked k (contentBytes ar k f))) _ (kept-content k e h)
+
+module _ (r : Reading) (ar : List ℕ) (fr : Bool) (f : Fields) where
+  number-reads : (u : Bool) (k : Kind) → eqb (numberOf k) 10 ≡ false → isContent (shapeOf k) ≡ false → Fine r ar k f → (u ≡ false → k ≡ Number) → Reads r (modeOf fr) (leadFor r ar k f) (renderNumber (decimalOf u (f .parts))) (value (cond u 15 14))
+  unfolding leadFor decimalOf
+  number-reads u k n e h c =
+      let d = decimalOf u (f .parts) in
+      line-reads fr (renderNumber d) (value (cond u 15 14)) (number-size d) r k (contentBytes ar k f) n (number-whole r (modeOf fr) d (number-kept u (f .parts) (h .parts e) (h .stored .exponent) (λ q. h .stored .certain (c q))))
 
   -- THE TOKEN OF A VALUE is read whole, as its kind
-  pub reads-value : (k : Kind) → isValueKind (numberOf k) ≡ true → Fine ar k f → Reads fr (wordFor ar k f) (value (numberOf k))
-  unfolding isValueKind wordFor tokenText shapeOf isContent readableBy
+  pub reads-value : (k : Kind) → isValueKind (numberOf k) ≡ true → Fine r ar k f → Reads r (modeOf fr) (leadFor r ar k f) (wordFor ar k f) (value (numberOf k))
+  unfolding isValueKind wordFor leadFor tokenText shapeOf isContent readableBy
   reads-value NoKind e h = absurd (false≢true e)
   reads-value Block e h = absurd (false≢true e)
   reads-value FrameOpen e h = absurd (false≢true e)
@@ -179,14 +253,24 @@ module _ (ar : List ℕ) (fr : Bool) (f : Fields) where
   reads-value Loop e h = absurd (false≢true e)
   reads-value LoopTag e h = absurd (false≢true e)
   reads-value LoopEnd e h = absurd (false≢true e)
-  reads-value Inapplicable e h = alone-reads fr 8 (46 ∷ []) point-alone
-  reads-value Unknown e h = alone-reads fr 9 (63 ∷ []) unknown-alone
-  reads-value Bare e h = alone-reads fr 10 _ (by-kind ar f Bare refl h)
-  reads-value SingleQuoted e h = alone-reads fr 11 _ (by-kind ar f SingleQuoted refl h)
-  reads-value DoubleQuoted e h = alone-reads fr 12 _ (by-kind ar f DoubleQuoted refl h)
-  reads-value Multiline e h = alone-reads fr 13 _ (by-kind ar f Multiline refl h)
-  reads-value Number e h = number-reads false Number refl h (λ q. refl)
-  reads-value Uncertain e h = number-reads true Uncertain refl h (λ q. absurd (true≢false q))
+  reads-value Inapplicable e h = point-alone r fr (contentBytes ar Inapplicable f)
+  reads-value Unknown e h = unknown-alone r fr (contentBytes ar Unknown f)
+  reads-value Bare e h = alone-reads r fr Bare (contentBytes ar Bare f) _ (by-kind r ar f Bare refl h)
+  reads-value SingleQuoted e h = alone-reads r fr SingleQuoted (contentBytes ar SingleQuoted f) _ (by-kind r ar f SingleQuoted refl h)
+  reads-value DoubleQuoted e h = alone-reads r fr DoubleQuoted (contentBytes ar DoubleQuoted f) _ (by-kind r ar f DoubleQuoted refl h)
+  reads-value Multiline e h = alone-reads r fr Multiline (contentBytes ar Multiline f) _ (by-kind r ar f Multiline refl h)
+  reads-value Quoted e h = alone-reads r fr Quoted (contentBytes ar Quoted f) _ (by-kind r ar f Quoted refl h)
+  reads-value Number e h = number-reads false Number refl refl h (λ q. refl)
+  reads-value Uncertain e h = number-reads true Uncertain refl refl h (λ q. absurd (true≢false q))
+
+-- a quoted value of the strict reading holds its opening mark at least
+pub quoted-some : (r : Reading) (ar : List ℕ) (f : Fields) → Fine r ar Quoted f → 0 < length (contentBytes ar Quoted f)
+unfolding readableBy shapeOf isContent
+quoted-some r ar f h = by (contentBytes ar Quoted f) (by-kind r ar f Quoted refl h)
+  where
+    by : (c : List ℕ) → isAlone r (stands-behind r Quoted c) 21 (c ++ mark c) ≡ true → 0 < length c
+    by [] e = unfold mark in absurd (false≢true (sym (alone-none r (stands-behind r Quoted []) 21) ∙ e))
+    by (b ∷ c) e = omega arith
 
 -- ASCII
 
@@ -199,8 +283,8 @@ number-ascii : (d : Decimal) → all isAscii (renderNumber d) ≡ true
 unfolding all others isAscii
 number-ascii d = number-made isAscii refl refl (renderNumber d) (number-is d)
 
-module _ (ar : List ℕ) (f : Fields) where
-  content-ascii : (k : Kind) → isContent (shapeOf k) ≡ true → Fine ar k f → all isAscii (contentBytes ar k f) ≡ true
+module _ (r : Reading) (ar : List ℕ) (f : Fields) where
+  content-ascii : (k : Kind) → isContent (shapeOf k) ≡ true → Fine r ar k f → all isAscii (contentBytes ar k f) ≡ true
   unfolding readable
   content-ascii k e h =
       let c = contentBytes ar k f in
@@ -210,7 +294,12 @@ module _ (ar : List ℕ) (f : Fields) where
   unfolding all
   between m c e h = rw e (all-append isAscii c (m ∷ []) h (rw e))
 
-  pub token-ascii : (k : Kind) → Fine ar k f → all isAscii (wordFor ar k f) ≡ true
+  with-mark : (c : List ℕ) → all isAscii c ≡ true → all isAscii (c ++ mark c) ≡ true
+  unfolding all mark
+  with-mark [] h = refl
+  with-mark (b ∷ c) h = all-append isAscii (b ∷ c) (b ∷ []) h (rw (and-l (isAscii b) (all isAscii c) h))
+
+  pub token-ascii : (k : Kind) → Fine r ar k f → all isAscii (wordFor ar k f) ≡ true
   unfolding wordFor tokenText shapeOf isContent all isAscii keyData keySave keyLoop
   token-ascii NoKind h = refl
   token-ascii Block h = content-ascii Block refl h
@@ -226,5 +315,6 @@ module _ (ar : List ℕ) (f : Fields) where
   token-ascii SingleQuoted h = between 39 (contentBytes ar SingleQuoted f) refl (content-ascii SingleQuoted refl h)
   token-ascii DoubleQuoted h = between 34 (contentBytes ar DoubleQuoted f) refl (content-ascii DoubleQuoted refl h)
   token-ascii Multiline h = between 59 (contentBytes ar Multiline f) refl (content-ascii Multiline refl h)
+  token-ascii Quoted h = with-mark (contentBytes ar Quoted f) (content-ascii Quoted refl h)
   token-ascii Number h = number-ascii (decimalOf false (f .parts))
   token-ascii Uncertain h = number-ascii (decimalOf true (f .parts))

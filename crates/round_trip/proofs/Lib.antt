@@ -1,7 +1,9 @@
 pub mod Lines
+pub mod Passes
 pub mod Trip
 pub mod NumberLex
 pub mod Alone
 pub mod Nests
+pub mod Screens
 pub mod Same
 pub mod RoundTrip

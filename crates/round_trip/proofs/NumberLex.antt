@@ -1,4 +1,5 @@
--- Proved: the rendering of a number that keeps the limits, by itself, is one token, of kind 14, or 15 with uncertainty, and fills it (number-whole). Assumes nothing.
+-- Proved: the rendering of a number that keeps the limits, by itself, is one token in either reading, of kind 14, or 15 with uncertainty, and fills it (number-whole).
+-- Assumes nothing.
 use Prim.Native.Nat.{ℕ, zero, suc, _+_, _-_, _≤_, _<_}
 use mathlib.Core.Bool.{true≢false, Bool, true, false, cond}
 use mathlib.Core.Path.{_≡_, refl, sym, ap, _∙_, subst}
@@ -8,21 +9,23 @@ use borrow.Author.Tests.{eqb-true, eqb-false, leb-true}
 use lib.Dec.{leb, eqb}
 use lib.ListN.{length, take}
 use lib.Seq.{take-length}
-use Rattle.text.specs.Bytes.{isDigit, is, endsWord}
+use Rattle.rules.specs.declared.Reading.{Reading}
+use Rattle.rules.specs.declared.Reading.the-variants.{First, Strict}
+use Rattle.text.specs.Bytes.{isDigit, isSpace, is, endsWord}
 use Rattle.text.specs.Runs.{span}
 use Rattle.text.proofs.Bools.{and-l, and-r}
 use Rattle.words.specs.Words.{isOrdinary, word, inWord}
 use Rattle.folding.specs.Folding.{lower}
-use Rattle.keywords.specs.Keywords.{starts, keyData, keyGlobal, keyLoop, keySave, keyStop}
-use Rattle.numbers.specs.Parts.{isEmpty}
+use Rattle.keywords.specs.Keywords.{starts, isWord, keyData, keyGlobal, keyLoop, keySave, keyStop}
+use Rattle.numbers.specs.Parts.{isEmpty, absent, Parts, parts, written, isNumeric, countsAs}
 use Rattle.numbers.specs.declared.Decimal.{Decimal}
 use Rattle.numbers.specs.Cif.{allDigits, minus}
-use Rattle.numbers.specs.Spelling.{plain, signBytes, renderNumber, Kept}
+use Rattle.numbers.specs.Spelling.{plain, signBytes, uncBytes, renderNumber, Kept}
 use Rattle.numbers.proofs.Made.{all, others, number-made}
-use Rattle.numbers.proofs.Spelled.{digits-plain, some-plain, number-is, number-within, number-here}
+use Rattle.numbers.proofs.Spell.{parts-spell}
+use Rattle.numbers.proofs.Spelled.{uncPart, expPart, fracPart, sign-bytes, exp-spells, frac-spells, digits-plain, some-plain, number-is, number-within, number-here}
 use Rattle.values.specs.Values.{value, lexed, numberOr, wordOr, lexValue}
 use Rattle.grammar.specs.Tokens.{Mode, lexIn}
-use Rattle.grammar.proofs.Advance.{Whole}
 
 -- what holds of each number below n
 abbrev pub All : (ℕ → Type 0) → ℕ → Type 0
@@ -56,29 +59,35 @@ word-all [] e = refl
 word-all (b ∷ w) e = rw (and-l (inWord b) (all inWord w) e) (ap suc (word-all w (and-r (inWord b) (all inWord w) e)))
 
 -- a word that starts with a digit or `-` is bare text or a number
-StartsBare : Mode → List ℕ → ℕ → Type 0
-StartsBare m s b = lexIn m (b ∷ s) ≡ wordOr (lexed (value 10) (word (b ∷ s))) (b ∷ s)
+StartsBare : Reading → Mode → List ℕ → ℕ → Type 0
+StartsBare r m s b = lexIn r 10 m (b ∷ s) ≡ wordOr r (lexed (value 10) (word (b ∷ s))) (b ∷ s)
 
-minus-bare : (m : Mode) (s : List ℕ) → StartsBare m s 45
-unfolding StartsBare lexIn starts keyData keyGlobal keyStop keyLoop keySave lower is lexValue isOrdinary
-minus-bare m s = refl
+minus-bare : (r : Reading) (m : Mode) (s : List ℕ) → StartsBare r m s 45
+unfolding StartsBare lexIn starts isWord keyData keyGlobal keyStop keyLoop keySave lower is isSpace lexValue isOrdinary
+minus-bare First m s = refl
+minus-bare Strict m s = refl
 
-digit-bare : (m : Mode) (s : List ℕ) (b : ℕ) → isDigit b ≡ true → StartsBare m s b
-unfolding StartsBare lexIn starts keyData keyGlobal keyStop keyLoop keySave lower is lexValue isOrdinary
-digit-bare m s = digit-cases (λ b. StartsBare m s b) (refl, (refl, (refl, (refl, (refl, (refl, (refl, (refl, (refl, (refl, tt))))))))))
+digit-bare : (r : Reading) (m : Mode) (s : List ℕ) (b : ℕ) → isDigit b ≡ true → StartsBare r m s b
+unfolding StartsBare lexIn starts isWord keyData keyGlobal keyStop keyLoop keySave lower is isSpace lexValue isOrdinary
+digit-bare First m s = digit-cases (λ b. StartsBare First m s b) (refl, (refl, (refl, (refl, (refl, (refl, (refl, (refl, (refl, (refl, tt))))))))))
+digit-bare Strict m s = digit-cases (λ b. StartsBare Strict m s b) (refl, (refl, (refl, (refl, (refl, (refl, (refl, (refl, (refl, (refl, tt))))))))))
 
-digits-bare : (m : Mode) (p r : List ℕ) → isEmpty p ≡ false → allDigits p ≡ true → lexIn m (p ++ r) ≡ wordOr (lexed (value 10) (word (p ++ r))) (p ++ r)
-unfolding isEmpty allDigits StartsBare
-digits-bare m [] r n a = absurd (true≢false n)
-digits-bare m (d ∷ p) r n a = digit-bare m (p ++ r) d (and-l (isDigit d) (allDigits p) a)
+module _ (r : Reading) (m : Mode) where
+  Bare : List ℕ → Type 0
+  Bare w = lexIn r 10 m w ≡ wordOr r (lexed (value 10) (word w)) w
 
-number-bare : (m : Mode) (d : Decimal) → lexIn m (renderNumber d) ≡ wordOr (lexed (value 10) (word (renderNumber d))) (renderNumber d)
-unfolding renderNumber StartsBare signBytes
-number-bare m d = go (d .minus) (plain (d .integer)) _ (some-plain (d .integer)) (digits-plain (d .integer))
-  where
-    go : (b : Bool) (p r : List ℕ) → isEmpty p ≡ false → allDigits p ≡ true → lexIn m (signBytes b ++ (p ++ r)) ≡ wordOr (lexed (value 10) (word (signBytes b ++ (p ++ r)))) (signBytes b ++ (p ++ r))
-    go true p r n a = minus-bare m (p ++ r)
-    go false p r n a = digits-bare m p r n a
+  digits-bare : (p q : List ℕ) → isEmpty p ≡ false → allDigits p ≡ true → Bare (p ++ q)
+  unfolding isEmpty allDigits StartsBare Bare
+  digits-bare [] q n a = absurd (true≢false n)
+  digits-bare (d ∷ p) q n a = digit-bare r m (p ++ q) d (and-l (isDigit d) (allDigits p) a)
+
+  number-bare : (d : Decimal) → Bare (renderNumber d)
+  unfolding renderNumber StartsBare signBytes Bare
+  number-bare d = go (d .minus) (plain (d .integer)) _ (some-plain (d .integer)) (digits-plain (d .integer))
+    where
+      go : (b : Bool) (p q : List ℕ) → isEmpty p ≡ false → allDigits p ≡ true → Bare (signBytes b ++ (p ++ q))
+      go true p q n a = minus-bare r m (p ++ q)
+      go false p q n a = digits-bare p q n a
 
 some-bytes : (a p r : List ℕ) → isEmpty p ≡ false → 0 < length (a ++ (p ++ r))
 unfolding isEmpty
@@ -86,19 +95,58 @@ some-bytes [] [] r n = absurd (true≢false n)
 some-bytes [] (d ∷ p) r n = omega arith
 some-bytes (b ∷ a) p r n = omega arith
 
-number-size : (d : Decimal) → 0 < length (renderNumber d)
+pub number-size : (d : Decimal) → 0 < length (renderNumber d)
 unfolding renderNumber
 number-size d = some-bytes (signBytes (d .minus)) (plain (d .integer)) _ (some-plain (d .integer))
 
+-- its parts
+rendered : Decimal → Parts
+rendered d =
+    record {
+      sgn = signBytes (d .minus);
+      int = plain (d .integer);
+      frac = fracPart (d .places) (d .fraction);
+      exp = expPart (d .lowers) (d .exponent) (uncBytes (d .uncertain) (d .uncertainty));
+      unc = uncPart (d .uncertain) (d .uncertainty);
+    }
+
+rendered-parts : (d : Decimal) → parts (renderNumber d) ≡ rendered d
+unfolding renderNumber rendered
+rendered-parts d =
+    parts-spell (plain (d .integer)) (sign-bytes (d .minus)) (digits-plain (d .integer))
+    (frac-spells (d .places) (d .fraction) (exp-spells (d .lowers) (d .exponent) (d .uncertain) (d .uncertainty)))
+
+-- it is a number in either reading: an exponent or a bracket that is there has digits
+exponent-written : (d : Decimal) → written (parts (renderNumber d) .exp) ≡ true
+unfolding written rendered expPart absent
+exponent-written d =
+    rw (rendered-parts d)
+    (by (d .exponent))
+  where
+    by : (e : ℕ) → written (expPart (d .lowers) e (uncBytes (d .uncertain) (d .uncertainty))) ≡ true
+    by zero = refl
+    by (suc e) = rw (some-plain (suc e))
+
+uncertainty-written : (d : Decimal) → written (parts (renderNumber d) .unc) ≡ true
+unfolding written rendered uncPart absent
+uncertainty-written d =
+    rw (rendered-parts d)
+    (by (d .uncertain))
+  where
+    by : (b : Bool) → written (uncPart b (d .uncertainty)) ≡ true
+    by true = rw (some-plain (d .uncertainty))
+    by false = refl
+
+number-counts : (r : Reading) (d : Decimal) → countsAs r (parts (renderNumber d)) ≡ true
+unfolding isNumeric
+number-counts First d = number-is d
+number-counts Strict d = rw (number-is d, exponent-written d, uncertainty-written d)
+
 -- THE NUMBER'S TOKEN: its rendering alone is read whole, as kind 14 or 15
-pub number-whole : (m : Mode) (d : Decimal) → Kept d → Whole m (renderNumber d) (lexed (value (cond (d .uncertain) 15 14)) (length (renderNumber d)))
-unfolding wordOr numberOr lexed
-number-whole m d k =
+pub number-whole : (r : Reading) (m : Mode) (d : Decimal) → Kept d → lexIn r 10 m (renderNumber d) ≡ lexed (value (cond (d .uncertain) 15 14)) (length (renderNumber d))
+unfolding wordOr numberOr Bare
+number-whole r m d k =
     let w = renderNumber d in
     let e : word w ≡ length w = word-all w (rendered-inWord d) in
     let t : take (word w) w ≡ w = rw e (take-length w) in
-    record {
-      reads = number-bare m d ∙ rw (t, number-is d, number-within d k, number-here d, e);
-      fills = refl;
-      some-bytes = number-size d;
-    }
+    number-bare r m d ∙ rw (t, number-counts r d, number-within d k, number-here d, e)

@@ -1,14 +1,15 @@
--- What the records of a rendering say. Proved: each says what its record in the store says (say-same), and the records take as much room in store and area as
+-- What the records of a rendering say, by either reading. Proved: each says what its record in the store says (say-same), and the records take as much room in store and area as
 -- those that were rendered (store-same, area-same). Assumes nothing.
 use Prim.Native.Nat.{ℕ, zero, suc, _+_, _-_, _%_, _≤_, _<_}
-use mathlib.Core.Bool.{true≢false, false≢true, Bool, true, false, cond, _&&_}
-use mathlib.Core.Path.{_≡_, refl, sym, ap, ap₂, _∙_}
+use mathlib.Core.Bool.{true≢false, false≢true, Bool, true, false, cond}
+use mathlib.Core.Path.{_≡_, refl, sym, ap, ap₂}
 use mathlib.Core.List.{List, [], _∷_, _++_, append-assoc, append-nil, map}
 use native.Mathlib.Omega.{arith}
-use borrow.Author.Tests.{leb-true, leb-false, ltb-true, eqb-true, eqb-false}
-use lib.Dec.{eqb, leb, ltb}
+use borrow.Author.Tests.{leb-true}
+use lib.Dec.{eqb, leb}
 use lib.ListN.{length, take, drop, length-append}
-use lib.Seq.{drop-append-add, drop-append-seam, take-append-seam, drop-at, take-at}
+use lib.Seq.{drop-append-add, drop-append-seam, take-append-seam, drop-at}
+use Rattle.rules.specs.declared.Reading.{Reading}
 use Rattle.text.proofs.Bools.{and-l}
 use Rattle.keywords.specs.Keywords.{keyData, keySave}
 use Rattle.numbers.specs.declared.Decimal.{Decimal}
@@ -17,25 +18,25 @@ use Rattle.numbers.specs.Meaning.{meaning}
 use Rattle.numbers.specs.Spelling.{renderNumber}
 use Rattle.numbers.proofs.Spelled.{number-means}
 use Rattle.entries.specs.declared.Entry.{Entry}
-use Rattle.entries.specs.declared.Entry.the-variants.{Record, Nothing}
+use Rattle.entries.specs.declared.Entry.the-variants.{Record}
 use Rattle.entries.specs.declared.Fields.{Fields}
 use Rattle.kinds.specs.declared.Kind.{Kind}
-use Rattle.kinds.specs.declared.Kind.the-variants.{NoKind, Block, FrameOpen, FrameClose, Tag, Loop, LoopTag, LoopEnd, Inapplicable, Unknown, Bare, SingleQuoted, DoubleQuoted, Multiline, Number, Uncertain}
+use Rattle.kinds.specs.declared.Kind.the-variants.{NoKind, Block, FrameOpen, FrameClose, Tag, Loop, LoopTag, LoopEnd, Inapplicable, Unknown, Bare, SingleQuoted, DoubleQuoted, Multiline, Number, Uncertain, Quoted}
 use Rattle.entries.specs.declared.Parts.{Parts}
-use Rattle.kinds.specs.declared.Shape.the-variants.{Parts as PartsShape, PartsUncertain}
 use Rattle.kinds.specs.Kinds.{kindOf, numberOf, shapeOf, shapeLength, bodyLength, marksOf, opening, isContent, hasContent}
 use Rattle.records.specs.Bytes.{flag}
 use Rattle.entries.specs.Entries.{noParts, stored, isKind}
 use Rattle.grammar.specs.Machine.{Rec, loopEnd}
 use Rattle.sizes.specs.Sizes.{contentSize, storeSize, areaSize}
 use Rattle.putting.specs.Written.{tokenText as textOf, contentOf, decimalOf as readDecimal}
+use Rattle.readable.specs.Tokens.{mark}
 use Rattle.contents.specs.Contents.{partsKept, contentLength, contentBytes}
 use Rattle.stores.specs.Soundness.{takes}
 use Rattle.record_lines.specs.Lines.{decimalOf, tokenText, isEnd}
 use Rattle.written.specs.Sayings.{Saying, says, contentIn, saying}
-use Rattle.round_trip.proofs.Lines.{Line, line, ending, render, recsAt}
+use Rattle.round_trip.proofs.Lines.{line, ending, render, recsAt}
 use Rattle.written.proofs.Told.{partsIn, told}
-use Rattle.round_trip.proofs.Alone.{hasParts, Stored, Fine, number-kept, wordFor}
+use Rattle.round_trip.proofs.Alone.{hasParts, Fine, number-kept, wordFor, leadFor, quoted-some}
 use Rattle.round_trip.proofs.Nests.{Filled, full, more, lineFor, linesFor, number-kind}
 
 -- Decimal parts
@@ -62,18 +63,18 @@ stored-back u p e h =
     λ i. record { sign = s i; integer = p .integer; fraction = p .fraction; places = p .places; exponent = x i; uncertainty = p .uncertainty }
 
 -- a token read: its decimal parts are those that it was rendered from
-module _ (ar : List ℕ) (f : Fields) where
-  no-parts : (k : Kind) → hasParts (shapeOf k) ≡ false → Fine ar k f → noParts ≡ f .parts
+module _ (g : Reading) (ar : List ℕ) (f : Fields) where
+  no-parts : (k : Kind) → hasParts (shapeOf k) ≡ false → Fine g ar k f → noParts ≡ f .parts
   no-parts k e h = sym (h .stored .none e)
 
   -- the number that a rendered number means
-  means-back : (u : Bool) (k : Kind) → isContent (shapeOf k) ≡ false → Fine ar k f → (u ≡ false → k ≡ Number) → meaning (parts (renderNumber (decimalOf u (f .parts)))) ≡ decimalOf u (f .parts)
+  means-back : (u : Bool) (k : Kind) → isContent (shapeOf k) ≡ false → Fine g ar k f → (u ≡ false → k ≡ Number) → meaning (parts (renderNumber (decimalOf u (f .parts)))) ≡ decimalOf u (f .parts)
   means-back u k e h c = number-means (decimalOf u (f .parts)) (number-kept u (f .parts) (h .parts e) (h .stored .exponent) (λ q. h .stored .certain (c q)))
 
-  same-back : (u : Bool) (k : Kind) → isContent (shapeOf k) ≡ false → Fine ar k f → (n : ℕ) → n ≡ f .parts .uncertainty → stored (decimalOf u (f .parts)) n ≡ f .parts
+  same-back : (u : Bool) (k : Kind) → isContent (shapeOf k) ≡ false → Fine g ar k f → (n : ℕ) → n ≡ f .parts .uncertainty → stored (decimalOf u (f .parts)) n ≡ f .parts
   same-back u k e h n q = rw q (stored-back u (f .parts) (h .parts e) (h .stored .exponent))
 
-  parts-back : (k : Kind) → Fine ar k f → partsIn (shapeOf k) (meaning (parts (wordFor ar k f))) ≡ f .parts
+  parts-back : (k : Kind) → Fine g ar k f → partsIn (shapeOf k) (meaning (parts (wordFor ar k f))) ≡ f .parts
   unfolding partsIn shapeOf hasParts isContent wordFor tokenText
   parts-back NoKind h = no-parts NoKind refl h
   parts-back Block h = no-parts Block refl h
@@ -89,6 +90,7 @@ module _ (ar : List ℕ) (f : Fields) where
   parts-back SingleQuoted h = no-parts SingleQuoted refl h
   parts-back DoubleQuoted h = no-parts DoubleQuoted refl h
   parts-back Multiline h = no-parts Multiline refl h
+  parts-back Quoted h = no-parts Quoted refl h
   parts-back Number h = rw (means-back false Number refl h (λ q. refl)) (same-back false Number refl h 0 (sym (h .stored .certain refl)))
   parts-back Uncertain h = rw (means-back true Uncertain refl h (λ q. absurd (true≢false q))) (same-back true Uncertain refl h _ (unfold decimalOf in refl))
 
@@ -100,28 +102,33 @@ record Split (k : Kind) (w c : List ℕ) : Type 0 where
   before : length pre ≡ opening k
   marks : length pre + length post ≡ marksOf k
 
-split : (k : Kind) (c : List ℕ) (p : Parts) → isContent (shapeOf k) ≡ true → Split k (tokenText k c p) c
-unfolding isContent shapeOf tokenText opening marksOf keyData keySave
-split NoKind c p e = absurd (false≢true e)
-split Block c p e = record { pre = keyData; post = []; joins = rw append-nil; before = refl; marks = refl }
-split FrameOpen c p e = record { pre = keySave; post = []; joins = rw append-nil; before = refl; marks = refl }
-split FrameClose c p e = absurd (false≢true e)
-split Tag c p e = record { pre = 95 ∷ []; post = []; joins = rw append-nil; before = refl; marks = refl }
-split Loop c p e = absurd (false≢true e)
-split LoopTag c p e = record { pre = 95 ∷ []; post = []; joins = rw append-nil; before = refl; marks = refl }
-split LoopEnd c p e = absurd (false≢true e)
-split Inapplicable c p e = absurd (false≢true e)
-split Unknown c p e = absurd (false≢true e)
-split Bare c p e = record { pre = []; post = []; joins = rw append-nil; before = refl; marks = refl }
-split SingleQuoted c p e = record { pre = 39 ∷ []; post = 39 ∷ []; joins = refl; before = refl; marks = refl }
-split DoubleQuoted c p e = record { pre = 34 ∷ []; post = 34 ∷ []; joins = refl; before = refl; marks = refl }
-split Multiline c p e = record { pre = 59 ∷ []; post = 59 ∷ []; joins = refl; before = refl; marks = refl }
-split Number c p e = absurd (false≢true e)
-split Uncertain c p e = absurd (false≢true e)
+split : (k : Kind) (c : List ℕ) (p : Parts) → isContent (shapeOf k) ≡ true → (k ≡ Quoted → 0 < length c) → Split k (tokenText k c p) c
+unfolding isContent shapeOf tokenText opening marksOf keyData keySave mark
+split NoKind c p e some = absurd (false≢true e)
+split Block c p e some = record { pre = keyData; post = []; joins = rw append-nil; before = refl; marks = refl }
+split FrameOpen c p e some = record { pre = keySave; post = []; joins = rw append-nil; before = refl; marks = refl }
+split FrameClose c p e some = absurd (false≢true e)
+split Tag c p e some = record { pre = 95 ∷ []; post = []; joins = rw append-nil; before = refl; marks = refl }
+split Loop c p e some = absurd (false≢true e)
+split LoopTag c p e some = record { pre = 95 ∷ []; post = []; joins = rw append-nil; before = refl; marks = refl }
+split LoopEnd c p e some = absurd (false≢true e)
+split Inapplicable c p e some = absurd (false≢true e)
+split Unknown c p e some = absurd (false≢true e)
+split Bare c p e some = record { pre = []; post = []; joins = rw append-nil; before = refl; marks = refl }
+split SingleQuoted c p e some = record { pre = 39 ∷ []; post = 39 ∷ []; joins = refl; before = refl; marks = refl }
+split DoubleQuoted c p e some = record { pre = 34 ∷ []; post = 34 ∷ []; joins = refl; before = refl; marks = refl }
+split Multiline c p e some = record { pre = 59 ∷ []; post = 59 ∷ []; joins = refl; before = refl; marks = refl }
+split Quoted [] p e some = absurd (omega (arith, some refl))
+split Quoted (b ∷ c) p e some = record { pre = []; post = b ∷ []; joins = refl; before = refl; marks = refl }
+split Number c p e some = absurd (false≢true e)
+split Uncertain c p e some = absurd (false≢true e)
 
 -- A token w in its place, between p and q
 
-module _ (ar : List ℕ) (k : Kind) (f : Fields) (h : Fine ar k f) where
+module _ (g : Reading) (ar : List ℕ) (k : Kind) (f : Fields) (h : Fine g ar k f) where
+  filled : k ≡ Quoted → 0 < length (contentBytes ar k f)
+  filled e = rw e (quoted-some g ar f (rw e at h))
+
   rendered : List ℕ → Rec
   rendered p = record { kind = numberOf k; at = length p; size = length (wordFor ar k f) }
 
@@ -134,7 +141,7 @@ module _ (ar : List ℕ) (k : Kind) (f : Fields) (h : Fine ar k f) where
       by false e = refl
       by true e =
           let c = contentBytes ar k f in
-          let x : Split k (wordFor ar k f) c = unfold wordFor in split k c (f .parts) e in
+          let x : Split k (wordFor ar k f) c = unfold wordFor in split k c (f .parts) e filled in
           rw (x .joins) (simp length-append (omega (arith, x .marks, h .size e)))
 
   content-same : (p q : List ℕ) → contentOf (p ++ (wordFor ar k f ++ q)) (rendered p) ≡ contentIn ar k f
@@ -145,7 +152,7 @@ module _ (ar : List ℕ) (k : Kind) (f : Fields) (h : Fine ar k f) where
       by false e = unfold takes in rw e
       by true e =
           let c = contentBytes ar k f in
-          let x : Split k (wordFor ar k f) c = unfold wordFor in split k c (f .parts) e in
+          let x : Split k (wordFor ar k f) c = unfold wordFor in split k c (f .parts) e filled in
           let n : takes k f ≡ length c = unfold takes in rw e (sym (h .size e)) in
           rw (x .joins, append-assoc (x .pre) (c ++ x .post) q, drop-at (x .pre) ((c ++ x .post) ++ q) (opening k) (x .before), append-assoc c (x .post) q, n) (take-append-seam c (x .post ++ q))
 
@@ -154,7 +161,7 @@ module _ (ar : List ℕ) (k : Kind) (f : Fields) (h : Fine ar k f) where
   say-same next p q =
       let w = wordFor ar k f in
       let token : take (length w) (drop (length p) (p ++ (w ++ q))) ≡ w = rw (drop-append-seam p (w ++ q)) (take-append-seam w q) in
-      let d : partsIn (shapeOf (kindOf (numberOf k))) (meaning (parts (take (length w) (drop (length p) (p ++ (w ++ q)))))) ≡ f .parts = rw (number-kind k, token) (parts-back ar f k h) in
+      let d : partsIn (shapeOf (kindOf (numberOf k))) (meaning (parts (take (length w) (drop (length p) (p ++ (w ++ q)))))) ≡ f .parts = rw (number-kind k, token) (parts-back g ar f k h) in
       λ i. says (number-kind k i) (content-same p q i) (d i)
 
 -- a loop's end has no token
@@ -176,31 +183,41 @@ end-kind DoubleQuoted e h = absurd (false≢true e)
 end-kind Multiline e h = absurd (false≢true e)
 end-kind Number e h = absurd (false≢true e)
 end-kind Uncertain e h = absurd (false≢true e)
+end-kind Quoted e h = absurd (false≢true e)
 
-say-end : (s ar : List ℕ) (k : Kind) (f : Fields) (next : ℕ) → Fine ar k f → isEnd k ≡ true → told s loopEnd ≡ saying ar (Record k f next)
+say-end : (g : Reading) (s ar : List ℕ) (k : Kind) (f : Fields) (next : ℕ) → Fine g ar k f → isEnd k ≡ true → told s loopEnd ≡ saying ar (Record k f next)
 unfolding told saying loopEnd kindOf contentOf contentSize hasContent shapeOf isContent contentIn partsIn hasParts
-say-end s ar k f next h e =
+say-end g s ar k f next h e =
     let z : k ≡ LoopEnd = end-kind k e (h .stored .known) in
     rw z (ap (λ (d : Parts). says LoopEnd [] d) (sym (h .stored .none (rw z))))
 
 -- ALL RECORDS of a rendering, from offset o on, behind p
-pub all-same : (ar : List ℕ) {a n : ℕ} {es : List Entry} → Filled ar a n es → (p : List ℕ) (o : ℕ) → o ≡ length p → map (told (p ++ render (linesFor ar es))) (recsAt o (linesFor ar es)) ≡ map (saying ar) es
+pub all-same : (g : Reading) (ar : List ℕ) {a n : ℕ} {es : List Entry} → Filled g ar a n es → (p : List ℕ) (o : ℕ) → o ≡ length p → map (told (p ++ render (linesFor g ar es))) (recsAt o (linesFor g ar es)) ≡ map (saying ar) es
 unfolding linesFor lineFor recsAt render
-all-same ar (full e) p o l = refl
-all-same ar (more {es = es} {k = k} {f = f} {next = next} h z g) p o l = by (isEnd k) refl (λ p o l. all-same ar g p o l)
+all-same g ar (full e) p o x = refl
+all-same g ar (more {es = es} {k = k} {f = f} {next = next} h z d) p o x = by (isEnd k) refl (λ p o x. all-same g ar d p o x)
   where
+    l : List ℕ
+    l = leadFor g ar k f
+
     w : List ℕ
     w = wordFor ar k f
 
-    Rest : Type 0
-    Rest = (p : List ℕ) (o : ℕ) → o ≡ length p → map (told (p ++ render (linesFor ar es))) (recsAt o (linesFor ar es)) ≡ map (saying ar) es
+    q : List ℕ
+    q = 10 ∷ render (linesFor g ar es)
 
-    by : (t : Bool) → isEnd k ≡ t → Rest → map (told (p ++ render (cond t ending (line (numberOf k) w) ∷ linesFor ar es))) (recsAt o (cond t ending (line (numberOf k) w) ∷ linesFor ar es)) ≡ saying ar (Record k f next) ∷ map (saying ar) es
-    by true e r = ap₂ {C = List Saying} _∷_ (say-end _ ar k f next h e) (r p o l)
+    Rest : Type 0
+    Rest = (p : List ℕ) (o : ℕ) → o ≡ length p → map (told (p ++ render (linesFor g ar es))) (recsAt o (linesFor g ar es)) ≡ map (saying ar) es
+
+    by : (t : Bool) → isEnd k ≡ t → Rest → map (told (p ++ render (cond t ending (line (numberOf k) l w) ∷ linesFor g ar es))) (recsAt o (cond t ending (line (numberOf k) l w) ∷ linesFor g ar es)) ≡ saying ar (Record k f next) ∷ map (saying ar) es
+    by true e r = ap₂ {C = List Saying} _∷_ (say-end g _ ar k f next h e) (r p o x)
     by false e r =
-        ap₂ {C = List Saying} _∷_ (rw l (unfold rendered in say-same ar k f h next p (10 ∷ render (linesFor ar es))))
-        (let q : p ++ (w ++ 10 ∷ render (linesFor ar es)) ≡ (p ++ (w ++ 10 ∷ [])) ++ render (linesFor ar es) = simp append-assoc in
-        rw q (r (p ++ (w ++ 10 ∷ [])) (suc (o + length w)) (simp length-append (omega arith))))
+        ap₂ {C = List Saying} _∷_
+        (let y : p ++ (l ++ (w ++ q)) ≡ (p ++ l) ++ (w ++ q) = simp append-assoc in
+        let n : o + length l ≡ length (p ++ l) = simp length-append (omega arith) in
+        rw (y, n) (unfold rendered in say-same g ar k f h next (p ++ l) q))
+        (let y : p ++ (l ++ (w ++ q)) ≡ (p ++ (l ++ (w ++ 10 ∷ []))) ++ render (linesFor g ar es) = simp append-assoc in
+        rw y (r (p ++ (l ++ (w ++ 10 ∷ []))) (suc (o + length l + length w)) (simp length-append (omega arith))))
 
 -- and the room that they take
 end-takes : (f : Fields) → takes LoopEnd f ≡ 0
@@ -211,22 +228,22 @@ end-content : contentSize 7 0 ≡ 0
 unfolding contentSize hasContent kindOf shapeOf isContent
 end-content = refl
 
-pub store-same : (ar : List ℕ) {a n : ℕ} {es : List Entry} → Filled ar a n es → (o : ℕ) → storeSize (recsAt o (linesFor ar es)) ≡ n
+pub store-same : (r : Reading) (ar : List ℕ) {a n : ℕ} {es : List Entry} → Filled r ar a n es → (o : ℕ) → storeSize (recsAt o (linesFor r ar es)) ≡ n
 unfolding linesFor lineFor recsAt storeSize loopEnd bodyLength kindOf
-store-same ar (full e) o = refl
-store-same ar (more {n = n} {es = es} {k = k} {f = f} {next = next} h z g) o = by (isEnd k) refl (λ o. store-same ar g o)
+store-same r ar (full e) o = refl
+store-same r ar (more {n = n} {es = es} {k = k} {f = f} {next = next} h z g) o = by (isEnd k) refl (λ o. store-same r ar g o)
   where
-    by : (t : Bool) → isEnd k ≡ t → ((o : ℕ) → storeSize (recsAt o (linesFor ar es)) ≡ n) → storeSize (recsAt o (cond t ending (line (numberOf k) (wordFor ar k f)) ∷ linesFor ar es)) ≡ next + n
-    by true e r = let y : k ≡ LoopEnd = end-kind k e (h .stored .known) in omega (arith, r o, ap (λ (k : Kind). shapeLength (shapeOf k)) y)
-    by false e r = omega (arith, r (suc (o + length (wordFor ar k f))), ap (λ (k : Kind). shapeLength (shapeOf k)) (number-kind k))
+    by : (t : Bool) → isEnd k ≡ t → ((o : ℕ) → storeSize (recsAt o (linesFor r ar es)) ≡ n) → storeSize (recsAt o (cond t ending (line (numberOf k) (leadFor r ar k f) (wordFor ar k f)) ∷ linesFor r ar es)) ≡ next + n
+    by true e x = let y : k ≡ LoopEnd = end-kind k e (h .stored .known) in omega (arith, x o, ap (λ (k : Kind). shapeLength (shapeOf k)) y)
+    by false e x = omega (arith, x (suc (o + length (leadFor r ar k f) + length (wordFor ar k f))), ap (λ (k : Kind). shapeLength (shapeOf k)) (number-kind k))
 
-pub area-same : (ar : List ℕ) {a n : ℕ} {es : List Entry} → Filled ar a n es → (o : ℕ) → a + areaSize (recsAt o (linesFor ar es)) ≡ length ar
+pub area-same : (r : Reading) (ar : List ℕ) {a n : ℕ} {es : List Entry} → Filled r ar a n es → (o : ℕ) → a + areaSize (recsAt o (linesFor r ar es)) ≡ length ar
 unfolding linesFor lineFor recsAt areaSize loopEnd
-area-same ar (full e) o = omega arith
-area-same ar (more {a = a} {n = n} {es = es} {k = k} {f = f} {next = next} h z g) o = by (isEnd k) refl (λ o. area-same ar g o)
+area-same r ar (full e) o = omega arith
+area-same r ar (more {a = a} {n = n} {es = es} {k = k} {f = f} {next = next} h z g) o = by (isEnd k) refl (λ o. area-same r ar g o)
   where
-    by : (t : Bool) → isEnd k ≡ t → ((o : ℕ) → a + takes k f + areaSize (recsAt o (linesFor ar es)) ≡ length ar) → a + areaSize (recsAt o (cond t ending (line (numberOf k) (wordFor ar k f)) ∷ linesFor ar es)) ≡ length ar
-    by true e r =
+    by : (t : Bool) → isEnd k ≡ t → ((o : ℕ) → a + takes k f + areaSize (recsAt o (linesFor r ar es)) ≡ length ar) → a + areaSize (recsAt o (cond t ending (line (numberOf k) (leadFor r ar k f) (wordFor ar k f)) ∷ linesFor r ar es)) ≡ length ar
+    by true e x =
         let y : k ≡ LoopEnd = end-kind k e (h .stored .known) in
-        omega (arith, r o, end-takes f, ap (λ (k : Kind). takes k f) y, end-content)
-    by false e r = omega (arith, r (suc (o + length (wordFor ar k f))), size-same ar k f h)
+        omega (arith, x o, end-takes f, ap (λ (k : Kind). takes k f) y, end-content)
+    by false e x = omega (arith, x (suc (o + length (leadFor r ar k f) + length (wordFor ar k f))), size-same r ar k f h)

@@ -7,7 +7,8 @@ use native.Mathlib.Omega.{arith}
 use Rattle.kinds.specs.declared.Kind.{Kind}
 use Rattle.kinds.specs.declared.Shape.{Shape}
 use Rattle.kinds.specs.declared.Shape.the-variants.{Empty, Place, Content, Count, Parts, PartsUncertain}
-use Rattle.kinds.specs.Kinds.{kindOf, shapeOf, shapeLength, outlineShape, marksOf, bodyLength, outlineLength, isContent, hasContent}
+use Rattle.kinds.specs.Kinds.{kindOf, shapeOf, shapeLength, outlineShape, marksOf, bodyLength, outlineLength, isContent, hasContent, isValueKind}
+use Rattle.kinds.proofs.Marks.{each-value}
 use Rattle.sizes.specs.declared.Sizes.{Sizes}
 use Rattle.grammar.specs.Machine.{Rec}
 use Rattle.sizes.specs.Sizes.{contentSize, storeSize, outlineSize, areaSize, sizesOf, noSizes, grown, added, joined, Upto}
@@ -145,21 +146,6 @@ pub grown-steps : (z : Sizes) (x : Shape) (n a : ℕ) → a ≡ shapeLength x �
 unfolding grown shapeLength
 grown-steps z x n a e = same (omega arith) (omega arith) (omega arith)
 
--- what holds of each kind of value
-value-kinds : (P : ℕ → Type 0) → P 8 → P 9 → P 10 → P 11 → P 12 → P 13 → P 14 → P 15 → (k : ℕ) → 8 ≤ k → k ≤ 15 → P k
-value-kinds P a b c d e f g h k l u = at (k - 8) (omega arith)
-  where
-    at : (j : ℕ) → k ≡ 8 + j → P k
-    at zero q = rw q a
-    at (suc zero) q = rw q b
-    at (suc (suc zero)) q = rw q c
-    at (suc (suc (suc zero))) q = rw q d
-    at (suc (suc (suc (suc zero)))) q = rw q e
-    at (suc (suc (suc (suc (suc zero))))) q = rw q f
-    at (suc (suc (suc (suc (suc (suc zero)))))) q = rw q g
-    at (suc (suc (suc (suc (suc (suc (suc zero))))))) q = rw q h
-    at (suc (suc (suc (suc (suc (suc (suc (suc j)))))))) q = absurd (omega arith)
-
 isEmpty : Shape → Bool
 isEmpty Empty = true
 isEmpty Place = false
@@ -169,18 +155,9 @@ isEmpty Parts = false
 isEmpty PartsUncertain = false
 
 -- a value's body is not empty
-value-body : (k : ℕ) → 8 ≤ k → k ≤ 15 → isEmpty (shapeOf (kindOf k)) ≡ false
+value-body : (k : ℕ) → isValueKind k ≡ true → isEmpty (shapeOf (kindOf k)) ≡ false
 unfolding isEmpty kindOf shapeOf
-value-body = value-kinds (λ k. isEmpty (shapeOf (kindOf k)) ≡ false) refl refl refl refl refl refl refl refl
-
--- a value has its marks
-pub value-marks : (n k : ℕ) → 8 ≤ k → k ≤ 15 → (11 ≤ k → k ≤ 13 → 2 ≤ n) → marksOf (kindOf k) ≤ n
-unfolding kindOf marksOf
-value-marks n =
-    value-kinds (λ k. (11 ≤ k → k ≤ 13 → 2 ≤ n) → marksOf (kindOf k) ≤ n)
-    (λ m. omega arith) (λ m. omega arith) (λ m. omega arith)
-    (λ m. m (omega arith) (omega arith)) (λ m. m (omega arith) (omega arith)) (λ m. m (omega arith) (omega arith))
-    (λ m. omega arith) (λ m. omega arith)
+value-body = each-value (λ k. isEmpty (shapeOf (kindOf k)) ≡ false) refl refl refl refl refl refl refl refl refl
 
 -- one with content, and one without
 pub grown-content : (z : Sizes) (k n : ℕ) → shapeOf (kindOf k) ≡ Content → grown z Content (n - marksOf (kindOf k)) ≡ added z k n
@@ -196,5 +173,5 @@ grown-shape z k n Count e c d = rw e
 grown-shape z k n Parts e c d = rw e
 grown-shape z k n PartsUncertain e c d = rw e
 
-pub grown-other : (z : Sizes) (k n : ℕ) → 8 ≤ k → k ≤ 15 → (x : Shape) → x ≡ shapeOf (kindOf k) → isContent x ≡ false → grown z x 0 ≡ added z k n
-grown-other z k n l u x e c = grown-shape z k n x (sym e) c (rw e (value-body k l u))
+pub grown-other : (z : Sizes) (k n : ℕ) → isValueKind k ≡ true → (x : Shape) → x ≡ shapeOf (kindOf k) → isContent x ≡ false → grown z x 0 ≡ added z k n
+grown-other z k n v x e c = grown-shape z k n x (sym e) c (rw e (value-body k v))

@@ -1,8 +1,10 @@
 // The room that records take: in the store, in the outline and in the area.
 ghost use mathlib.Core.Path.{_≡_};
+ghost use mathlib.Core.Bool.{true};
 ghost use Prim.Native.Nat.{_*_, _≤_};
 ghost use Rattle.sizes.specs.Sizes.{contentSize, noSizes, grown, added, joined, Upto};
 ghost use Rattle.text.specs.Limits.{limit};
+ghost use Rattle.kinds.specs.Kinds.{kindOf, marksOf, isValueKind};
 use kinds::Kind;
 use kinds::Shape;
 
@@ -67,7 +69,7 @@ impl Sizes {
 
     // One value more: as `add`, by the value's shape, which is not empty.
     pub fn add_value(self, kind: u8, size: usize) -> Sizes
-        requires { ⌜ Upto (limit * limit) self × (size ≤ limit) × (8 ≤ kind) × (kind ≤ 15) × (11 ≤ kind → kind ≤ 13 → 2 ≤ size) ⌝ }
+        requires { ⌜ Upto (limit * limit) self × (size ≤ limit) × (isValueKind kind ≡ true) × (marksOf (kindOf kind) ≤ size) ⌝ }
         ensures { λ r. ⌜ r ≡ added self kind size ⌝ }
     {
         let kind = Kind::of(kind);

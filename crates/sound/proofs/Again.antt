@@ -1,23 +1,23 @@
 -- A token read alone. Proved: the bytes of a bare value, a quoted value or a text field, taken out of the text, are read as the same value (alone-again), and a word taken
 -- out is one (word-again). Assumes nothing.
-use Prim.Native.Nat.{ℕ, zero, suc, _+_, _-_, _≤_, _<_}
-use mathlib.Core.Bool.{true≢false, false≢true, Bool, true, false, cond, _&&_, _||_}
+use Prim.Native.Nat.{ℕ, zero, suc, _-_, _≤_, _<_}
+use mathlib.Core.Bool.{true≢false, Bool, true, false, cond, _&&_, _||_}
 use mathlib.Core.Path.{_≡_, refl, sym, ap, _∙_}
-use mathlib.Core.List.{List, [], _∷_, _++_}
+use mathlib.Core.List.{List, [], _∷_}
 use mathlib.Core.Option.{Option, none, some}
 use native.Mathlib.Omega.{arith}
-use lib.ListN.{length, take, length-take}
-use lib.Seq.{take-take, length-take-le}
+use lib.ListN.{take}
+use lib.Seq.{take-take}
+use Rattle.rules.specs.declared.Reading.the-variants.{First}
 use Rattle.text.specs.Bytes.{is, isEol}
 use Rattle.text.specs.Runs.{span}
-use Rattle.text.proofs.Bools.{and-l, and-r, or-l, or-r}
-use Rattle.text.proofs.Runs.{span-le}
+use Rattle.text.proofs.Bools.{or-l, or-r}
 use Rattle.words.specs.Words.{inWord, word, isOrdinary}
 use Rattle.folding.specs.Folding.{lower}
 use Rattle.keywords.specs.Keywords.{starts, keyData, keyGlobal, keyLoop, keySave, keyStop, reserved}
 use Rattle.quotes.specs.Quotes.{more, quoted, fieldIn, field}
 use Rattle.numbers.specs.Parts.{parts, isNumber, within}
-use Rattle.values.specs.Values.{Class, Reason, value, overLimit, nothing, atEnd, reservedWord, noStart, openQuote, openField, Lexed, lexed, numberOr, wordOr, closed, lexValue, lexAsValue}
+use Rattle.values.specs.Values.{Reason, value, overLimit, nothing, atEnd, reservedWord, openQuote, openField, Lexed, lexed, numberOr, wordOr, closed, lexValue, lexAsValue}
 use Rattle.written.proofs.Lexing.{never}
 
 -- words
@@ -56,7 +56,7 @@ quoted-again m (b ∷ s) zero e = absurd (omega (arith, some-pos (is m b) (isEol
 quoted-again m (b ∷ s) (suc n) e =
     quote-go (is m b) (isEol b) (quoted m s) (quoted m (take n s)) (suc n) (λ k q z. let y : n ≡ k = omega arith in rw (← y) (quoted-again m s n (rw y q))) e
 
-field-again : (f : Bool) (s : List ℕ) (n : ℕ) → fieldIn f s ≡ some n → fieldIn f (take n s) ≡ some n
+pub field-again : (f : Bool) (s : List ℕ) (n : ℕ) → fieldIn f s ≡ some n → fieldIn f (take n s) ≡ some n
 unfolding fieldIn
 field-again f [] n e = never (cc)
 field-again f (b ∷ s) zero e = absurd (omega (arith, some-pos (f && is 59 b) false (fieldIn (isEol b) s) 0 e))
@@ -64,7 +64,7 @@ field-again f (b ∷ s) (suc n) e =
     quote-go (f && is 59 b) false (fieldIn (isEol b) s) (fieldIn (isEol b) (take n s)) (suc n) (λ k q z. let y : n ≡ k = omega arith in rw (← y) (field-again (isEol b) s n (rw y q))) e
 
 -- keywords: what a part starts with, the whole starts with
-starts-part : (k s : List ℕ) (n : ℕ) → starts k s ≡ false → starts k (take n s) ≡ false
+pub starts-part : (k s : List ℕ) (n : ℕ) → starts k s ≡ false → starts k (take n s) ≡ false
 unfolding starts
 starts-part [] s n e = absurd (true≢false e)
 starts-part (c ∷ k) s zero e = refl
@@ -75,7 +75,7 @@ starts-part (c ∷ k) (b ∷ s) (suc n) e = by (is c (lower b)) e (starts-part k
     by true e f = f e
     by false e f = refl
 
-reserved-part : (s : List ℕ) (n : ℕ) → reserved s ≡ false → reserved (take n s) ≡ false
+reserved-part : (s : List ℕ) (n : ℕ) → reserved First s ≡ false → reserved First (take n s) ≡ false
 unfolding reserved
 reserved-part s n e =
     let d = starts keyData s in
@@ -93,7 +93,7 @@ reserved-part s n e =
       starts-part keyStop s n (or-r (d || g || l || v) (starts keyStop s) e),
     )
 
-take-cons : (n b : ℕ) (t : List ℕ) → 0 < n → take n (b ∷ t) ≡ b ∷ take (n - 1) t
+pub take-cons : (n b : ℕ) (t : List ℕ) → 0 < n → take n (b ∷ t) ≡ b ∷ take (n - 1) t
 take-cons zero b t h = absurd (omega arith)
 take-cons (suc n) b t h = let z : suc n - 1 ≡ n = omega arith in rw z
 
@@ -117,7 +117,7 @@ module _ (k n : ℕ) (low : 10 ≤ k) (high : k ≤ 13) (pos : 0 < n) where
   not-that j i f e = absurd (f (kind-is j i e .0))
 
   -- a number has another kind
-  no-number : (x : Lexed) (s : List ℕ) → Is (wordOr x s) → (isNumber (parts (take (word s) s)) ≡ false) × Is x
+  no-number : (x : Lexed) (s : List ℕ) → Is (wordOr First x s) → (isNumber (parts (take (word s) s)) ≡ false) × Is x
   unfolding Is wordOr numberOr lexed
   no-number x s = by (isNumber (parts (take (word s) s))) (within (parts (take (word s) s))) (parts (take (word s) s) .unc .here)
     where
@@ -133,7 +133,7 @@ module _ (k n : ℕ) (low : 10 ≤ k) (high : k ≤ 13) (pos : 0 < n) where
   closed-again j why (some i) o′ f e = let q = kind-is j (suc i) e in rw (f i refl (omega (arith, q .1))) e
 
   -- a bare word
-  bare-again : (s : List ℕ) → Is (wordOr (lexed (value 10) (word s)) s) → Is (wordOr (lexed (value 10) (word (take n s))) (take n s))
+  bare-again : (s : List ℕ) → Is (wordOr First (lexed (value 10) (word s)) s) → Is (wordOr First (lexed (value 10) (word (take n s))) (take n s))
   unfolding wordOr numberOr
   bare-again s e =
       let q = no-number (lexed (value 10) (word s)) s e in
@@ -142,7 +142,7 @@ module _ (k n : ℕ) (low : 10 ≤ k) (high : k ≤ 13) (pos : 0 < n) where
       let p : take (word s) (take n s) ≡ take (word s) s = take-take (word s) n s (omega arith) in
       rw (w, p) e
 
-  value-again : (b : ℕ) (t : List ℕ) → Is (lexValue b t) → Is (lexValue b (take (n - 1) t))
+  value-again : (b : ℕ) (t : List ℕ) → Is (lexValue First 10 b t) → Is (lexValue First 10 b (take (n - 1) t))
   unfolding lexValue
   value-again b t =
       along (is 46 b) _ _ _ _ (λ _ e. not-that 8 1 (λ q. omega arith) (no-number (lexed (value 8) 1) (b ∷ t) e .1))
@@ -153,11 +153,11 @@ module _ (k n : ℕ) (low : 10 ≤ k) (high : k ≤ 13) (pos : 0 < n) where
       (λ _. along (isOrdinary b) _ _ _ _ (λ _ e. rw (take-cons n b t pos) at (bare-again (b ∷ t) e)) (λ _ e. e))))))
 
   -- THE VALUE, taken out of the text, is read as before
-  pub alone-again : (s : List ℕ) → lexAsValue s ≡ lexed (value k) n → lexAsValue (take n s) ≡ lexed (value k) n
+  pub alone-again : (s : List ℕ) → lexAsValue First 10 s ≡ lexed (value k) n → lexAsValue First 10 (take n s) ≡ lexed (value k) n
   unfolding lexAsValue Is lexed
   alone-again [] e = let q : nothing atEnd ≡ value k = ap (λ (x : Lexed). x .class) e in never (cc)
-  alone-again (b ∷ t) e = rw (take-cons n b t pos) (by (reserved (b ∷ t)) refl e)
+  alone-again (b ∷ t) e = rw (take-cons n b t pos) (by (reserved First (b ∷ t)) refl e)
     where
-      by : (x : Bool) → reserved (b ∷ t) ≡ x → cond x (lexed (nothing reservedWord) 0) (lexValue b t) ≡ lexed (value k) n → cond (reserved (b ∷ take (n - 1) t)) (lexed (nothing reservedWord) 0) (lexValue b (take (n - 1) t)) ≡ lexed (value k) n
+      by : (x : Bool) → reserved First (b ∷ t) ≡ x → cond x (lexed (nothing reservedWord) 0) (lexValue First 10 b t) ≡ lexed (value k) n → cond (reserved First (b ∷ take (n - 1) t)) (lexed (nothing reservedWord) 0) (lexValue First 10 b (take (n - 1) t)) ≡ lexed (value k) n
       by true q e = let z : nothing reservedWord ≡ value k = ap (λ (x : Lexed). x .class) e in never (cc)
       by false q e = rw (rw (take-cons n b t pos) at (reserved-part (b ∷ t) n q)) (value-again b t e)

@@ -3,8 +3,9 @@ use Prim.Native.Nat.{ℕ}
 use mathlib.Core.Path.{_≡_}
 use mathlib.Core.List.{List}
 use lib.ListN.{length}
+use Rattle.rules.specs.declared.Reading.{Reading}
 use Rattle.reading.specs.Services.{readAnswer}
 
--- Read of the text s, to a lent store and a lent area, is done
-unfoldable pub IsRead : (s store area : List ℕ) → Type 0
-IsRead s store area = readAnswer s (length store) (length area) .number ≡ 0
+-- Read of the text s by the reading g, to a lent store and a lent area, is done
+unfoldable pub IsRead : Reading → (s store area : List ℕ) → Type 0
+IsRead g s store area = readAnswer g s (length store) (length area) .number ≡ 0

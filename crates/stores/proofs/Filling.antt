@@ -10,6 +10,7 @@ use borrow.Author.Tests.{eqb-true}
 use lib.Dec.{eqb}
 use lib.ListN.{length}
 use Rattle.text.proofs.Bools.{and-l, and-r}
+use Rattle.rules.specs.declared.Reading.{Reading}
 use Rattle.kinds.specs.declared.Kind.{Kind}
 use Rattle.entries.specs.declared.Fields.{Fields}
 use Rattle.entries.specs.declared.Entry.{Entry}
@@ -38,68 +39,68 @@ together false rs true is false ps = refl
 together false rs false is true ps = refl
 together false rs false is false ps = refl
 
-module _ (es : List Entry) (ar : List ℕ) (a : ℕ) where
+module _ (r : Reading) (es : List Entry) (ar : List ℕ) (a : ℕ) where
   -- a record is kept, and the clauses hold behind it
-  pub filled-record : (k : Kind) (f : Fields) (next : ℕ) → filledFrom (Record k f next ∷ es) ar a ≡ (kept ar a k f && filledFrom es ar (a + takes k f))
+  pub filled-record : (k : Kind) (f : Fields) (next : ℕ) → filledFrom r (Record k f next ∷ es) ar a ≡ (kept r ar a k f && filledFrom r es ar (a + takes k f))
   unfolding filledFrom eachReadable eachInside laidOut kept ownRule
-  filled-record k f next = together (isReadable ar k f) (eachReadable es ar) (isInside (length ar) k f) (eachInside es (length ar)) (follows a k f) (laidOut es (length ar) (a + takes k f))
+  filled-record k f next = together (isReadable r ar k f) (eachReadable r es ar) (isInside (length ar) k f) (eachInside es (length ar)) (follows a k f) (laidOut es (length ar) (a + takes k f))
 
   -- what cannot be read as a record breaks them
-  pub filled-nothing : filledFrom (Nothing ∷ es) ar a ≡ false
+  pub filled-nothing : filledFrom r (Nothing ∷ es) ar a ≡ false
   unfolding filledFrom eachReadable
   filled-nothing = refl
 
 -- without records the area must end here
-pub filled-none : (ar : List ℕ) (a : ℕ) → filledFrom [] ar a ≡ eqb a (length ar)
+pub filled-none : (r : Reading) (ar : List ℕ) (a : ℕ) → filledFrom r [] ar a ≡ eqb a (length ar)
 unfolding filledFrom eachReadable eachInside laidOut
-filled-none ar a = refl
+filled-none r ar a = refl
 
 -- a record is kept by both its rule and its place
-pub kept-rule : (ar : List ℕ) (a : ℕ) (k : Kind) (f : Fields) → kept ar a k f ≡ true → ownRule ar k f ≡ true
+pub kept-rule : (r : Reading) (ar : List ℕ) (a : ℕ) (k : Kind) (f : Fields) → kept r ar a k f ≡ true → ownRule r ar k f ≡ true
 unfolding kept
-kept-rule ar a k f h = and-r (follows a k f) _ h
+kept-rule r ar a k f h = and-r (follows a k f) _ h
 
-pub kept-place : (ar : List ℕ) (a : ℕ) (k : Kind) (f : Fields) → kept ar a k f ≡ true → isContent (shapeOf k) ≡ true → f .number ≡ a
+pub kept-place : (r : Reading) (ar : List ℕ) (a : ℕ) (k : Kind) (f : Fields) → kept r ar a k f ≡ true → isContent (shapeOf k) ≡ true → f .number ≡ a
 unfolding kept follows
-kept-place ar a k f h e = eqb-true (f .number) a (rw e at (and-l (follows a k f) _ h))
+kept-place r ar a k f h e = eqb-true (f .number) a (rw e at (and-l (follows a k f) _ h))
 
 -- what it takes lies inside
-pub takes-inside : (ar : List ℕ) (a : ℕ) (k : Kind) (f : Fields) → a ≤ length ar → kept ar a k f ≡ true → a + takes k f ≤ length ar
+pub takes-inside : (r : Reading) (ar : List ℕ) (a : ℕ) (k : Kind) (f : Fields) → a ≤ length ar → kept r ar a k f ≡ true → a + takes k f ≤ length ar
 unfolding takes
-takes-inside ar a k f h e = by (isContent (shapeOf k)) refl
+takes-inside r ar a k f h e = by (isContent (shapeOf k)) refl
   where
     by : (t : Bool) → isContent (shapeOf k) ≡ t → a + cond t (contentLength k f) 0 ≤ length ar
-    by true q = omega (arith, kept-place ar a k f e q, own-inside ar k f (kept-rule ar a k f e) q .inside, content-length k f)
+    by true q = omega (arith, kept-place r ar a k f e q, own-inside r ar k f (kept-rule r ar a k f e) q .inside, content-length k f)
     by false q = omega arith
 
 -- By offsets of the store: all of it, its end, an entry that is none, a record that breaks a clause, one that keeps them
 
-pub fill-all : (st ar : List ℕ) → filled (entries st) ar ≡ filledFrom (rest st 0) ar 0
+pub fill-all : (r : Reading) (st ar : List ℕ) → filled r (entries st) ar ≡ filledFrom r (rest st 0) ar 0
 unfolding filled
-fill-all st ar = rw rest-all
+fill-all r st ar = rw rest-all
 
-module _ (st ar : List ℕ) (at a : ℕ) where
-  pub fill-end : length st ≤ at → filledFrom (rest st at) ar a ≡ eqb a (length ar)
-  fill-end h = rw (rest-over st at h) (filled-none ar a)
+module _ (r : Reading) (st ar : List ℕ) (at a : ℕ) where
+  pub fill-end : length st ≤ at → filledFrom r (rest st at) ar a ≡ eqb a (length ar)
+  fill-end h = rw (rest-over st at h) (filled-none r ar a)
 
-  pub fill-none : at < length st → entryAt st at ≡ Nothing → filledFrom (rest st at) ar a ≡ false
-  fill-none h e = rw (rest-none st at h e) (filled-nothing [] ar a)
+  pub fill-none : at < length st → entryAt st at ≡ Nothing → filledFrom r (rest st at) ar a ≡ false
+  fill-none h e = rw (rest-none st at h e) (filled-nothing r [] ar a)
 
   module _ (k : Kind) (f : Fields) (next : ℕ) (h : at < length st) (e : entryAt st at ≡ Record k f next) where
-    pub fill-breaks : kept ar a k f ≡ false → filledFrom (rest st at) ar a ≡ false
-    fill-breaks o = rw (next-at st at k f next h e .here) (filled-record (rest st next) ar a k f (next - at) ∙ rw o)
+    pub fill-breaks : kept r ar a k f ≡ false → filledFrom r (rest st at) ar a ≡ false
+    fill-breaks o = rw (next-at st at k f next h e .here) (filled-record r (rest st next) ar a k f (next - at) ∙ rw o)
 
-    pub fill-keeps : kept ar a k f ≡ true → filledFrom (rest st at) ar a ≡ filledFrom (rest st next) ar (a + takes k f)
-    fill-keeps o = rw (next-at st at k f next h e .here) (filled-record (rest st next) ar a k f (next - at) ∙ rw o)
+    pub fill-keeps : kept r ar a k f ≡ true → filledFrom r (rest st at) ar a ≡ filledFrom r (rest st next) ar (a + takes k f)
+    fill-keeps o = rw (next-at st at k f next h e .here) (filled-record r (rest st next) ar a k f (next - at) ∙ rw o)
 
 -- every record of a sound store keeps its own rule
-owned-filled : (ar : List ℕ) (es : List Entry) (a : ℕ) → filledFrom es ar a ≡ true → Owned ar es
-owned-filled ar [] a h = none
-owned-filled ar (Nothing ∷ es) a h = absurd (true≢false (sym h ∙ filled-nothing es ar a))
-owned-filled ar (Record k f next ∷ es) a h =
-    let both : (kept ar a k f && filledFrom es ar (a + takes k f)) ≡ true = sym (filled-record es ar a k f next) ∙ h in
-    more (kept-rule ar a k f (and-l (kept ar a k f) _ both)) (owned-filled ar es (a + takes k f) (and-r (kept ar a k f) _ both))
+owned-filled : (r : Reading) (ar : List ℕ) (es : List Entry) (a : ℕ) → filledFrom r es ar a ≡ true → Owned r ar es
+owned-filled r ar [] a h = none
+owned-filled r ar (Nothing ∷ es) a h = absurd (true≢false (sym h ∙ filled-nothing r es ar a))
+owned-filled r ar (Record k f next ∷ es) a h =
+    let both : (kept r ar a k f && filledFrom r es ar (a + takes k f)) ≡ true = sym (filled-record r es ar a k f next) ∙ h in
+    more (kept-rule r ar a k f (and-l (kept r ar a k f) _ both)) (owned-filled r ar es (a + takes k f) (and-r (kept r ar a k f) _ both))
 
-pub owned-sound : (st ar : List ℕ) → sound st ar ≡ true → Owned ar (entries st)
+pub owned-sound : (r : Reading) (st ar : List ℕ) → sound r st ar ≡ true → Owned r ar (entries st)
 unfolding sound filled
-owned-sound st ar h = owned-filled ar (entries st) 0 (and-r (nested (entries st)) _ h)
+owned-sound r st ar h = owned-filled r ar (entries st) 0 (and-r (nested r (entries st)) _ h)

@@ -8,6 +8,7 @@ use types.Run.{OneOf}
 use denote.Enum.Declared.{tagOf}
 use native.Mathlib.Omega.{arith}
 use lib.ListN.{length, take, drop}
+use Rattle.rules.specs.declared.Reading.{Reading}
 use Rattle.kinds.specs.declared.Kind.{Kind}
 use Rattle.entries.specs.declared.Fields.{Fields}
 use Rattle.entries.specs.declared.Entry.{Entry}
@@ -54,29 +55,29 @@ module _ (st : List ℕ) (at : ℕ) where
         rw (next-at st at k f next h e .here, less)
 
 -- a content of a filled area lies inside
-part-inside : (es : List Entry) (ar : List ℕ) (i from size : ℕ) → Owned ar es → partOf (nth es i) ≡ Part from size → from + size ≤ length ar
+part-inside : (r : Reading) (es : List Entry) (ar : List ℕ) (i from size : ℕ) → Owned r ar es → partOf (nth es i) ≡ Part from size → from + size ≤ length ar
 unfolding nth partOf
-part-inside [] ar i from size o p =
+part-inside r [] ar i from size o p =
     let z : _≡_ {A = ℕ} 0 1 = cc in
     absurd (omega arith)
-part-inside (Record k f n ∷ es) ar zero from size (more h o) p = by (isContent (shapeOf k)) refl p
+part-inside r (Record k f n ∷ es) ar zero from size (more h o) p = by (isContent (shapeOf k)) refl p
   where
     by : (t : Bool) → isContent (shapeOf k) ≡ t → cond t (Part (f .number) (contentLength k f)) NoContent ≡ Part from size → from + size ≤ length ar
     by true q p =
         let start : f .number ≡ from = cc in
         let long : contentLength k f ≡ size = cc in
-        omega (arith, own-inside ar k f h q .inside, content-length k f)
+        omega (arith, own-inside r ar k f h q .inside, content-length k f)
     by false q p =
         let z : _≡_ {A = ℕ} 0 1 = cc in
         absurd (omega arith)
-part-inside (Record k f n ∷ es) ar (suc i) from size (more h o) p = part-inside es ar i from size o p
+part-inside r (Record k f n ∷ es) ar (suc i) from size (more h o) p = part-inside r es ar i from size o p
 
-pub content-inside : (st ar : List ℕ) (i from size : ℕ) → contentAt st ar i ≡ Part from size → from + size ≤ length ar
+pub content-inside : (r : Reading) (st ar : List ℕ) (i from size : ℕ) → contentAt r st ar i ≡ Part from size → from + size ≤ length ar
 unfolding contentAt
-content-inside st ar i from size p = by (sound st ar) refl p
+content-inside r st ar i from size p = by (sound r st ar) refl p
   where
-    by : (t : Bool) → sound st ar ≡ t → cond t (partOf (nth (entries st) i)) NotSound ≡ Part from size → from + size ≤ length ar
-    by true q p = part-inside (entries st) ar i from size (owned-sound st ar q) p
+    by : (t : Bool) → sound r st ar ≡ t → cond t (partOf (nth (entries st) i)) NotSound ≡ Part from size → from + size ≤ length ar
+    by true q p = part-inside r (entries st) ar i from size (owned-sound r st ar q) p
     by false q p =
         let z : _≡_ {A = ℕ} 0 1 = cc in
         absurd (omega arith)

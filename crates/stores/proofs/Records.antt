@@ -8,6 +8,7 @@ use native.Mathlib.Omega.{arith}
 use borrow.Author.Tests.{leb-true, leb-false}
 use lib.Dec.{leb}
 use lib.ListN.{length}
+use Rattle.rules.specs.declared.Reading.{Reading}
 use Rattle.kinds.specs.declared.Kind.{Kind}
 use Rattle.entries.specs.declared.Fields.{Fields}
 use Rattle.entries.specs.declared.Entry.{Entry}
@@ -72,13 +73,13 @@ starts-of st at k f n es q = by (entryAt st at) (rest-here st at _ es q) refl
         record { entry = e ∙ rw (kind, fields, end); more = rw (← end) then }
 
 -- a record that keeps its own rule is answered
-kept-answered : (ar : List ℕ) (k : Kind) (f : Fields) (next : ℕ) → ownRule ar k f ≡ true → walkedOf (length ar) (Whole k f next) ≡ answered k f next
+kept-answered : (r : Reading) (ar : List ℕ) (k : Kind) (f : Fields) (next : ℕ) → ownRule r ar k f ≡ true → walkedOf (length ar) (Whole k f next) ≡ answered k f next
 unfolding walkedOf
-kept-answered ar k f next o = by (isContent (shapeOf k)) refl
+kept-answered r ar k f next o = by (isContent (shapeOf k)) refl
   where
     by : (t : Bool) → isContent (shapeOf k) ≡ t → cond t (cond (lies (length ar) k f) (answered k f next) NoRecord) (answered k f next) ≡ answered k f next
     by false q = refl
-    by true q = rw (own-lies ar k f o q)
+    by true q = rw (own-lies r ar k f o q)
 
 -- one step of the walk, whether or not there is content
 step : (st ar : List ℕ) (at next : ℕ) (k : Kind) (f : Fields) (ws : List Walked) → walkedAt st ar at ≡ answered k f next → Walks st ar next ws → Walks st ar at (answered k f next ∷ ws)
@@ -89,13 +90,13 @@ step st ar at next k f ws e w = by (isContent (shapeOf k)) e
     by true e = onto e w
     by false e = onto e w
 
-walk-owned : (st ar : List ℕ) (es : List Entry) (at : ℕ) → rest st at ≡ es → Owned ar es → Walks st ar at (answers at es)
+walk-owned : (r : Reading) (st ar : List ℕ) (es : List Entry) (at : ℕ) → rest st at ≡ es → Owned r ar es → Walks st ar at (answers at es)
 unfolding answers
-walk-owned st ar [] at q none = over (rest-empty st at q)
-walk-owned st ar (Whole k f n ∷ es) at q (more h o) =
+walk-owned r st ar [] at q none = over (rest-empty st at q)
+walk-owned r st ar (Whole k f n ∷ es) at q (more h o) =
     let s = starts-of st at k f n es q in
-    let here : walkedAt st ar at ≡ answered k f (at + n) = unfold walkedAt in rw (s .entry) (kept-answered ar k f (at + n) h) in
-    step st ar at (at + n) k f (answers (at + n) es) here (walk-owned st ar es (at + n) (s .more) o)
+    let here : walkedAt st ar at ≡ answered k f (at + n) = unfold walkedAt in rw (s .entry) (kept-answered r ar k f (at + n) h) in
+    step st ar at (at + n) k f (answers (at + n) es) here (walk-owned r st ar es (at + n) (s .more) o)
 
-pub walk-sound : (st ar : List ℕ) → sound st ar ≡ true → Walks st ar 0 (answers 0 (entries st))
-walk-sound st ar e = walk-owned st ar (entries st) 0 (sym (rest-all st)) (owned-sound st ar e)
+pub walk-sound : (r : Reading) (st ar : List ℕ) → sound r st ar ≡ true → Walks st ar 0 (answers 0 (entries st))
+walk-sound r st ar e = walk-owned r st ar (entries st) 0 (sym (rest-all st)) (owned-sound r st ar e)

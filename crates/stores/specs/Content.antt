@@ -1,9 +1,10 @@
--- CONTENT (document 01): store, area and a record number from 0. 12 where the store isn't sound; 14 where there is no
+-- CONTENT (document 01): reading, store, area and a record number from 0. 12 where the store isn't sound; 14 where there is no
 -- such record, or it has no content; else the part of the area that holds it. Assumes nothing.
 use Prim.Native.Nat.{ℕ, zero, suc, _-_}
 use mathlib.Core.Bool.{Bool, true, false, cond}
 use mathlib.Core.List.{List, [], _∷_}
 use lib.ListN.{take, drop}
+use Rattle.rules.specs.declared.Reading.{Reading}
 use Rattle.places.specs.declared.Report.{Report}
 use Rattle.places.specs.Reports.{success, refusedBare}
 use Rattle.entries.specs.declared.Entry.{Entry}
@@ -26,8 +27,8 @@ unfoldable pub partOf : Entry → Content
 partOf Nothing = NoContent
 partOf (Record k f next) = cond (isContent (shapeOf k)) (Part (f .number) (contentLength k f)) NoContent
 
-unfoldable pub contentAt : List ℕ → List ℕ → ℕ → Content
-contentAt st ar i = cond (sound st ar) (partOf (nth (entries st) i)) NotSound
+unfoldable pub contentAt : Reading → List ℕ → List ℕ → ℕ → Content
+contentAt r st ar i = cond (sound r st ar) (partOf (nth (entries st) i)) NotSound
 
 -- the answer number, and the bytes themselves: an empty part on refusal
 unfoldable pub contentReport : Content → Report

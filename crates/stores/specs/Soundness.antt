@@ -1,12 +1,12 @@
--- SOUND (document 01): a store is whole records nested as it says, and its contents keep three clauses. Each could be
--- read as its kind, and numbers keep the limits. Each lies inside the area. The layout: they follow one another in
--- the order of the records, without gaps, and fill the area. Assumes nothing.
+-- SOUND (document 01), by the rules of a reading: a store is whole records nested as it says, and its contents keep three clauses. Each could be read as its kind, and
+-- numbers keep the limits. Each lies inside the area. The layout: they follow one another in the order of the records, without gaps, and fill the area. Assumes nothing.
 use Prim.Native.Nat.{ℕ, _+_}
 use mathlib.Core.Path.{_≡_}
 use mathlib.Core.Bool.{Bool, true, false, cond, _&&_}
 use mathlib.Core.List.{List, [], _∷_}
 use lib.Dec.{eqb}
 use lib.ListN.{length}
+use Rattle.rules.specs.declared.Reading.{Reading}
 use Rattle.kinds.specs.declared.Kind.{Kind}
 use Rattle.kinds.specs.Kinds.{shapeOf, isContent}
 use Rattle.entries.specs.declared.Fields.{Fields}
@@ -17,10 +17,10 @@ use Rattle.nesting.specs.Nesting.{nested}
 use Rattle.contents.specs.Contents.{contentLength, isInside, isReadable, ownRule}
 
 -- each content could be read as its kind, and numbers keep the limits
-unfoldable pub eachReadable : List Entry → List ℕ → Bool
-eachReadable [] ar = true
-eachReadable (Nothing ∷ es) ar = false
-eachReadable (Record k f next ∷ es) ar = isReadable ar k f && eachReadable es ar
+unfoldable pub eachReadable : Reading → List Entry → List ℕ → Bool
+eachReadable r [] ar = true
+eachReadable r (Nothing ∷ es) ar = false
+eachReadable r (Record k f next ∷ es) ar = isReadable r ar k f && eachReadable r es ar
 
 -- each content lies inside an area of so many bytes
 unfoldable pub eachInside : List Entry → ℕ → Bool
@@ -43,20 +43,20 @@ laidOut (Nothing ∷ es) size a = false
 laidOut (Record k f next ∷ es) size a = let more = laidOut es size (a + takes k f) in follows a k f && more
 
 -- the three clauses, the layout from area offset a on
-unfoldable pub filledFrom : List Entry → List ℕ → ℕ → Bool
-filledFrom es ar a = eachReadable es ar && (eachInside es (length ar) && laidOut es (length ar) a)
+unfoldable pub filledFrom : Reading → List Entry → List ℕ → ℕ → Bool
+filledFrom r es ar a = eachReadable r es ar && (eachInside es (length ar) && laidOut es (length ar) a)
 
-unfoldable pub filled : List Entry → List ℕ → Bool
-filled es ar = filledFrom es ar 0
+unfoldable pub filled : Reading → List Entry → List ℕ → Bool
+filled r es ar = filledFrom r es ar 0
 
 -- a record's content starts at area offset a, and it keeps its own rule
-unfoldable pub kept : List ℕ → ℕ → Kind → Fields → Bool
-kept ar a k f = follows a k f && ownRule ar k f
+unfoldable pub kept : Reading → List ℕ → ℕ → Kind → Fields → Bool
+kept r ar a k f = follows a k f && ownRule r ar k f
 
-unfoldable pub sound : List ℕ → List ℕ → Bool
-sound st ar = nested (entries st) && filled (entries st) ar
+unfoldable pub sound : Reading → List ℕ → List ℕ → Bool
+sound r st ar = nested r (entries st) && filled r (entries st) ar
 
 -- every entry is a record that keeps its own rule
-pub data Owned (ar : List ℕ) : List Entry → Type 0 where
-  none : Owned ar []
-  more : {k : Kind} {f : Fields} {next : ℕ} {es : List Entry} → ownRule ar k f ≡ true → Owned ar es → Owned ar (Record k f next ∷ es)
+pub data Owned (r : Reading) (ar : List ℕ) : List Entry → Type 0 where
+  none : Owned r ar []
+  more : {k : Kind} {f : Fields} {next : ℕ} {es : List Entry} → ownRule r ar k f ≡ true → Owned r ar es → Owned r ar (Record k f next ∷ es)

@@ -1,4 +1,4 @@
-// Stores: judging whether one is sound, looking contents up, and walking from record to record.
+// Stores: judging whether one is sound by a reading's rules, looking contents up, and walking from record to record.
 ghost use mathlib.Core.Path.{_≡_};
 ghost use Prim.Native.Nat.{_+_, _<_};
 ghost use Rattle.entries.specs.Walk.{entries};
@@ -9,6 +9,7 @@ use entries::Entry;
 use entries::Fields;
 use kinds::Kind;
 use places::Report;
+use rules::Reading;
 
 // Whether a record's content, if it has one, starts at an offset of the area.
 fn starts_there(from: usize, kind: Kind, fields: Fields) -> bool
@@ -22,13 +23,13 @@ fn starts_there(from: usize, kind: Kind, fields: Fields) -> bool
 
 // Whether a record's content starts where the one before it ends, and it keeps its own rule. In this order: a content
 // that lies over another is not looked at, so that a walk's time stays in proportion to store and area.
-fn is_kept(area: &[u8], from: usize, kind: Kind, fields: Fields) -> bool
-    ensures { λ r. ⌜ r ≡ kept (now (area .entry)) from kind fields ⌝ }
+fn is_kept(reading: Reading, area: &[u8], from: usize, kind: Kind, fields: Fields) -> bool
+    ensures { λ r. ⌜ r ≡ kept reading (now (area .entry)) from kind fields ⌝ }
 {
     if !starts_there(from, kind, fields) {
         return false;
     }
-    contents::keeps_rule(area, kind, fields)
+    contents::keeps_rule(reading, area, kind, fields)
 }
 
 // How much of the area a record's content takes.
@@ -42,8 +43,8 @@ fn taken(kind: Kind, fields: Fields) -> usize
 }
 
 // Whether each content is readable and inside the area, and they fill it in order.
-fn is_filled(store: &[u8], area: &[u8]) -> bool
-    ensures { λ r. ⌜ r ≡ filled (entries (now (store .entry))) (now (area .entry)) ⌝ }
+fn is_filled(reading: Reading, store: &[u8], area: &[u8]) -> bool
+    ensures { λ r. ⌜ r ≡ filled reading (entries (now (store .entry))) (now (area .entry)) ⌝ }
 {
     let mut from = 0;
     let mut at = 0;
@@ -51,7 +52,7 @@ fn is_filled(store: &[u8], area: &[u8]) -> bool
         let Entry::Record { kind, fields, next } = entries::read_record(store, at) else {
             return false;
         };
-        if !is_kept(area, from, kind, fields) {
+        if !is_kept(reading, area, from, kind, fields) {
             return false;
         }
         from += taken(kind, fields);
@@ -61,13 +62,13 @@ fn is_filled(store: &[u8], area: &[u8]) -> bool
 }
 
 // Whether a store is sound, of any bytes.
-pub fn is_sound(store: &[u8], area: &[u8]) -> bool
-    ensures { λ r. ⌜ r ≡ sound (now (store .entry)) (now (area .entry)) ⌝ }
+pub fn is_sound(reading: Reading, store: &[u8], area: &[u8]) -> bool
+    ensures { λ r. ⌜ r ≡ sound reading (now (store .entry)) (now (area .entry)) ⌝ }
 {
-    if !nesting::is_nested(store) {
+    if !nesting::is_nested(reading, store) {
         return false;
     }
-    is_filled(store, area)
+    is_filled(reading, store, area)
 }
 
 // Content's answer: the part of the area that holds it, 12, or 14.
@@ -123,20 +124,20 @@ fn part_at(store: &[u8], number: usize) -> Content
 }
 
 // CONTENT: where the content of a record, by its number from 0, stands.
-pub fn find_content(store: &[u8], area: &[u8], number: usize) -> Content
-    ensures { λ r. ⌜ r ≡ contentAt (now (store .entry)) (now (area .entry)) number ⌝ }
+pub fn find_content(reading: Reading, store: &[u8], area: &[u8], number: usize) -> Content
+    ensures { λ r. ⌜ r ≡ contentAt reading (now (store .entry)) (now (area .entry)) number ⌝ }
 {
-    if !is_sound(store, area) {
+    if !is_sound(reading, store, area) {
         return Content::NotSound;
     }
     part_at(store, number)
 }
 
 // CONTENT: the part of the area that holds it; an empty one on refusal.
-pub fn content_part<'a>(store: &[u8], area: &'a [u8], number: usize) -> &'a [u8]
-    ensures { λ r. ⌜ now r ≡ partBytes (now (area .entry)) (contentAt (now (store .entry)) (now (area .entry)) number) ⌝ }
+pub fn content_part<'a>(reading: Reading, store: &[u8], area: &'a [u8], number: usize) -> &'a [u8]
+    ensures { λ r. ⌜ now r ≡ partBytes (now (area .entry)) (contentAt reading (now (store .entry)) (now (area .entry)) number) ⌝ }
 {
-    let found = find_content(store, area, number);
+    let found = find_content(reading, store, area, number);
     let Content::Part { from, size } = found else {
         return &area[0..0];
     };

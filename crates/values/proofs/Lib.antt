@@ -7,3 +7,4 @@ pub mod Alone
 pub mod Choices
 pub mod First
 pub mod Packs
+pub mod Numerals

@@ -4,6 +4,7 @@ use mathlib.Core.Bool.{Bool, false, _&&_}
 use mathlib.Core.List.{List}
 use lib.Dec.{eqb}
 use lib.ListN.{length}
+use Rattle.rules.specs.declared.Reading.{Reading}
 use Rattle.values.specs.Values.{Class, block, loop, save, tag, value, overLimit, nothing, lexAsValue}
 
 -- a class is a value of kind k
@@ -16,6 +17,6 @@ isKind k tag = false
 isKind k overLimit = false
 isKind k (nothing w) = false
 
--- w alone is a value of kind k, and nothing stands behind it
-unfoldable pub isAlone : ℕ → List ℕ → Bool
-isAlone k w = isKind k (lexAsValue w .class) && eqb (lexAsValue w .size) (length w)
+-- w alone, behind the byte p, is a value of kind k, and nothing stands behind it
+unfoldable pub isAlone : Reading → ℕ → ℕ → List ℕ → Bool
+isAlone r p k w = isKind k (lexAsValue r p w .class) && eqb (lexAsValue r p w .size) (length w)

@@ -4,6 +4,8 @@ use mathlib.Core.Bool.{Bool, cond, _||_}
 use mathlib.Core.List.{List}
 use lib.Dec.{eqb}
 use lib.ListN.{take, drop}
+use Rattle.rules.specs.declared.Reading.{Reading}
+use Rattle.columns.specs.Before.{byteBefore}
 use Rattle.numbers.specs.Parts.{parts}
 use Rattle.numbers.specs.Meaning.{meaning}
 use Rattle.values.specs.declared.Value.{Value as Answer}
@@ -11,8 +13,8 @@ use Rattle.values.specs.declared.Value.the-variants.{Token, Number, Over
 use Rattle.values.specs.declared.Found.{Found}
 use Rattle.values.specs.declared.Found.the-variants.{Value, Over, Missing}
 use Rattle.values.specs.declared.Why.{Why}
-use Rattle.values.specs.declared.Why.the-variants.{AtEnd, Reserved, NoStart, OpenQuote, OpenField}
-use Rattle.values.specs.Values.{Reason, atEnd, reservedWord, noStart, openQuote, openField, Class, block, loop, save, tag, value, overLimit, nothing, Lexed, lexAsValue}
+use Rattle.values.specs.declared.Why.the-variants.{AtEnd, Reserved, NoStart, OpenQuote, OpenField, Joined}
+use Rattle.values.specs.Values.{Reason, atEnd, reservedWord, noStart, openQuote, openField, joined, Class, block, loop, save, tag, value, overLimit, nothing, Lexed, lexAsValue}
 
 unfoldable pub whyOf : Reason → Why
 whyOf atEnd = AtEnd
@@ -20,6 +22,7 @@ whyOf reservedWord = Reserved
 whyOf noStart = NoStart
 whyOf openQuote = OpenQuote
 whyOf openField = OpenField
+whyOf joined = Joined
 
 -- why no value stands where a token of this class does; of a value nobody asks
 unfoldable pub whyNot : Class → Why
@@ -32,13 +35,14 @@ whyNot (value k) = AtEnd
 whyNot overLimit = AtEnd
 
 -- the reason's number (document 02, One): the text ends; a reserved word; a byte that starts no value; a quote, a text field that is not
--- closed
+-- closed; that no space parts it from the token before is a refusal of its own, and has that one's number (Three)
 abbrev pub numberOfWhy : Why → ℕ
 numberOfWhy AtEnd = 1
 numberOfWhy Reserved = 2
 numberOfWhy NoStart = 3
 numberOfWhy OpenQuote = 4
 numberOfWhy OpenField = 5
+numberOfWhy Joined = 15
 
 -- a token where a value is wanted
 unfoldable pub wanted : Class → ℕ → Found
@@ -56,10 +60,10 @@ meant s (Value k n) = cond (eqb k 14 || eqb k 15) (Number (meaning (parts (take 
 meant s Over = OverAnswer
 meant s (Missing w) = MissingAnswer w
 
--- the value at the start of s
-unfoldable pub valueAnswer : List ℕ → Answer
-valueAnswer s = meant s (wanted (lexAsValue s .class) (lexAsValue s .size))
+-- the value at the start of s, behind the byte p
+unfoldable pub valueAnswer : Reading → ℕ → List ℕ → Answer
+valueAnswer r p s = meant s (wanted (lexAsValue r p s .class) (lexAsValue r p s .size))
 
 -- the value at offset o
-unfoldable pub valueAt : List ℕ → ℕ → Answer
-valueAt s o = valueAnswer (drop o s)
+unfoldable pub valueAt : Reading → List ℕ → ℕ → Answer
+valueAt r s o = valueAnswer r (byteBefore s o) (drop o s)

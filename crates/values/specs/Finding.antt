@@ -5,18 +5,20 @@ use mathlib.Core.Bool.{Bool, true, false, cond, _||_}
 use mathlib.Core.List.{List}
 use lib.Dec.{leb, eqb}
 use lib.ListN.{drop}
+use Rattle.rules.specs.declared.Reading.{Reading}
+use Rattle.columns.specs.Before.{byteBefore}
 use Rattle.text.specs.Bytes.{is, isDigit, plusSign, minusSign}
 use Rattle.numbers.specs.declared.Decimal.{Decimal}
 use Rattle.values.specs.declared.Why.{Why}
-use Rattle.values.specs.declared.Why.the-variants.{AtEnd, Reserved, NoStart, OpenQuote, OpenField}
+use Rattle.values.specs.declared.Why.the-variants.{AtEnd, Reserved, NoStart, OpenQuote, OpenField, Joined}
 use Rattle.values.specs.declared.Found.{Found}
 use Rattle.values.specs.declared.Found.the-variants.{Value, Over, Missing}
 use Rattle.values.specs.Values.{Lexed, lexAsValue}
 use Rattle.values.specs.Answers.{numberOfWhy, wanted}
 
 -- what is found at offset o
-unfoldable pub foundAt : List ℕ → ℕ → Found
-foundAt s o = wanted (lexAsValue (drop o s) .class) (lexAsValue (drop o s) .size)
+unfoldable pub foundAt : Reading → List ℕ → ℕ → Found
+foundAt r s o = wanted (lexAsValue r (byteBefore s o) (drop o s) .class) (lexAsValue r (byteBefore s o) (drop o s) .size)
 
 -- over a limit; why none, where none is
 abbrev pub isOverFound : Found → Bool
@@ -48,12 +50,12 @@ packedOf (Value k n) = pack k n
 packedOf Over = 6
 packedOf (Missing w) = numberOfWhy w
 
-unfoldable pub packedAt : List ℕ → ℕ → ℕ
-packedAt s o = packedOf (foundAt s o)
+unfoldable pub packedAt : Reading → List ℕ → ℕ → ℕ
+packedAt r s o = packedOf (foundAt r s o)
 
 -- and back
 unfoldable pub whyOfNumber : ℕ → Why
-whyOfNumber t = cond (eqb t 1) AtEnd (cond (eqb t 2) Reserved (cond (eqb t 3) NoStart (cond (eqb t 4) OpenQuote OpenField)))
+whyOfNumber t = cond (eqb t 1) AtEnd (cond (eqb t 2) Reserved (cond (eqb t 3) NoStart (cond (eqb t 4) OpenQuote (cond (eqb t 15) Joined OpenField))))
 
 unfoldable pub unpackedOf : ℕ → Found
 unpackedOf t = cond (leb 32 t) (Value (t % 32) (t / 32)) (cond (eqb t 6) Over (Missing (whyOfNumber t)))

@@ -3,23 +3,28 @@ ghost use mathlib.Core.Path.{_≡_};
 ghost use mathlib.Core.Bool.{true, false};
 ghost use Prim.Native.Nat.{_-_, _≤_, _<_, _^_};
 ghost use lib.ListN.{length, getD};
+ghost use Rattle.rules.specs.declared.Reading.the-variants.{Strict};
+ghost use Rattle.text.specs.Bytes.{isEol};
 ghost use Rattle.words.specs.Words.{wordEnd};
 ghost use Rattle.values.specs.Answers.{valueAt, numberOfWhy};
 ghost use Rattle.values.specs.Finding.{startsDecimal, kindOfNumber, pack, packedOf, packedAt, whyOfNumber, unpackedOf};
-ghost use Rattle.values.specs.Pieces.{numberAt, wordAt, pointAt, quoteAt, fieldAt};
+ghost use Rattle.values.specs.Values.{quoteKind};
+ghost use Rattle.values.specs.Pieces.{numberAt, wordAt, firstPoint, aloneAt, pointAt, unknownAt, quoteAt, fieldAt, semicolonAt, Start};
 ghost use Rattle.values.specs.declared.Found.the-variants.{Value as FoundValue};
 use kinds::Kind;
 use numbers::Decimal;
 use numbers::Number;
 use quotes::Closing;
+use rules::Reading;
 
-// Why no value stands here.
+// Why no value stands here; in the strict reading also since no space parts it from the token before.
 pub enum Why {
     AtEnd,
     Reserved,
     NoStart,
     OpenQuote,
     OpenField,
+    Joined,
 }
 
 // What stands where a value may: one, by its kind and length; a number over a digit limit; none.
@@ -29,7 +34,7 @@ pub enum Found {
     Missing { why: Why },
 }
 
-// The same, and what a number means: a token of kinds 8 to 13, a number, a number over a digit limit, or no value.
+// The same, and what a number means: a token of kinds 8 to 13 or 21, a number, a number over a digit limit, or no value.
 pub enum Value {
     Token { kind: u8, size: usize },
     Number { decimal: Decimal, size: usize },
@@ -54,6 +59,8 @@ const OPEN_FIELD: usize = 5;
 
 const OVER: usize = 6;
 
+const JOINED: usize = 15;
+
 impl Why {
     // Document 02's number.
     pub fn number(self) -> usize
@@ -65,6 +72,7 @@ impl Why {
             Why::NoStart => NO_START,
             Why::OpenQuote => OPEN_QUOTE,
             Why::OpenField => OPEN_FIELD,
+            Why::Joined => JOINED,
         }
     }
 }
@@ -88,11 +96,11 @@ fn number_kind(decimal: Decimal) -> u8
 }
 
 // The bytes between two offsets as a number, or else a value of a kind and length.
-fn number_or(s: &[u8], at: usize, end: usize, kind: u8, size: usize) -> usize
+fn number_or(reading: Reading, s: &[u8], at: usize, end: usize, kind: u8, size: usize) -> usize
     requires { ⌜ (at ≤ end) × (end ≤ length (now s)) × (length (now s) < 2 ^ 32) × (size < 2 ^ 32) ⌝ }
-    ensures { λ r. ⌜ r ≡ packedOf (numberAt (FoundValue kind size) (now (s .entry)) at end) ⌝ }
+    ensures { λ r. ⌜ r ≡ packedOf (numberAt reading (FoundValue kind size) (now (s .entry)) at end) ⌝ }
 {
-    let number = numbers::parse_numeric(&s[at..end]);
+    let number = numbers::parse_numeric(reading, &s[at..end]);
     match number {
         Number::Is(decimal) => packed(number_kind(decimal), end - at),
         Number::Over => OVER,
@@ -101,12 +109,12 @@ fn number_or(s: &[u8], at: usize, end: usize, kind: u8, size: usize) -> usize
 }
 
 // A word: a number or bare text.
-fn pack_word(s: &[u8], at: usize) -> usize
+fn pack_word(reading: Reading, s: &[u8], at: usize) -> usize
     requires { ⌜ (length (now s) < 2 ^ 32) × (at < length (now s)) ⌝ }
-    ensures { λ r. ⌜ r ≡ packedOf (wordAt (now (s .entry)) at) ⌝ }
+    ensures { λ r. ⌜ r ≡ packedOf (wordAt reading (now (s .entry)) at) ⌝ }
 {
     let end = words::parse_identifier(s, at);
-    number_or(s, at, end, Kind::BARE, end - at)
+    number_or(reading, s, at, end, Kind::BARE, end - at)
 }
 
 // A word that is no number.
@@ -118,10 +126,10 @@ fn pack_bare(s: &[u8], at: usize) -> usize
     packed(Kind::BARE, end - at)
 }
 
-// `.`: a number or inapplicable. Its word is scanned only where a digit follows, so that a run of dots takes one step each.
-fn pack_point(s: &[u8], at: usize) -> usize
+// `.` in the first reading: a number or inapplicable. Its word is scanned only where a digit follows, so that a run of dots takes one step each.
+fn pack_first_point(s: &[u8], at: usize) -> usize
     requires { ⌜ (length (now s) < 2 ^ 32) × (at < length (now s)) ⌝ }
-    ensures { λ r. ⌜ r ≡ packedOf (pointAt (now (s .entry)) at) ⌝ }
+    ensures { λ r. ⌜ r ≡ packedOf (firstPoint (now (s .entry)) at) ⌝ }
 {
     let next = at + 1;
     if s.len() <= next {
@@ -131,18 +139,62 @@ fn pack_point(s: &[u8], at: usize) -> usize
         return packed(Kind::INAPPLICABLE, 1);
     }
     let end = words::parse_identifier(s, at);
-    number_or(s, at, end, Kind::INAPPLICABLE, 1)
+    number_or(Reading::First, s, at, end, Kind::INAPPLICABLE, 1)
+}
+
+// `.` or `?` in the strict reading: of a kind where it is the whole word.
+fn pack_alone(s: &[u8], at: usize, kind: u8) -> usize
+    requires { ⌜ (length (now s) < 2 ^ 32) × (at < length (now s)) ⌝ }
+    ensures { λ r. ⌜ r ≡ packedOf (aloneAt kind (now (s .entry)) at) ⌝ }
+{
+    let end = words::parse_identifier(s, at);
+    if end - at == 1 {
+        return packed(kind, 1);
+    }
+    number_or(Reading::Strict, s, at, end, Kind::BARE, end - at)
+}
+
+// `.`, by the reading.
+fn pack_point(reading: Reading, s: &[u8], at: usize) -> usize
+    requires { ⌜ (length (now s) < 2 ^ 32) × (at < length (now s)) ⌝ }
+    ensures { λ r. ⌜ r ≡ packedOf (pointAt reading (now (s .entry)) at) ⌝ }
+{
+    match reading {
+        Reading::First => pack_first_point(s, at),
+        Reading::Strict => pack_alone(s, at, Kind::INAPPLICABLE),
+    }
+}
+
+// `?`, by the reading.
+fn pack_unknown(reading: Reading, s: &[u8], at: usize) -> usize
+    requires { ⌜ (length (now s) < 2 ^ 32) × (at < length (now s)) ⌝ }
+    ensures { λ r. ⌜ r ≡ packedOf (unknownAt reading (now (s .entry)) at) ⌝ }
+{
+    match reading {
+        Reading::First => packed(Kind::UNKNOWN, 1),
+        Reading::Strict => pack_alone(s, at, Kind::UNKNOWN),
+    }
+}
+
+// The kind of a quoted value: that of its mark, or in the strict reading one for both.
+fn quote_kind(reading: Reading, kind: u8) -> u8
+    ensures { λ r. ⌜ r ≡ quoteKind reading kind ⌝ }
+{
+    match reading {
+        Reading::First => kind,
+        Reading::Strict => Kind::QUOTED,
+    }
 }
 
 // A quoted value, from its opening mark on.
-fn pack_quote(s: &[u8], at: usize, mark: u8, kind: u8) -> usize
-    requires { ⌜ (length (now s) < 2 ^ 32) × (at < length (now s)) ⌝ }
-    ensures { λ r. ⌜ r ≡ packedOf (quoteAt mark kind (now (s .entry)) at) ⌝ }
+fn pack_quote(reading: Reading, s: &[u8], at: usize, mark: u8, kind: u8) -> usize
+    requires { ⌜ (length (now s) < 2 ^ 32) × (at < length (now s)) × (isEol mark ≡ false) ⌝ }
+    ensures { λ r. ⌜ r ≡ packedOf (quoteAt reading mark kind (now (s .entry)) at) ⌝ }
 {
-    let Closing::Behind(end) = quotes::parse_enclosed(s, at + 1, mark) else {
+    let Closing::Behind(end) = quotes::parse_quoted(reading, s, at + 1, mark) else {
         return OPEN_QUOTE;
     };
-    packed(kind, end - at)
+    packed(quote_kind(reading, kind), end - at)
 }
 
 // A text field, from its opening `;` on.
@@ -154,6 +206,28 @@ fn pack_field(s: &[u8], at: usize) -> usize
         return OPEN_FIELD;
     };
     packed(Kind::MULTILINE, end - at)
+}
+
+// `;` in the strict reading: in column 1 a text field, elsewhere bare text.
+fn pack_strict_semicolon(s: &[u8], at: usize) -> usize
+    requires { ⌜ (length (now s) < 2 ^ 32) × (at < length (now s)) ⌝ }
+    ensures { λ r. ⌜ r ≡ packedOf (semicolonAt Strict (now (s .entry)) at) ⌝ }
+{
+    if text::is_eol(columns::byte_before(s, at)) {
+        return pack_field(s, at);
+    }
+    pack_bare(s, at)
+}
+
+// `;`, by the reading.
+fn pack_semicolon(reading: Reading, s: &[u8], at: usize) -> usize
+    requires { ⌜ (length (now s) < 2 ^ 32) × (at < length (now s)) ⌝ }
+    ensures { λ r. ⌜ r ≡ packedOf (semicolonAt reading (now (s .entry)) at) ⌝ }
+{
+    match reading {
+        Reading::First => pack_field(s, at),
+        Reading::Strict => pack_strict_semicolon(s, at),
+    }
 }
 
 // Whether a number, or a bare value, starts with a byte: a digit or a sign.
@@ -170,13 +244,13 @@ fn starts_decimal(b: u8) -> bool
 }
 
 // What stands where a digit or a sign does. Most numbers are plain ones, and their last byte tells the kind.
-fn pack_decimal(s: &[u8], at: usize) -> usize
-    requires { ⌜ (length (now s) < 2 ^ 32) × (at < length (now s)) × (startsDecimal (getD (now s) at 0) ≡ true) ⌝ }
-    ensures { λ r. ⌜ r ≡ packedAt (now (s .entry)) at ⌝ }
+fn pack_decimal(reading: Reading, s: &[u8], at: usize) -> usize
+    requires { ⌜ Start reading (now s) at × (startsDecimal (getD (now s) at 0) ≡ true) ⌝ }
+    ensures { λ r. ⌜ r ≡ packedAt reading (now (s .entry)) at ⌝ }
 {
-    let end = decimals::decimal_end(s, at);
+    let end = decimals::decimal_end(reading, s, at);
     if end <= at {
-        return pack_word(s, at);
+        return pack_word(reading, s, at);
     }
     if s[end - 1] == b')' {
         return packed(Kind::UNCERTAIN, end - at);
@@ -185,26 +259,26 @@ fn pack_decimal(s: &[u8], at: usize) -> usize
 }
 
 // What stands where another byte does: a mark, a letter that may start a reserved word, or another byte.
-fn pack_marked(s: &[u8], at: usize, b: u8) -> usize
-    requires { ⌜ (length (now s) < 2 ^ 32) × (at < length (now s)) × (b ≡ getD (now s) at 0) × (startsDecimal b ≡ false) ⌝ }
-    ensures { λ r. ⌜ r ≡ packedAt (now (s .entry)) at ⌝ }
+fn pack_marked(reading: Reading, s: &[u8], at: usize, b: u8) -> usize
+    requires { ⌜ Start reading (now s) at × (b ≡ getD (now s) at 0) × (startsDecimal b ≡ false) ⌝ }
+    ensures { λ r. ⌜ r ≡ packedAt reading (now (s .entry)) at ⌝ }
 {
     if b == b'?' {
-        return packed(Kind::UNKNOWN, 1);
+        return pack_unknown(reading, s, at);
     }
     if b == b'\'' {
-        return pack_quote(s, at, b'\'', Kind::SINGLE_QUOTED);
+        return pack_quote(reading, s, at, b'\'', Kind::SINGLE_QUOTED);
     }
     if b == b'"' {
-        return pack_quote(s, at, b'"', Kind::DOUBLE_QUOTED);
+        return pack_quote(reading, s, at, b'"', Kind::DOUBLE_QUOTED);
     }
     if b == b';' {
-        return pack_field(s, at);
+        return pack_semicolon(reading, s, at);
     }
     if b == b'.' {
-        return pack_point(s, at);
+        return pack_point(reading, s, at);
     }
-    if keywords::is_reserved(s, at) {
+    if keywords::is_reserved(reading, s, at) {
         return RESERVED;
     }
     if !words::is_ordinary(b) {
@@ -215,21 +289,24 @@ fn pack_marked(s: &[u8], at: usize, b: u8) -> usize
 
 // What stands at an offset where a value may, behind space and comments, packed for `Found::of`. The first byte tells
 // most values, without making what they mean. Lengths are stored in four bytes.
-pub fn pack_value(s: &[u8], at: usize) -> usize
+pub fn pack_value(reading: Reading, s: &[u8], at: usize) -> usize
     requires { ⌜ length (now s) < 2 ^ 32 ⌝ }
-    ensures { λ r. ⌜ r ≡ packedAt (now (s .entry)) at ⌝ }
+    ensures { λ r. ⌜ r ≡ packedAt reading (now (s .entry)) at ⌝ }
 {
     if s.len() <= at {
         return AT_END;
+    }
+    if !columns::is_parted(reading, s, at) {
+        return JOINED;
     }
     let b = s[at];
     if keywords::is_free_letter(b) {
         return pack_bare(s, at);
     }
     if starts_decimal(b) {
-        return pack_decimal(s, at);
+        return pack_decimal(reading, s, at);
     }
-    pack_marked(s, at, b)
+    pack_marked(reading, s, at, b)
 }
 
 // Why no value stands, by its number.
@@ -247,6 +324,9 @@ fn why_of(token: usize) -> Why
     }
     if token == OPEN_QUOTE {
         return Why::OpenQuote;
+    }
+    if token == JOINED {
+        return Why::Joined;
     }
     Why::OpenField
 }
@@ -271,13 +351,16 @@ impl Found {
 }
 
 // What stands there, and what a number means.
-pub fn parse_value(s: &[u8], at: usize) -> Value
+pub fn parse_value(reading: Reading, s: &[u8], at: usize) -> Value
     requires { ⌜ length (now s) < 2 ^ 32 ⌝ }
-    ensures { λ r. ⌜ r ≡ valueAt (now (s .entry)) at ⌝ }
+    ensures { λ r. ⌜ r ≡ valueAt reading (now (s .entry)) at ⌝ }
 {
-    let found = Found::of(pack_value(s, at));
+    let found = Found::of(pack_value(reading, s, at));
     if let Found::Value { kind, size } = found {
         if kind < Kind::NUMBER {
+            return Value::Token { kind, size };
+        }
+        if kind == Kind::QUOTED {
             return Value::Token { kind, size };
         }
         let end = at + size;

@@ -5,8 +5,11 @@ use mathlib.Core.Path.{_≡_}
 use mathlib.Core.Bool.{Bool, true, false}
 use mathlib.Core.List.{List, [], _∷_}
 use lib.ListN.{length, drop}
+use Rattle.rules.specs.declared.Reading.{Reading}
 use Rattle.gaps.specs.Gaps.{gap, gapEnd}
 use Rattle.places.specs.Places.{placeAt}
+use Rattle.kinds.specs.declared.Shape.the-variants.{Content}
+use Rattle.kinds.specs.Kinds.{kindOf, shapeOf}
 use Rattle.records.specs.Put.{put}
 use Rattle.values.specs.declared.Found.the-variants.{Value}
 use Rattle.values.specs.Finding.{foundAt}
@@ -43,83 +46,83 @@ pub record Onward (full : Bool) (s : List ℕ) (rs : List Rec) (d : Desk) (left 
   pub store : put (e .cursor .at) (storeOf full s (e .cursor .area) left) (e .store) ≡ put (d .cursor .at) (storeOf full s (d .cursor .area) rs) (d .store)
   pub area : put (e .cursor .area) (areaIn full s left) (e .area) ≡ put (d .cursor .area) (areaIn full s rs) (d .area)
 
--- a value that is no number stands at the cursor, and there is room for it
+-- a value that is no number, a mark or text, stands at the cursor, and there is room for it
 pub record TokenAhead (full : Bool) (s : List ℕ) (k n : ℕ) (d : Desk) : Type 0 where
   pub going : Going s (d .cursor)
   pub token : IsToken s k (d .cursor .place .offset) n
   pub least : 8 ≤ k
-  pub most : k ≤ 13
+  pub text : 10 ≤ k → shapeOf (kindOf k) ≡ Content
   pub room : Room full (recAt k (d .cursor .place .offset) n ∷ []) d
 
 -- any value
-pub record ValueAhead (full : Bool) (s : List ℕ) (k n : ℕ) (d : Desk) : Type 0 where
+pub record ValueAhead (r : Reading) (full : Bool) (s : List ℕ) (k n : ℕ) (d : Desk) : Type 0 where
   pub going : Going s (d .cursor)
-  pub here : ValueHere s (d .cursor .place .offset) k n
+  pub here : ValueHere r s (d .cursor .place .offset) k n
   pub room : Room full (recAt k (d .cursor .place .offset) n ∷ []) d
 
 -- the names, the values from an offset on, and what stands behind them
-abbrev pub namesFrom : List ℕ → ℕ → List Rec
-namesFrom s o = nameRecs (tokensAt inBlock s o)
+abbrev pub namesFrom : Reading → List ℕ → ℕ → List Rec
+namesFrom r s o = nameRecs r (tokensAt r inBlock s o)
 
-abbrev pub behindNames : List ℕ → ℕ → List Tok
-behindNames s o = afterNames (tokensAt inBlock s o)
+abbrev pub behindNames : Reading → List ℕ → ℕ → List Tok
+behindNames r s o = afterNames r (tokensAt r inBlock s o)
 
-abbrev pub valuesFrom : List ℕ → ℕ → List Rec
-valuesFrom s o = valueRecs (tokensAt inBlock s o)
+abbrev pub valuesFrom : Reading → List ℕ → ℕ → List Rec
+valuesFrom r s o = valueRecs (tokensAt r inBlock s o)
 
-abbrev pub behindValues : List ℕ → ℕ → List Tok
-behindValues s o = afterValues (tokensAt inBlock s o)
+abbrev pub behindValues : Reading → List ℕ → ℕ → List Tok
+behindValues r s o = afterValues (tokensAt r inBlock s o)
 
 -- there is room for the names, for the values from the cursor on
-pub record NamesAhead (full : Bool) (s : List ℕ) (d : Desk) : Type 0 where
+pub record NamesAhead (r : Reading) (full : Bool) (s : List ℕ) (d : Desk) : Type 0 where
   pub going : Going s (d .cursor)
-  pub room : Room full (namesFrom s (d .cursor .place .offset)) d
+  pub room : Room full (namesFrom r s (d .cursor .place .offset)) d
 
-pub record ValuesAhead (full : Bool) (s : List ℕ) (d : Desk) : Type 0 where
+pub record ValuesAhead (r : Reading) (full : Bool) (s : List ℕ) (d : Desk) : Type 0 where
   pub going : Going s (d .cursor)
-  pub room : Room full (valuesFrom s (d .cursor .place .offset)) d
+  pub room : Room full (valuesFrom r s (d .cursor .place .offset)) d
 
 -- they are written, and the cursor stands behind them and the space there
-abbrev pub WroteNames : Bool → List ℕ → Desk → Desk → Type 0
-WroteNames full s d e =
-    Wrote full s (namesFrom s (d .cursor .place .offset)) (headAt (behindNames s (d .cursor .place .offset))) d e
+abbrev pub WroteNames : Reading → Bool → List ℕ → Desk → Desk → Type 0
+WroteNames r full s d e =
+    Wrote full s (namesFrom r s (d .cursor .place .offset)) (headAt (behindNames r s (d .cursor .place .offset))) d e
 
-abbrev pub WroteValues : Bool → List ℕ → Desk → Desk → Type 0
-WroteValues full s d e =
-    Wrote full s (valuesFrom s (d .cursor .place .offset)) (headAt (behindValues s (d .cursor .place .offset))) d e
+abbrev pub WroteValues : Reading → Bool → List ℕ → Desk → Desk → Type 0
+WroteValues r full s d e =
+    Wrote full s (valuesFrom r s (d .cursor .place .offset)) (headAt (behindValues r s (d .cursor .place .offset))) d e
 
 -- an item that is read: its records, and the tokens behind it
 unfoldable pub itemRecs : Item → List Rec
 itemRecs (taken b rs rest) = rs
 itemRecs (failed n o d rest) = []
 itemRecs (absent rest) = []
-itemRecs (broken n o) = []
+itemRecs (broken n o d) = []
 
 unfoldable pub itemRest : Item → List Tok
 itemRest (taken b rs rest) = rest
 itemRest (failed n o d rest) = rest
 itemRest (absent rest) = rest
-itemRest (broken n o) = []
+itemRest (broken n o d) = []
 
 unfoldable pub isTaken : Item → Bool
 isTaken (taken b rs rest) = true
 isTaken (failed n o d rest) = false
 isTaken (absent rest) = false
-isTaken (broken n o) = false
+isTaken (broken n o d) = false
 
 -- the item at an offset
-abbrev pub itemOf : List ℕ → ℕ → Item
-itemOf s o = item (tokensAt inBlock s o)
+abbrev pub itemOf : Reading → List ℕ → ℕ → Item
+itemOf r s o = item r (tokensAt r inBlock s o)
 
 -- an item that is read stands at the cursor, where no space does, no value stands behind it, and there is room for it
-pub record ItemHere (full : Bool) (s : List ℕ) (d : Desk) : Type 0 where
+pub record ItemHere (r : Reading) (full : Bool) (s : List ℕ) (d : Desk) : Type 0 where
   pub going : Going s (d .cursor)
   pub bare : gap (drop (d .cursor .place .offset) s) ≡ 0
-  pub read : isTaken (itemOf s (d .cursor .place .offset)) ≡ true
-  pub alone : (k n : ℕ) → foundAt s (headAt (itemRest (itemOf s (d .cursor .place .offset)))) ≡ Value k n → ⊥
-  pub room : Room full (itemRecs (itemOf s (d .cursor .place .offset))) d
+  pub read : isTaken (itemOf r s (d .cursor .place .offset)) ≡ true
+  pub alone : (k n : ℕ) → foundAt r s (headAt (itemRest (itemOf r s (d .cursor .place .offset)))) ≡ Value k n → ⊥
+  pub room : Room full (itemRecs (itemOf r s (d .cursor .place .offset))) d
 
 -- it is written, and the cursor stands behind it and the space there
-abbrev pub WroteItem : Bool → List ℕ → Desk → Desk → Type 0
-WroteItem full s d e =
-    Wrote full s (itemRecs (itemOf s (d .cursor .place .offset))) (headAt (itemRest (itemOf s (d .cursor .place .offset)))) d e
+abbrev pub WroteItem : Reading → Bool → List ℕ → Desk → Desk → Type 0
+WroteItem r full s d e =
+    Wrote full s (itemRecs (itemOf r s (d .cursor .place .offset))) (headAt (itemRest (itemOf r s (d .cursor .place .offset)))) d e

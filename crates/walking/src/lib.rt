@@ -1,18 +1,19 @@
 // Writing from token to token: over space and comments, values and names, one item.
 ghost use mathlib.Core.Path.{_≡_};
-ghost use mathlib.Core.Bool.{true};
+ghost use mathlib.Core.Bool.{true, _&&_};
+ghost use lib.Dec.{leb};
 ghost use Prim.Native.Nat.{_+_, _≤_, _<_};
 ghost use lib.ListN.{length};
 ghost use Rattle.places.specs.Places.{IsPlace, placeAt};
 ghost use Rattle.gaps.specs.Gaps.{gapEnd};
-ghost use Rattle.keywords.specs.Keywords.{startsAt, keyLoop};
-ghost use Rattle.grammar.specs.Tokens.{tagAt};
+ghost use Rattle.grammar.specs.Tokens.{tagAt, loopAt};
 ghost use Rattle.putting.specs.Written.{placed};
 ghost use Rattle.putting.specs.Desk.{desk, WroteToken};
 ghost use Rattle.walking.specs.Walk.{behindGap, TokenAhead, ValueAhead, namesFrom, NamesAhead, ValuesAhead, WroteNames, WroteValues, ItemHere, WroteItem};
 use kinds::Kind;
 use places::Place;
 use putting::Cursor;
+use rules::Reading;
 use values::Found;
 
 // The place behind space and comments: one made of three numbers and lent, which the step moves on.
@@ -81,8 +82,19 @@ fn write_token(
     putting::write_text(s, full, store, area, c, kind, size)
 }
 
+// Whether a kind of value is a number's: kind 21, of the strict reading, comes behind them.
+fn is_number(kind: u8) -> bool
+    ensures { λ r. ⌜ r ≡ (leb 14 kind && leb kind 15) ⌝ }
+{
+    if kind < Kind::NUMBER {
+        return false;
+    }
+    kind <= Kind::UNCERTAIN
+}
+
 // A value that is found.
 fn write_found(
+    reading: Reading,
     s: &[u8],
     full: bool,
     store: &mut [u8],
@@ -91,20 +103,27 @@ fn write_found(
     kind: u8,
     size: usize,
 ) -> Cursor
-    requires { ⌜ ValueAhead full (now s) kind size (desk c (now store) (now area)) ⌝ }
+    requires { ⌜ ValueAhead reading full (now s) kind size (desk c (now store) (now area)) ⌝ }
     ensures { λ r. ⌜ WroteToken full (now (s .entry)) kind size (desk c (now (store .entry)) (now (area .entry)))
         (desk r (now (store .exit)) (now (area .exit))) ⌝ }
 {
-    if kind < Kind::NUMBER {
-        return write_token(s, full, store, area, c, kind, size);
+    if is_number(kind) {
+        return putting::write_number(s, full, store, c, kind, size);
     }
-    putting::write_number(s, full, store, c, kind, size)
+    write_token(s, full, store, area, c, kind, size)
 }
 
 // Values, until one fails: those of a loop, or of a tag, which in a text that is read has one.
-fn write_values(s: &[u8], full: bool, store: &mut [u8], area: &mut [u8], c: Cursor) -> Cursor
-    requires { ⌜ ValuesAhead full (now s) (desk c (now store) (now area)) ⌝ }
-    ensures { λ r. ⌜ WroteValues full (now (s .entry)) (desk c (now (store .entry)) (now (area .entry)))
+fn write_values(
+    reading: Reading,
+    s: &[u8],
+    full: bool,
+    store: &mut [u8],
+    area: &mut [u8],
+    c: Cursor,
+) -> Cursor
+    requires { ⌜ ValuesAhead reading full (now s) (desk c (now store) (now area)) ⌝ }
+    ensures { λ r. ⌜ WroteValues reading full (now (s .entry)) (desk c (now (store .entry)) (now (area .entry)))
         (desk r (now (store .exit)) (now (area .exit))) ⌝ }
 {
     let mut last = c;
@@ -112,31 +131,41 @@ fn write_values(s: &[u8], full: bool, store: &mut [u8], area: &mut [u8], c: Curs
         let here = trimmed(s, last);
         let place = here.place;
         let offset = place.offset;
-        let Found::Value { kind, size } = Found::of(values::pack_value(s, offset)) else {
+        let Found::Value { kind, size } = Found::of(values::pack_value(reading, s, offset)) else {
             return here;
         };
-        last = write_found(s, full, store, area, here, kind, size);
+        last = write_found(reading, s, full, store, area, here, kind, size);
     }
 }
 
 // How many tags stand from an offset on.
-fn count_tags(s: &[u8], from: usize) -> usize
+fn count_tags(reading: Reading, s: &[u8], from: usize) -> usize
     requires { ⌜ from ≤ length (now s) ⌝ }
-    ensures { λ r. ⌜ r ≡ length (namesFrom (now (s .entry)) from) ⌝ }
+    ensures { λ r. ⌜ r ≡ length (namesFrom reading (now (s .entry)) from) ⌝ }
 {
     let mut at = gaps::gap_end(s, from);
     let mut count: usize = 0;
-    while items::at_tag(s, at) {
-        at = gaps::gap_end(s, words::long_word_end(s, at));
+    loop {
+        let end = openings::name_end(reading, s, at);
+        if end <= at {
+            return count;
+        }
+        at = gaps::gap_end(s, end);
         count += 1;
     }
-    count
 }
 
-// The names of a loop, while tags stand.
-fn write_names(s: &[u8], full: bool, store: &mut [u8], area: &mut [u8], c: Cursor) -> Cursor
-    requires { ⌜ NamesAhead full (now s) (desk c (now store) (now area)) ⌝ }
-    ensures { λ r. ⌜ WroteNames full (now (s .entry)) (desk c (now (store .entry)) (now (area .entry)))
+// The names of a loop, as far as they may stand.
+fn write_names(
+    reading: Reading,
+    s: &[u8],
+    full: bool,
+    store: &mut [u8],
+    area: &mut [u8],
+    c: Cursor,
+) -> Cursor
+    requires { ⌜ NamesAhead reading full (now s) (desk c (now store) (now area)) ⌝ }
+    ensures { λ r. ⌜ WroteNames reading full (now (s .entry)) (desk c (now (store .entry)) (now (area .entry)))
         (desk r (now (store .exit)) (now (area .exit))) ⌝ }
 {
     let mut last = c;
@@ -144,52 +173,75 @@ fn write_names(s: &[u8], full: bool, store: &mut [u8], area: &mut [u8], c: Curso
         let here = trimmed(s, last);
         let place = here.place;
         let offset = place.offset;
-        if !items::at_tag(s, offset) {
+        let end = openings::name_end(reading, s, offset);
+        if end <= offset {
             return here;
         }
-        let end = words::long_word_end(s, offset);
         last = putting::write_text(s, full, store, area, here, Kind::LOOP_TAG, end - offset);
     }
 }
 
 // A loop: its record counts the names, so they are counted first.
-fn write_loop_item(s: &[u8], full: bool, store: &mut [u8], area: &mut [u8], c: Cursor) -> Cursor
-    requires { ⌜ ItemHere full (now s) (desk c (now store) (now area)) × (startsAt keyLoop (now s) (c .place .offset) ≡ true) ⌝ }
-    ensures { λ r. ⌜ WroteItem full (now (s .entry)) (desk c (now (store .entry)) (now (area .entry)))
+fn write_loop_item(
+    reading: Reading,
+    s: &[u8],
+    full: bool,
+    store: &mut [u8],
+    area: &mut [u8],
+    c: Cursor,
+) -> Cursor
+    requires { ⌜ ItemHere reading full (now s) (desk c (now store) (now area))
+        × (loopAt reading (now s) (c .place .offset) ≡ true) ⌝ }
+    ensures { λ r. ⌜ WroteItem reading full (now (s .entry)) (desk c (now (store .entry)) (now (area .entry)))
         (desk r (now (store .exit)) (now (area .exit))) ⌝ }
 {
     let place = c.place;
     let offset = place.offset;
-    let tags = count_tags(s, offset + putting::KEYWORD);
+    let tags = count_tags(reading, s, offset + putting::KEYWORD);
     let opened = putting::write_loop(s, full, store, c, tags);
-    let named = write_names(s, full, store, area, opened);
-    let valued = write_values(s, full, store, area, named);
+    let named = write_names(reading, s, full, store, area, opened);
+    let valued = write_values(reading, s, full, store, area, named);
     putting::write_end(full, store, valued)
 }
 
 // A tag and its value.
-fn write_tag_item(s: &[u8], full: bool, store: &mut [u8], area: &mut [u8], c: Cursor) -> Cursor
-    requires { ⌜ ItemHere full (now s) (desk c (now store) (now area)) × (tagAt (now s) (c .place .offset) ≡ true) ⌝ }
-    ensures { λ r. ⌜ WroteItem full (now (s .entry)) (desk c (now (store .entry)) (now (area .entry)))
+fn write_tag_item(
+    reading: Reading,
+    s: &[u8],
+    full: bool,
+    store: &mut [u8],
+    area: &mut [u8],
+    c: Cursor,
+) -> Cursor
+    requires { ⌜ ItemHere reading full (now s) (desk c (now store) (now area))
+        × (tagAt reading (now s) (c .place .offset) ≡ true) ⌝ }
+    ensures { λ r. ⌜ WroteItem reading full (now (s .entry)) (desk c (now (store .entry)) (now (area .entry)))
         (desk r (now (store .exit)) (now (area .exit))) ⌝ }
 {
     let place = c.place;
     let offset = place.offset;
     let end = words::long_word_end(s, offset);
     let tagged = putting::write_text(s, full, store, area, c, Kind::TAG, end - offset);
-    write_values(s, full, store, area, tagged)
+    write_values(reading, s, full, store, area, tagged)
 }
 
 // An item.
-pub fn write_item(s: &[u8], full: bool, store: &mut [u8], area: &mut [u8], c: Cursor) -> Cursor
-    requires { ⌜ ItemHere full (now s) (desk c (now store) (now area)) ⌝ }
-    ensures { λ r. ⌜ WroteItem full (now (s .entry)) (desk c (now (store .entry)) (now (area .entry)))
+pub fn write_item(
+    reading: Reading,
+    s: &[u8],
+    full: bool,
+    store: &mut [u8],
+    area: &mut [u8],
+    c: Cursor,
+) -> Cursor
+    requires { ⌜ ItemHere reading full (now s) (desk c (now store) (now area)) ⌝ }
+    ensures { λ r. ⌜ WroteItem reading full (now (s .entry)) (desk c (now (store .entry)) (now (area .entry)))
         (desk r (now (store .exit)) (now (area .exit))) ⌝ }
 {
     let place = c.place;
     let offset = place.offset;
-    if keywords::at_loop(s, offset) {
-        return write_loop_item(s, full, store, area, c);
+    if openings::at_loop(reading, s, offset) {
+        return write_loop_item(reading, s, full, store, area, c);
     }
-    write_tag_item(s, full, store, area, c)
+    write_tag_item(reading, s, full, store, area, c)
 }

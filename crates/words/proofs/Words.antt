@@ -86,6 +86,11 @@ word-other b s e = span-other inWord b s e
 pub word-pos : (b : ℕ) (s : List ℕ) → inWord b ≡ true → 0 < word (b ∷ s)
 word-pos b s e = omega (arith, word-next b s e)
 
+-- a byte that ends no word starts one
+pub word-starts : (b : ℕ) (s : List ℕ) → endsWord b ≡ false → 0 < word (b ∷ s)
+unfolding inWord
+word-starts b s e = word-pos b s (rw e)
+
 pub ordinary-in-word : (b : ℕ) → isOrdinary b ≡ true → inWord b ≡ true
 unfolding isOrdinary inWord endsWord
 ordinary-in-word b e =

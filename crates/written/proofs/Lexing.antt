@@ -1,28 +1,34 @@
--- What a token's class and length say of its bytes. Proved: a value is the same token in the block, in a frame and alone (as-value, in-mode); a number is a whole word
--- that is one, within the limits (number-word); a heading, a frame's opening and a tag are words (heading-word, opening-word, tag-word). Assumes nothing.
-use Prim.Native.Nat.{ℕ, suc, _+_, _≤_, _<_}
-use mathlib.Core.Bool.{true≢false, false≢true, Bool, true, false, cond, _&&_, _||_}
+-- What a token's class and length say of its bytes, in either reading. Proved: a value is the same token in the block, in a frame and alone (as-value, in-any-mode); a number is a
+-- whole word that is one, within the limits (number-word); a heading, a frame's opening and a tag are words (heading-word, opening-word, tag-word). Assumes nothing.
+use Prim.Native.Nat.{ℕ, _+_, _≤_}
+use mathlib.Core.Bool.{false≢true, Bool, true, false, cond, _&&_, _||_}
 use mathlib.Core.Path.{_≡_, refl, sym, ap, _∙_}
 use mathlib.Core.List.{List, [], _∷_}
-use mathlib.Core.Option.{Option, none, some}
 use native.Mathlib.Omega.{arith}
 use borrow.Author.Tests.{eqb-true, leb-true}
 use lib.Dec.{eqb, leb}
 use lib.ListN.{length, take, drop}
-use Rattle.text.specs.Bytes.{is}
+use Rattle.rules.specs.declared.Reading.{Reading}
+use Rattle.rules.specs.declared.Reading.the-variants.{First, Strict}
+use Rattle.text.specs.Bytes.{is, isSpace}
 use Rattle.text.specs.Bytes.{endsWord}
 use Rattle.text.specs.Runs.{span}
 use Rattle.text.proofs.Bools.{and-l, and-r}
 use Rattle.text.proofs.Ranges.{passes}
-use Rattle.words.specs.Words.{inWord, word, isOrdinary}
+use Rattle.columns.specs.Before.{isParted}
+use Rattle.words.specs.Words.{inWord, word}
 use Rattle.folding.specs.Folding.{lower}
-use Rattle.keywords.specs.Keywords.{starts, keyData, keyGlobal, keyLoop, keySave, keyStop, reserved}
-use Rattle.quotes.specs.Quotes.{quoted, field}
-use Rattle.numbers.specs.Parts.{parts, isNumber, within}
-use Rattle.values.specs.Values.{Class, Reason, block, loop, save, tag, value, overLimit, nothing, atEnd, reservedWord, noStart, openQuote, openField, Lexed, lexed, numberOr, wordOr, closed, lexValue, lexAsValue}
-use Rattle.grammar.specs.Tokens.{Mode, before, inBlock, inFrame, saveSize, lexIn, lex}
-use Rattle.grammar.proofs.Lexes.{pick, lex-tag, lex-loop, lex-save, startsItem, lex-other, lex-plain}
-use Rattle.grammar.proofs.Descent.{isPlain}
+use Rattle.keywords.specs.Keywords.{starts, stands, keyData, keyGlobal, keyLoop, keySave, keyStop, reserved}
+use Rattle.numbers.specs.declared.Decimal.{Decimal}
+use Rattle.numbers.specs.declared.Number.the-variants.{Is, Over, Not}
+use Rattle.numbers.specs.Parts.{parts, countsAs, within}
+use Rattle.numbers.specs.Meaning.{meaning, judged, numberOf}
+use Rattle.numbers.proofs.Facts.{is-number}
+use Rattle.values.specs.Values.{Class, block, loop, save, tag, value, nothing, atEnd, reservedWord, noStart, joined, Lexed, lexed, quoteKind, lexValue, lexAsValue}
+use Rattle.values.proofs.Laws.{tag-none}
+use Rattle.values.proofs.Views.{Read, missing, point, unknown, bare, quote, double, multi, number, over, view}
+use Rattle.grammar.specs.Tokens.{Mode, before, inBlock, inFrame, saveSize, lexIn, lex, tagFirst}
+use Rattle.grammar.proofs.Lexes.{lex-tag, lex-save, lex-data, class-by}
 
 -- in a frame or not
 unfoldable pub modeOf : Bool → Mode
@@ -47,7 +53,7 @@ alike-none c d i j f g = record { there = λ k n. no-value c i k n (f k); back =
 alike-self : (x : Lexed) → Alike x x
 alike-self x = record { there = λ k n e. e; back = λ k n e. e }
 
--- no value starts with a keyword or `_`
+-- no value starts with a keyword or `_`: in the first reading
 alike : (d g l s t u : Bool) (z w : ℕ) (v : Lexed) → (u ≡ true → v ≡ lexed (nothing noStart) 0)
     → Alike (cond (d || g || l || s || t) (lexed (nothing reservedWord) 0) v) (cond (d || g || t) (lexed (nothing reservedWord) 0) (cond l (lexed loop 5) (cond s (lexed save z) (cond u (lexed tag w) v))))
 alike true g l s t u z w v h = alike-self _
@@ -60,69 +66,82 @@ alike false false false false true u z w v h = alike-self _
 alike false false false false false true z w v h = rw (h refl) (alike-none (nothing noStart) tag 0 w (λ k e. cc) (λ k e. cc))
 alike false false false false false false z w v h = alike-self _
 
-tag-none : (b : ℕ) (s : List ℕ) → is 95 b ≡ true → lexValue b s ≡ lexed (nothing noStart) 0
-unfolding is lexValue isOrdinary
-tag-none b s e = rw (eqb-true b 95 e)
+-- and in the strict one
+strict-alike : (d g l s t u : Bool) (w : ℕ) (v : Lexed) → (u ≡ true → v ≡ lexed (nothing noStart) 0)
+    → Alike (cond (d || g || l || s || t) (lexed (nothing reservedWord) 0) v)
+    (cond d (lexed block w) (cond s (lexed save w) (cond l (lexed loop 5) (cond (g || t) (lexed (nothing reservedWord) 0) (cond u (lexed tag w) v)))))
+strict-alike true g l s t u w v h = alike-none (nothing reservedWord) block 0 w (λ k e. cc) (λ k e. cc)
+strict-alike false true l true t u w v h = alike-none (nothing reservedWord) save 0 w (λ k e. cc) (λ k e. cc)
+strict-alike false true true false t u w v h = alike-none (nothing reservedWord) loop 0 5 (λ k e. cc) (λ k e. cc)
+strict-alike false true false false t u w v h = alike-self _
+strict-alike false false true true t u w v h = alike-none (nothing reservedWord) save 0 w (λ k e. cc) (λ k e. cc)
+strict-alike false false true false t u w v h = alike-none (nothing reservedWord) loop 0 5 (λ k e. cc) (λ k e. cc)
+strict-alike false false false true t u w v h = alike-none (nothing reservedWord) save 0 w (λ k e. cc) (λ k e. cc)
+strict-alike false false false false true u w v h = alike-self _
+strict-alike false false false false false true w v h = rw (h refl) (alike-none (nothing noStart) tag 0 w (λ k e. cc) (λ k e. cc))
+strict-alike false false false false false false w v h = alike-self _
 
-modes-alike : (m : Mode) (s : List ℕ) → Alike (lexAsValue s) (lexIn m s)
+parted-alike : (t : Bool) (x y : Lexed) → Alike x y → Alike (cond t x (lexed (nothing joined) 0)) (cond t y (lexed (nothing joined) 0))
+parted-alike true x y h = h
+parted-alike false x y h = alike-self _
+
+modes-alike : (g : Reading) (p : ℕ) (m : Mode) (s : List ℕ) → Alike (lexAsValue g p s) (lexIn g p m s)
 unfolding lexAsValue lexIn reserved
-modes-alike m [] = alike-self _
-modes-alike m (b ∷ s) =
-    alike (starts keyData (b ∷ s)) (starts keyGlobal (b ∷ s)) (starts keyLoop (b ∷ s)) (starts keySave (b ∷ s)) (starts keyStop (b ∷ s)) (is 95 b) (saveSize m (b ∷ s)) (word (b ∷ s)) (lexValue b s) (tag-none b s)
+modes-alike First p m [] = alike-self _
+modes-alike Strict p m [] = alike-self _
+modes-alike First p m (b ∷ s) =
+    alike (starts keyData (b ∷ s)) (starts keyGlobal (b ∷ s)) (starts keyLoop (b ∷ s)) (starts keySave (b ∷ s)) (starts keyStop (b ∷ s)) (is 95 b) (saveSize m (b ∷ s)) (word (b ∷ s)) (lexValue First p b s) (tag-none First p b s)
+modes-alike Strict p m (b ∷ s) =
+    parted-alike (isSpace p) _ _
+    (strict-alike (starts keyData (b ∷ s)) (stands Strict keyGlobal (b ∷ s)) (stands Strict keyLoop (b ∷ s)) (starts keySave (b ∷ s)) (stands Strict keyStop (b ∷ s)) (is 95 b) (word (b ∷ s)) (lexValue Strict p b s) (tag-none Strict p b s))
 
-pub as-value : (m : Mode) (s : List ℕ) (k n : ℕ) → lexIn m s ≡ lexed (value k) n → lexAsValue s ≡ lexed (value k) n
-as-value m s = modes-alike m s .back
+pub as-value : (g : Reading) (p : ℕ) (m : Mode) (s : List ℕ) (k n : ℕ) → lexIn g p m s ≡ lexed (value k) n → lexAsValue g p s ≡ lexed (value k) n
+as-value g p m s = modes-alike g p m s .back
 
-pub in-any-mode : (m : Mode) (s : List ℕ) (k n : ℕ) → lexAsValue s ≡ lexed (value k) n → lexIn m s ≡ lexed (value k) n
-in-any-mode m s = modes-alike m s .there
+pub in-any-mode : (g : Reading) (p : ℕ) (m : Mode) (s : List ℕ) (k n : ℕ) → lexAsValue g p s ≡ lexed (value k) n → lexIn g p m s ≡ lexed (value k) n
+in-any-mode g p m s = modes-alike g p m s .there
 
 -- the first n bytes of s are a word that is a number, and k is its kind
-pub record NumberWord (s : List ℕ) (k n : ℕ) : Type 0 where
+pub record NumberWord (g : Reading) (s : List ℕ) (k n : ℕ) : Type 0 where
   pub whole : n ≡ word s
-  pub number : isNumber (parts (take n s)) ≡ true
+  pub number : countsAs g (parts (take n s)) ≡ true
   pub kept : within (parts (take n s)) ≡ true
   pub kind : k ≡ cond (parts (take n s) .unc .here) 15 14
 
-Numeric : List ℕ → Lexed → Type 0
-Numeric s x = (k : ℕ) → x .class ≡ value k → 14 ≤ k → NumberWord s k (x .size)
-
-word-numeric : (s : List ℕ) (x : Lexed) → Numeric s x → Numeric s (wordOr x s)
-unfolding wordOr numberOr Numeric lexed
-word-numeric s x h = pick (Numeric s) (isNumber (parts (take (word s) s))) _ x (λ e. by (within (parts (take (word s) s))) refl e) (λ e. h)
+-- what is a number counts as one
+is-counted : (g : Reading) (w : List ℕ) (d : Decimal) → numberOf g w ≡ Is d → countsAs g (parts w) ≡ true
+unfolding numberOf judged
+is-counted g w d e = by (countsAs g (parts w)) e
   where
-    by : (t : Bool) → within (parts (take (word s) s)) ≡ t → isNumber (parts (take (word s) s)) ≡ true → Numeric s (lexed (cond t (value (cond (parts (take (word s) s) .unc .here) 15 14)) overLimit) (word s))
-    by true q e k p l = record { whole = refl; number = e; kept = q; kind = cc }
-    by false q e k p l = never (cc)
+    by : (t : Bool) → cond t (cond (within (parts w)) (Is (meaning (parts w))) Over) Not ≡ Is d → t ≡ true
+    by true e = refl
+    by false e = never (cc)
 
-low-numeric : (s : List ℕ) (j n : ℕ) → j < 14 → Numeric s (lexed (value j) n)
-unfolding Numeric lexed
-low-numeric s j n h k p l = let e : j ≡ k = cc in absurd (omega arith)
+word-number : (g : Reading) (s : List ℕ) (k : ℕ) → numberOf g (take (word s) s) ≡ Is (meaning (parts (take (word s) s))) → k ≡ cond (parts (take (word s) s) .unc .here) 15 14 → NumberWord g s k (word s)
+word-number g s k w q =
+    record { whole = refl; number = is-counted g (take (word s) s) _ w; kept = is-number g (take (word s) s) _ w .kept; kind = q }
 
-closed-numeric : (s : List ℕ) (j : ℕ) (why : Reason) (o : Option ℕ) → j < 14 → Numeric s (closed j why o)
-unfolding closed Numeric lexed
-closed-numeric s j why none h = λ k p l. never (cc)
-closed-numeric s j why (some n) h = low-numeric s j (suc n) h
+-- a quoted value is no number
+quote-kind : (g : Reading) (k : ℕ) → k ≤ 12 → 14 ≤ quoteKind g k → quoteKind g k ≤ 15 → ⊥
+quote-kind First k h l u = omega arith
+quote-kind Strict k h l u = omega arith
 
-value-numeric : (b : ℕ) (s : List ℕ) → Numeric (b ∷ s) (lexValue b s)
-unfolding lexValue Numeric lexed
-value-numeric b s =
-    let N = Numeric (b ∷ s) in
-    pick N (is 46 b) _ _ (λ e. word-numeric (b ∷ s) (lexed (value 8) 1) (low-numeric (b ∷ s) 8 1 (omega arith)))
-    (λ e. pick N (is 63 b) _ _ (λ f. low-numeric (b ∷ s) 9 1 (omega arith))
-    (λ f. pick N (is 39 b) _ _ (λ g. closed-numeric (b ∷ s) 11 openQuote (quoted 39 s) (omega arith))
-    (λ g. pick N (is 34 b) _ _ (λ g. closed-numeric (b ∷ s) 12 openQuote (quoted 34 s) (omega arith))
-    (λ g. pick N (is 59 b) _ _ (λ g. closed-numeric (b ∷ s) 13 openField (field s) (omega arith))
-    (λ g. pick N (isOrdinary b) _ _ (λ g. word-numeric (b ∷ s) (lexed (value 10) (word (b ∷ s))) (low-numeric (b ∷ s) 10 (word (b ∷ s)) (omega arith))) (λ g k p l. never (cc)))))))
-
-alone-numeric : (s : List ℕ) → Numeric s (lexAsValue s)
-unfolding lexAsValue Numeric lexed
-alone-numeric [] = λ k p l. never (cc)
-alone-numeric (b ∷ s) = pick (Numeric (b ∷ s)) (reserved (b ∷ s)) _ _ (λ e k p l. never (cc)) (λ e. value-numeric b s)
+read-number : (g : Reading) (s : List ℕ) (x : Lexed) (k n : ℕ) → Read g s x → x .class ≡ value k → x .size ≡ n → 14 ≤ k → k ≤ 15 → NumberWord g s k n
+unfolding lexed
+read-number g s _ k n (missing w) e q l z = never (cc)
+read-number g s _ k n (point t r) e q l z = let h : 8 ≡ k = cc in absurd (omega arith)
+read-number g s _ k n (unknown t r) e q l z = let h : 9 ≡ k = cc in absurd (omega arith)
+read-number g s _ k n (bare p) e q l z = let h : 10 ≡ k = cc in absurd (omega arith)
+read-number g s _ k n (quote t m r c) e q l z = let h : quoteKind g 11 ≡ k = cc in absurd (quote-kind g 11 (omega arith) (rw h l) (rw h z))
+read-number g s _ k n (double t m r c) e q l z = let h : quoteKind g 12 ≡ k = cc in absurd (quote-kind g 12 (omega arith) (rw h l) (rw h z))
+read-number g s _ k n (multi t m r c) e q l z = let h : 13 ≡ k = cc in absurd (omega arith)
+read-number g s _ k n (number u v w p) e q l z = let h : cond u 15 14 ≡ k = cc in rw (← q) (word-number g s k w (sym h ∙ rw (← v)))
+read-number g s _ k n (over p) e q l z = never (cc)
 
 -- A NUMBER IS A WHOLE WORD that is one, within the limits
-pub number-word : (s : List ℕ) (k n : ℕ) → lexAsValue s ≡ lexed (value k) n → 14 ≤ k → NumberWord s k n
-unfolding Numeric lexed
-number-word s k n e l = rw (ap (λ (x : Lexed). x .size) e) at (alone-numeric s k (ap (λ (x : Lexed). x .class) e) l)
+pub number-word : (g : Reading) (p : ℕ) (s : List ℕ) (k n : ℕ) → lexAsValue g p s ≡ lexed (value k) n → 14 ≤ k → k ≤ 15 → NumberWord g s k n
+unfolding lexed
+number-word g p s k n e l u = read-number g s (lexAsValue g p s) k n (view g p s) (ap (λ (x : Lexed). x .class) e) (ap (λ (x : Lexed). x .size) e) l u
 
 -- HEADINGS, FRAMES AND TAGS are words
 
@@ -131,44 +150,87 @@ pub record Worded (key s : List ℕ) (n : ℕ) : Type 0 where
   pub opens : starts key s ≡ true
   pub whole : n ≡ word s
 
-pub heading-word : (s : List ℕ) (n : ℕ) → lex before s ≡ lexed block n → Worded keyData s n
-unfolding lex lexed
-heading-word s n e = by (starts keyData s) refl e
+-- the class of a token says what stands there
+module _ (g : Reading) (p : ℕ) (m : Mode) (b : ℕ) (s : List ℕ) where
+  block-opens : lexIn g p m (b ∷ s) .class ≡ block → (isParted g p && starts keyData (b ∷ s)) ≡ true
+  block-opens =
+      class-by (λ c. c ≡ block → (isParted g p && starts keyData (b ∷ s)) ≡ true) p m b s (λ k z. never (cc)) (λ z. never (cc)) (λ z. never (cc)) (λ z. never (cc)) (λ z. never (cc)) (λ z. never (cc)) g
+      (λ e z. never (cc)) (λ e z. e) (λ e z. never (cc)) (λ e z. never (cc)) (λ e z. never (cc))
+
+  save-opens : lexIn g p m (b ∷ s) .class ≡ save → (isParted g p && starts keySave (b ∷ s)) ≡ true
+  save-opens =
+      class-by (λ c. c ≡ save → (isParted g p && starts keySave (b ∷ s)) ≡ true) p m b s (λ k z. never (cc)) (λ z. never (cc)) (λ z. never (cc)) (λ z. never (cc)) (λ z. never (cc)) (λ z. never (cc)) g
+      (λ e z. never (cc)) (λ e z. never (cc)) (λ e z. e) (λ e z. never (cc)) (λ e z. never (cc))
+
+  tag-opens : lexIn g p m (b ∷ s) .class ≡ tag → (isParted g p && is 95 b) ≡ true
+  tag-opens =
+      class-by (λ c. c ≡ tag → (isParted g p && is 95 b) ≡ true) p m b s (λ k z. never (cc)) (λ z. never (cc)) (λ z. never (cc)) (λ z. never (cc)) (λ z. never (cc)) (λ z. never (cc)) g
+      (λ e z. never (cc)) (λ e z. never (cc)) (λ e z. never (cc)) (λ e z. never (cc)) (λ e z. e)
+
+classed : (x : Lexed) (c : Class) (n : ℕ) → x ≡ lexed c n → x .class ≡ c
+unfolding lexed
+classed x c n e = ap (λ (x : Lexed). x .class) e
+
+sized : (x : Lexed) (c : Class) (i n : ℕ) → x ≡ lexed c i → x ≡ lexed c n → n ≡ i
+unfolding lexed
+sized x c i n p q = ap (λ (x : Lexed). x .size) (sym q ∙ p)
+
+-- the text's end is neither
+no-end : {A : Type 0} (c : Class) (n : ℕ) → (nothing atEnd ≡ c → _≡_ {A = ℕ} 0 1) → lexed (nothing atEnd) 0 ≡ lexed c n → A
+unfolding lexed
+no-end c n f e = never (f (ap (λ (x : Lexed). x .class) e))
+
+-- in the first reading `data_` is no token of a block
+data-reserved : (p : ℕ) (m : Mode) (b : ℕ) (s : List ℕ) → starts keyData (b ∷ s) ≡ true → lexIn First p m (b ∷ s) ≡ lexed (nothing reservedWord) 0
+unfolding lexIn
+data-reserved p m b s e = rw e
+
+first-none : {A : Type 0} (p : ℕ) (m : Mode) (b : ℕ) (s : List ℕ) (n : ℕ) → lexIn First p m (b ∷ s) ≡ lexed block n → A
+unfolding lexed
+first-none p m b s n e =
+    let d : starts keyData (b ∷ s) ≡ true = block-opens First p m b s (classed _ block n e) in
+    let z = data-reserved p m b s d in
+    let y : nothing reservedWord ≡ block = sym (classed _ (nothing reservedWord) 0 z) ∙ classed _ block n e in
+    never (cc)
+
+pub heading-word : (g : Reading) (p : ℕ) (m : Mode) (s : List ℕ) (n : ℕ) → lex g p m s ≡ lexed block n → Worded keyData s n
+unfolding lex lexIn lexed
+heading-word First p before s n e = by (starts keyData s) refl e
   where
     by : (t : Bool) → starts keyData s ≡ t → cond t (lexed block (word s)) (lexed (nothing noStart) 0) ≡ lexed block n → Worded keyData s n
-    by true q e = record { opens = q; whole = sym (ap (λ (x : Lexed). x .size) e) }
-    by false q e = let z : nothing noStart ≡ block = ap (λ (x : Lexed). x .class) e in never (cc)
+    by true q e = record { opens = q; whole = sized _ block (word s) n refl e }
+    by false q e = let z : nothing noStart ≡ block = classed _ block n e in never (cc)
+heading-word First p inBlock [] n e = no-end block n (λ z. cc) e
+heading-word First p inFrame [] n e = no-end block n (λ z. cc) e
+heading-word First p inBlock (b ∷ s) n e = first-none p inBlock b s n e
+heading-word First p inFrame (b ∷ s) n e = first-none p inFrame b s n e
+heading-word Strict p m [] n e = no-end block n (λ z. cc) e
+heading-word Strict p m (b ∷ s) n e =
+    let d = block-opens Strict p m b s (classed _ block n e) in
+    record { opens = and-r (isSpace p) _ d; whole = sized _ block (word (b ∷ s)) n (lex-data p m (b ∷ s) d) e }
 
 -- `_`
 unfoldable pub keyTag : List ℕ
 keyTag = 95 ∷ []
 
-tag-by : (m : Mode) (b : ℕ) (s : List ℕ) (n : ℕ) → lexIn m (b ∷ s) ≡ lexed tag n → Worded keyTag (b ∷ s) n
-unfolding lexed startsItem keyTag starts is lower
-tag-by m b s n e = by (is 95 b) refl (starts keyLoop (b ∷ s)) refl
-  where
-    by : (t : Bool) → is 95 b ≡ t → (l : Bool) → starts keyLoop (b ∷ s) ≡ l → Worded keyTag (b ∷ s) n
-    by true q l r = record { opens = rw (eqb-true b 95 q); whole = sym (ap (λ (x : Lexed). x .size) (sym (lex-tag m b s q) ∙ e)) }
-    by false q true r = let z : loop ≡ tag = ap (λ (x : Lexed). x .class) (sym (lex-loop m b s r) ∙ e) in never (cc)
-    by false q false r = absurd (true≢false (sym (ap (λ (x : Lexed). startsItem (x .class)) e) ∙ lex-other m b s r q))
+pub tag-word : (g : Reading) (p : ℕ) (m : Mode) (s : List ℕ) (n : ℕ) → lexIn g p m s ≡ lexed tag n → Worded keyTag s n
+unfolding lexIn tagFirst keyTag starts is lower
+tag-word First p m [] n e = no-end tag n (λ z. cc) e
+tag-word Strict p m [] n e = no-end tag n (λ z. cc) e
+tag-word g p m (b ∷ s) n e =
+    let d = tag-opens g p m b s (classed _ tag n e) in
+    record { opens = rw (eqb-true b 95 (and-r (isParted g p) _ d)); whole = sized _ tag (word (b ∷ s)) n (lex-tag p m g (b ∷ s) d) e }
 
-pub tag-word : (m : Mode) (s : List ℕ) (n : ℕ) → lexIn m s ≡ lexed tag n → Worded keyTag s n
-unfolding lexIn lexed
-tag-word m [] n e = let z : nothing atEnd ≡ tag = ap (λ (x : Lexed). x .class) e in never (cc)
-tag-word m (b ∷ s) n e = tag-by m b s n e
-
-opening-by : (b : ℕ) (s : List ℕ) (n : ℕ) → lexIn inBlock (b ∷ s) ≡ lexed save n → Worded keySave (b ∷ s) n
-unfolding lexed isPlain saveSize
-opening-by b s n e = by (starts keySave (b ∷ s)) refl
-  where
-    by : (t : Bool) → starts keySave (b ∷ s) ≡ t → Worded keySave (b ∷ s) n
-    by true q = record { opens = q; whole = sym (ap (λ (x : Lexed). x .size) (sym (lex-save inBlock b s q) ∙ e)) }
-    by false q = absurd (false≢true (sym (ap (λ (x : Lexed). isPlain (x .class)) e) ∙ lex-plain inBlock b s q))
-
-pub opening-word : (s : List ℕ) (n : ℕ) → lexIn inBlock s ≡ lexed save n → Worded keySave s n
-unfolding lexIn lexed
-opening-word [] n e = let z : nothing atEnd ≡ save = ap (λ (x : Lexed). x .class) e in never (cc)
-opening-word (b ∷ s) n e = opening-by b s n e
+pub opening-word : (g : Reading) (p : ℕ) (s : List ℕ) (n : ℕ) → lexIn g p inBlock s ≡ lexed save n → Worded keySave s n
+unfolding lexIn saveSize
+opening-word First p [] n e = no-end save n (λ z. cc) e
+opening-word Strict p [] n e = no-end save n (λ z. cc) e
+opening-word First p (b ∷ s) n e =
+    let d = save-opens First p inBlock b s (classed _ save n e) in
+    record { opens = d; whole = sized _ save (word (b ∷ s)) n (lex-save p inBlock First (b ∷ s) d) e }
+opening-word Strict p (b ∷ s) n e =
+    let d = save-opens Strict p inBlock b s (classed _ save n e) in
+    record { opens = and-r (isSpace p) _ d; whole = sized _ save (word (b ∷ s)) n (lex-save p inBlock Strict (b ∷ s) d) e }
 
 -- The bytes of a keyword belong to its word
 

@@ -1,27 +1,27 @@
 -- What Read's store and area say. Proved: record by record, the kind, the content and the decimal parts of the text's records (sayings-told). Assumes nothing.
-use Prim.Native.Nat.{ℕ, zero, suc, _+_, _-_, _≤_, _<_, min}
+use Prim.Native.Nat.{ℕ, zero, suc, _+_, _-_, _≤_, _<_}
 use mathlib.Core.Bool.{Bool, true, false, cond}
-use mathlib.Core.Path.{_≡_, refl, sym, ap, ap₂, _∙_}
+use mathlib.Core.Path.{_≡_, refl, sym, ap₂, _∙_}
 use mathlib.Core.List.{List, [], _∷_, _++_, append-assoc, map}
 use native.Mathlib.Omega.{arith}
 use lib.ListN.{length, take, drop, length-append, length-take, length-drop}
 use lib.Seq.{drop-at, take-at}
+use Rattle.rules.specs.declared.Reading.{Reading}
 use Rattle.numbers.specs.declared.Decimal.{Decimal}
 use Rattle.kinds.specs.declared.Kind.{Kind}
-use Rattle.kinds.specs.declared.Kind.the-variants.{NoKind, Block, FrameOpen, FrameClose, Tag, Loop, LoopTag, LoopEnd, Inapplicable, Unknown, Bare, SingleQuoted, DoubleQuoted, Multiline, Number, Uncertain}
 use Rattle.entries.specs.declared.Parts.{Parts}
 use Rattle.kinds.specs.declared.Shape.{Shape}
 use Rattle.kinds.specs.declared.Shape.the-variants.{Empty, Place, Content, Count, Parts as PartsShape, PartsUncertain}
+use Rattle.kinds.proofs.Marks.{opening-marks}
 use Rattle.kinds.specs.Kinds.{kindOf, shapeOf, marksOf, opening, isContent, hasContent}
 use Rattle.entries.specs.Entries.{stored, noParts}
 use Rattle.grammar.specs.Machine.{Rec}
 use Rattle.sizes.specs.Sizes.{contentSize}
 use Rattle.putting.specs.Written.{tokenOf, contentOf, decimalOf}
 use Rattle.walking.specs.Writing.{storeOf, areaOf, tagsOf}
-use Rattle.entries.specs.Walk.{entries}
 use Rattle.contents.specs.Contents.{contentLength, contentBytes}
-use Rattle.written.specs.Sayings.{Saying, says, nothing, contentIn, saying, sayings}
-use Rattle.written.proofs.Taken.{Read, Outline}
+use Rattle.written.specs.Sayings.{Saying, says, contentIn, saying, sayings}
+use Rattle.written.proofs.Taken.{Outline}
 use Rattle.written.proofs.Sources.{Each, none, also, each-map, sources, Facts, facts}
 use Rattle.written.proofs.Written.{fieldsIn, entryOf, written, written-back}
 
@@ -47,27 +47,7 @@ parts-same Count s a n r = refl
 parts-same PartsShape s a n r = refl
 parts-same PartsUncertain s a n r = refl
 
--- what stands before a content is part of the marks
-opening-fits : (k : Kind) → opening k ≤ marksOf k
-unfolding opening marksOf
-opening-fits NoKind = omega arith
-opening-fits Block = omega arith
-opening-fits FrameOpen = omega arith
-opening-fits FrameClose = omega arith
-opening-fits Tag = omega arith
-opening-fits Loop = omega arith
-opening-fits LoopTag = omega arith
-opening-fits LoopEnd = omega arith
-opening-fits Inapplicable = omega arith
-opening-fits Unknown = omega arith
-opening-fits Bare = omega arith
-opening-fits SingleQuoted = omega arith
-opening-fits DoubleQuoted = omega arith
-opening-fits Multiline = omega arith
-opening-fits Number = omega arith
-opening-fits Uncertain = omega arith
-
-module _ (s : List ℕ) (r : Rec) (h : Facts s r) where
+module _ (g : Reading) (s : List ℕ) (r : Rec) (h : Facts g s r) where
   part-length : (n at : ℕ) → (0 < n → at + n ≤ length s) → length (take n (drop at s)) ≡ n
   part-length zero at f = refl
   part-length (suc n) at f = simp (length-take, length-drop) (omega (arith, f (omega arith)))
@@ -80,7 +60,7 @@ module _ (s : List ℕ) (r : Rec) (h : Facts s r) where
       k = kindOf (r .kind)
 
       by : (t : Bool) → length (take (cond t (r .size - marksOf k) 0) (drop (r .at + opening k) s)) ≡ cond t (r .size - marksOf k) 0
-      by true = part-length (r .size - marksOf k) (r .at + opening k) (λ p. omega (arith, h .within, opening-fits k))
+      by true = part-length (r .size - marksOf k) (r .at + opening k) (λ p. omega (arith, h .within, opening-marks k))
       by false = refl
 
   module _ (before rest : List ℕ) (a n : ℕ) (at : length before ≡ a) where
@@ -114,15 +94,15 @@ module _ (s : List ℕ) (r : Rec) (h : Facts s r) where
     unfolding saying entryOf told
     say-one = ap₂ (λ c p. says (kindOf (r .kind)) c p) content-same (parts-same (shapeOf (kindOf (r .kind))) s a n r)
 
-say-all : (s : List ℕ) {rs : List Rec} → Each (Facts s) rs → (before : List ℕ) (a : ℕ) → length before ≡ a → map (saying (before ++ areaOf s rs)) (written s a rs) ≡ map (told s) rs
+say-all : (g : Reading) (s : List ℕ) {rs : List Rec} → Each (Facts g s) rs → (before : List ℕ) (a : ℕ) → length before ≡ a → map (saying (before ++ areaOf s rs)) (written s a rs) ≡ map (told s) rs
 unfolding written areaOf
-say-all s none before a e = refl
-say-all s (also {r = r} {rs = rs} p h) before a e =
-    ap₂ {C = List Saying} _∷_ (say-one s r p before (areaOf s rs) a (tagsOf rs) e)
+say-all g s none before a e = refl
+say-all g s (also {r = r} {rs = rs} p h) before a e =
+    ap₂ {C = List Saying} _∷_ (say-one g s r p before (areaOf s rs) a (tagsOf rs) e)
     (rw (← append-assoc before (contentOf s r) (areaOf s rs))
-    (say-all s h (before ++ contentOf s r) (a + contentSize (r .kind) (r .size)) (simp length-append (omega (arith, content-length s r p)))))
+    (say-all g s h (before ++ contentOf s r) (a + contentSize (r .kind) (r .size)) (simp length-append (omega (arith, content-length g s r p)))))
 
 -- WHAT READ'S STORE SAYS
-pub sayings-told : (s : List ℕ) (rs : List Rec) → Outline s rs → sayings (storeOf true s 0 rs) (areaOf s rs) ≡ map (told s) rs
+pub sayings-told : (g : Reading) (s : List ℕ) (rs : List Rec) → Outline g s rs → sayings (storeOf true s 0 rs) (areaOf s rs) ≡ map (told s) rs
 unfolding sayings
-sayings-told s rs h = rw (written-back s rs h) (say-all s (each-map (λ r. facts) (sources (h .read .taken))) [] 0 refl)
+sayings-told g s rs h = rw (written-back g s rs h) (say-all g s (each-map (λ r. facts) (sources (h .read .taken))) [] 0 refl)

@@ -1,29 +1,26 @@
 -- What Read writes is read back. Proved: the entries of the store that is written of a text's records are those records, with their places, area offsets, tag counts
 -- and decimal parts (written-back). Assumes nothing.
-use Prim.Native.Nat.{ℕ, zero, suc, _+_, _-_, _^_, _≤_, _<_}
+use Prim.Native.Nat.{ℕ, suc, _+_, _-_, _^_, _≤_, _<_}
 use mathlib.Core.Bool.{Bool, true, false, cond}
 use mathlib.Core.Path.{_≡_, refl, sym, ap, _∙_}
-use mathlib.Core.List.{List, [], _∷_, _++_, append-assoc}
+use mathlib.Core.List.{List, [], _∷_, _++_}
 use native.Mathlib.Omega.{arith}
 use native.Mathlib.Nat.{pow-le-pow-right}
 use borrow.Author.Tests.{eqb-true}
 use lib.Dec.{eqb}
-use lib.ListN.{length, drop, length-append}
+use lib.ListN.{length}
+use Rattle.rules.specs.declared.Reading.{Reading}
 use Rattle.places.specs.Places.{placeAt}
 use Rattle.places.proofs.Places.{line-bound, column-bound}
-use Rattle.text.proofs.Ranges.{passes}
-use Rattle.numbers.specs.declared.Decimal.{Decimal}
-use Rattle.numbers.specs.declared.Number.the-variants.{Is}
-use Rattle.numbers.specs.Meaning.{meaning, judged, numberOf as numberIn}
+use Rattle.numbers.specs.Meaning.{judged, numberOf as numberIn}
 use Rattle.numbers.proofs.Facts.{Bounded, number-facts}
 use Rattle.entries.specs.declared.Entry.{Entry}
-use Rattle.entries.specs.declared.Entry.the-variants.{Record, Nothing}
+use Rattle.entries.specs.declared.Entry.the-variants.{Record}
 use Rattle.entries.specs.declared.Fields.{Fields}
 use Rattle.kinds.specs.declared.Kind.{Kind}
-use Rattle.kinds.specs.declared.Kind.the-variants.{NoKind, Block, FrameOpen, FrameClose, Tag, Loop, LoopTag, LoopEnd, Inapplicable, Unknown, Bare, SingleQuoted, DoubleQuoted, Multiline, Number, Uncertain}
+use Rattle.kinds.specs.declared.Kind.the-variants.{NoKind, Block, FrameOpen, FrameClose, Tag, Loop, LoopTag, LoopEnd, Inapplicable, Unknown, Bare, SingleQuoted, DoubleQuoted, Multiline, Number, Uncertain, Quoted}
 use Rattle.kinds.specs.declared.Shape.{Shape}
 use Rattle.kinds.specs.declared.Shape.the-variants.{Empty, Place, Content, Count, Parts, PartsUncertain}
-use Rattle.records.specs.declared.Token.{Token}
 use Rattle.kinds.specs.Kinds.{kindOf, numberOf, shapeOf, shapeLength, bodyLength}
 use Rattle.records.specs.Records.{endRecord}
 use Rattle.entries.specs.Entries.{stored, noParts, noFields, entryAt}
@@ -35,8 +32,7 @@ use Rattle.sizes.proofs.Room.{content-small}
 use Rattle.putting.specs.Written.{tokenOf, decimalOf, tokenText, shaped, shapeIn, recordBytes}
 use Rattle.walking.specs.Writing.{tagsOf, storeOf}
 use Rattle.entries.specs.Walk.{onward, entriesFrom, entries}
-use Rattle.written.proofs.Lexing.{NumberWord}
-use Rattle.written.proofs.Taken.{bytesOf, Read, Outline}
+use Rattle.written.proofs.Taken.{bytesOf, Outline}
 use Rattle.written.proofs.Sources.{Each, none, also, each-map, sources, Facts, facts}
 
 -- the fields that a record is written with: a is the area offset, n the number of tags
@@ -84,20 +80,16 @@ only DoubleQuoted h = tt
 only Multiline h = tt
 only Number h = refl
 only Uncertain h = refl
+only Quoted h = tt
 
--- a kind's number is its own
-pub kind-back : (k : ℕ) → 1 ≤ k → k ≤ 15 → numberOf (kindOf k) ≡ k
-unfolding kindOf
-kind-back k l h = eqb-true (numberOf (kindOf k)) k (passes (λ n. eqb (numberOf (kindOf n)) n) 1 15 refl k l (omega arith))
-
-pub only-kind : (s : List ℕ) (r : Rec) → Facts s r → Only (shapeOf (kindOf (r .kind))) (r .kind)
-only-kind s r h =
-    let q = kind-back (r .kind) (h .low) (h .high) in
+pub only-kind : (g : Reading) (s : List ℕ) (r : Rec) → Facts g s r → Only (shapeOf (kindOf (r .kind))) (r .kind)
+only-kind g s r h =
+    let q = h .known in
     rw q at (only (kindOf (r .kind)) (omega (arith, h .low)))
 
 -- One record
 
-module _ (s : List ℕ) (fits : length s ≤ 16777216) (r : Rec) (h : Facts s r) where
+module _ (g : Reading) (s : List ℕ) (fits : length s ≤ 16777216) (r : Rec) (h : Facts g s r) where
   token-fits : Fits (tokenOf s r)
   unfolding tokenOf placeAt
   token-fits =
@@ -108,13 +100,13 @@ module _ (s : List ℕ) (fits : length s ≤ 16777216) (r : Rec) (h : Facts s r)
         column = omega (arith, h .within, column-bound s (r .at));
       }
 
-  pub bounded : 14 ≤ r .kind → Bounded (decimalOf s r)
+  pub bounded : 14 ≤ r .kind → r .kind ≤ 15 → Bounded (decimalOf s r)
   unfolding decimalOf tokenText numberIn judged
-  bounded l = let w = h .number l in number-facts (tokenText s r) (decimalOf s r) (rw (w .number, w .kept))
+  bounded l u = let w = h .number l u in number-facts g (tokenText s r) (decimalOf s r) (rw (w .number, w .kept))
 
-  small : 14 ≤ r .kind → Small (decimalOf s r)
-  small l =
-      let b = bounded l in
+  small : 14 ≤ r .kind → r .kind ≤ 15 → Small (decimalOf s r)
+  small l u =
+      let b = bounded l u in
       let p : 10 ^ (decimalOf s r .places) ≤ 10 ^ 18 = pow-le-pow-right (omega arith) (b .places) in
       record { integer = omega (arith, b .integer); fraction = omega (arith, b .fraction); uncertainty = omega (arith, b .uncertainty) }
 
@@ -128,12 +120,12 @@ module _ (s : List ℕ) (fits : length s ≤ 16777216) (r : Rec) (h : Facts s r)
     shape-back Place e o = place-back _ rest 0 (tokenOf s r) token-fits (r .kind) e refl
     shape-back Content e o = content-back _ rest 0 (tokenOf s r) token-fits (r .kind) a at e refl
     shape-back Count e o = of-kind Loop (ap kindOf o) (loop-back _ rest 0 (tokenOf s r) token-fits n tags refl)
-    shape-back Parts e o = of-kind Number (ap kindOf o) (number-back _ rest 0 (tokenOf s r) token-fits (decimalOf s r) (small (omega arith)) refl)
-    shape-back PartsUncertain e o = of-kind Uncertain (ap kindOf o) (uncertain-back _ rest 0 (tokenOf s r) token-fits (decimalOf s r) (small (omega arith)) refl)
+    shape-back Parts e o = of-kind Number (ap kindOf o) (number-back _ rest 0 (tokenOf s r) token-fits (decimalOf s r) (small (omega arith) (omega arith)) refl)
+    shape-back PartsUncertain e o = of-kind Uncertain (ap kindOf o) (uncertain-back _ rest 0 (tokenOf s r) token-fits (decimalOf s r) (small (omega arith) (omega arith)) refl)
 
     record-back : entryAt (recordBytes true s a n r ++ rest) 0 ≡ entryOf s a n r
     unfolding recordBytes shapeIn entryOf bodyLength
-    record-back = shape-back (shapeOf (kindOf (r .kind))) refl (only-kind s r h)
+    record-back = shape-back (shapeOf (kindOf (r .kind))) refl (only-kind g s r h)
 
 -- All records
 
@@ -159,7 +151,7 @@ shape-length Parts s a n r = length-number (tokenOf s r) (decimalOf s r)
 shape-length PartsUncertain s a n r = length-uncertain (tokenOf s r) (decimalOf s r)
 
 -- a loop has no more tags than there are bytes
-tags-few : {s : List ℕ} {rs : List Rec} → Each (Facts s) rs → tagsOf rs ≤ bytesOf rs
+tags-few : {g : Reading} {s : List ℕ} {rs : List Rec} → Each (Facts g s) rs → tagsOf rs ≤ bytesOf rs
 unfolding tagsOf bytesOf
 tags-few none = omega arith
 tags-few (also {r = r} {rs = rs} p h) = by (eqb (r .kind) 6) refl (tags-few h)
@@ -168,17 +160,17 @@ tags-few (also {r = r} {rs = rs} p h) = by (eqb (r .kind) 6) refl (tags-few h)
     by true q l = omega (arith, p .name (eqb-true (r .kind) 6 q))
     by false q l = omega arith
 
-pub entries-written : (s : List ℕ) → length s ≤ 16777216 → {rs : List Rec} → Each (Facts s) rs → (a : ℕ) → a + bytesOf rs ≤ length s → entriesFrom (storeOf true s a rs) 0 ≡ written s a rs
+pub entries-written : (g : Reading) (s : List ℕ) → length s ≤ 16777216 → {rs : List Rec} → Each (Facts g s) rs → (a : ℕ) → a + bytesOf rs ≤ length s → entriesFrom (storeOf true s a rs) 0 ≡ written s a rs
 unfolding storeOf written entriesFrom bytesOf entryOf recordBytes shapeIn bodyLength
-entries-written s fits none a l = refl
-entries-written s fits (also {r = r} {rs = rs} p h) a l =
+entries-written g s fits none a l = refl
+entries-written g s fits (also {r = r} {rs = rs} p h) a l =
     let b = a + contentSize (r .kind) (r .size) in
     let x = shapeOf (kindOf (r .kind)) in
-    let e = record-back s fits r p a (tagsOf rs) (omega arith) (omega (arith, tags-few h)) (storeOf true s b rs) in
+    let e = record-back g s fits r p a (tagsOf rs) (omega arith) (omega (arith, tags-few h)) (storeOf true s b rs) in
     entries-cons (recordBytes true s a (tagsOf rs) r) (storeOf true s b rs) _ _ (shapeLength x) e (shape-length x s a (tagsOf rs) r)
-    ∙ ap (λ (es : List Entry). entryOf s a (tagsOf rs) r ∷ es) (entries-written s fits h b (omega (arith, content-small (r .kind) (r .size))))
+    ∙ ap (λ (es : List Entry). entryOf s a (tagsOf rs) r ∷ es) (entries-written g s fits h b (omega (arith, content-small (r .kind) (r .size))))
 
 -- WHAT IS WRITTEN IS READ BACK
-pub written-back : (s : List ℕ) (rs : List Rec) → Outline s rs → entries (storeOf true s 0 rs) ≡ written s 0 rs
+pub written-back : (g : Reading) (s : List ℕ) (rs : List Rec) → Outline g s rs → entries (storeOf true s 0 rs) ≡ written s 0 rs
 unfolding entries
-written-back s rs h = entries-written s (h .fits) (each-map (λ r. facts) (sources (h .read .taken))) 0 (omega (arith, h .read .spent))
+written-back g s rs h = entries-written g s (h .fits) (each-map (λ r. facts) (sources (h .read .taken))) 0 (omega (arith, h .read .spent))

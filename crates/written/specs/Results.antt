@@ -2,11 +2,12 @@
 use Prim.Native.Nat.{ℕ}
 use mathlib.Core.List.{List}
 use lib.ListN.{length, take}
+use Rattle.rules.specs.declared.Reading.{Reading}
 use Rattle.reading.specs.Services.{readAnswer, readStore, readArea}
 
--- of the text s, to a lent store and a lent area
-unfoldable pub storeBytes : (s store area : List ℕ) → List ℕ
-storeBytes s store area = take (readAnswer s (length store) (length area) .first) (readStore s store (length area))
+-- of the text s by the reading g, to a lent store and a lent area
+unfoldable pub storeBytes : Reading → (s store area : List ℕ) → List ℕ
+storeBytes g s store area = take (readAnswer g s (length store) (length area) .first) (readStore g s store (length area))
 
-unfoldable pub areaBytes : (s store area : List ℕ) → List ℕ
-areaBytes s store area = take (readAnswer s (length store) (length area) .second) (readArea s (length store) area)
+unfoldable pub areaBytes : Reading → (s store area : List ℕ) → List ℕ
+areaBytes g s store area = take (readAnswer g s (length store) (length area) .second) (readArea g s (length store) area)

@@ -6,10 +6,10 @@ use Rattle.check_stores.proofs.run.Statement.{statement}
 use Rattle.check_stores.proofs.run.Tie as tie
 
 abbrev Inv-loop : tie.InvT-loop
-Inv-loop s store₀ area₀ have₀ at₀ store area have at = Unit
+Inv-loop s store₀ area₀ have₀ reading₀ at₀ store area have reading at = Unit
 
 abbrev μ-loop : tie.MeasureT-loop
-μ-loop s store₀ area₀ have₀ at₀ store area have at = length s - at
+μ-loop s store₀ area₀ have₀ reading₀ at₀ store area have reading at = length s - at
 
 loop-holds : tie.Need-loop-holds Inv-loop μ-loop
 loop-holds c = search needs
@@ -17,14 +17,17 @@ loop-holds c = search needs
 line-end-requires : tie.Need-line-end-requires Inv-loop μ-loop
 line-end-requires c κs = search needs
 
-sub-run-line : tie.Need-sub-run-line Inv-loop μ-loop
-sub-run-line c = search needs
+sub-line : tie.Need-sub-line Inv-loop μ-loop
+sub-line c = search needs
 
-part-run-line-start : tie.Need-part-run-line-start Inv-loop μ-loop
-part-run-line-start c = search needs
+part-line-start : tie.Need-part-line-start Inv-loop μ-loop
+part-line-start c = search needs
 
-part-run-line-end : tie.Need-part-run-line-end Inv-loop μ-loop
-part-run-line-end c = search needs
+part-line-end : tie.Need-part-line-end Inv-loop μ-loop
+part-line-end c = search needs
+
+reading-behind-requires : tie.Need-reading-behind-requires Inv-loop μ-loop
+reading-behind-requires c κs = search needs
 
 run-line-requires : tie.Need-run-line-requires Inv-loop μ-loop
 run-line-requires c κs = search needs
@@ -49,9 +52,10 @@ run-spec =
     μ-loop
     loop-holds
     line-end-requires
-    sub-run-line
-    part-run-line-start
-    part-run-line-end
+    sub-line
+    part-line-start
+    part-line-end
+    reading-behind-requires
     run-line-requires
     add-at
     loop-less

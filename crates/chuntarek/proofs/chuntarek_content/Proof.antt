@@ -1,11 +1,27 @@
--- `chuntarek_content`: the service's answer in numbers. Assumes nothing.
+-- `chuntarek_content`: the service's answer in numbers; 24 where no reading is named. Assumes nothing.
 use mathlib.Core.Path.{_∙_, ap}
 use Rattle.stores.specs.Content.{contentReport}
 use Rattle.exports.specs.Exports.{exported}
-use Rattle.chuntarek.specs.Answers.{contentGives}
+use Rattle.chuntarek.proofs.Readings.{content-known, content-unknown}
 use borrow.Author.Needs.{needs}
 use Rattle.chuntarek.proofs.chuntarek_content.Statement.{statement}
 use Rattle.chuntarek.proofs.chuntarek_content.Tie as tie
+
+of-requires : tie.Need-of-requires
+of-requires c κs = search needs
+
+enum-known-named : tie.Need-enum-known-named
+enum-known-named c = search needs
+
+enum-told : tie.Need-enum-told
+enum-told c = search needs
+
+no-reading-requires : tie.Need-no-reading-requires
+no-reading-requires c κs = search needs
+
+returns : tie.Need-returns
+returns c =
+    c .no-reading .ensures ∙ (content-unknown _ _ _ _ (c .before .before .before .of .ensures) (c .before .enum-told .given .1))
 
 find-content-requires : tie.Need-find-content-requires
 find-content-requires c κs = search needs
@@ -16,10 +32,20 @@ report-requires c κs = search needs
 numbers-of-requires : tie.Need-numbers-of-requires
 numbers-of-requires c κs = search needs
 
-returns : tie.Need-returns
-unfolding contentGives
-returns c = c .numbers-of .ensures ∙ ap exported (c .before .report .ensures ∙ ap contentReport (c .before .before .find-content .ensures))
+returns-2 : tie.Need-returns-2
+returns-2 c =
+    c .numbers-of .ensures ∙ (ap exported (c .before .report .ensures ∙ ap contentReport (c .before .before .find-content .ensures)) ∙ (content-known _ _ _ _ _ (c .before .before .before .before .before .before .of .ensures) (c .before .before .before .before .named .given .1)))
 
 pub chuntarek-content-spec : {M : Type 1} → statement M
 chuntarek-content-spec =
-    tie.close (tie.spec find-content-requires report-requires numbers-of-requires returns)
+    tie.close
+    (tie.spec
+    of-requires
+    enum-known-named
+    enum-told
+    no-reading-requires
+    returns
+    find-content-requires
+    report-requires
+    numbers-of-requires
+    returns-2)

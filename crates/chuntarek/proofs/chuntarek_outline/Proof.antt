@@ -1,10 +1,28 @@
--- `chuntarek_outline`: the service's answer in numbers, and the store as it leaves it. Assumes nothing.
+-- `chuntarek_outline`: the service's answer in numbers, and the store as it leaves it; 24 where no reading is named. Assumes nothing.
 use mathlib.Core.Path.{_∙_, ap}
 use Rattle.exports.specs.Exports.{exported}
-use Rattle.chuntarek.specs.Answers.{outlineGives}
+use Rattle.chuntarek.proofs.Readings.{outline-known, outline-unknown, outlined-known, outlined-unknown}
 use borrow.Author.Needs.{needs}
 use Rattle.chuntarek.proofs.chuntarek_outline.Statement.{statement}
 use Rattle.chuntarek.proofs.chuntarek_outline.Tie as tie
+
+of-requires : tie.Need-of-requires
+of-requires c κs = search needs
+
+enum-known-named : tie.Need-enum-known-named
+enum-known-named c = search needs
+
+enum-told : tie.Need-enum-told
+enum-told c = search needs
+
+no-reading-requires : tie.Need-no-reading-requires
+no-reading-requires c κs = search needs
+
+returns : tie.Need-returns
+returns c = (
+  c .no-reading .ensures ∙ (outline-unknown _ _ _ (c .before .before .before .of .ensures) (c .before .enum-told .given .1)),
+  (outlined-unknown _ _ _ (c .before .before .before .of .ensures) (c .before .enum-told .given .1)),
+)
 
 outline-requires : tie.Need-outline-requires
 outline-requires c κs = search needs
@@ -18,10 +36,23 @@ numbers-of-requires c κs = search needs
 same-length : tie.Need-same-length
 same-length c = search needs
 
-returns : tie.Need-returns
-unfolding outlineGives
-returns c = (c .numbers-of .ensures ∙ ap exported (c .before .report .ensures ∙ c .before .before .before .before .outline .ensures .0), c .before .before .before .before .outline .ensures .1)
+returns-2 : tie.Need-returns-2
+returns-2 c = (
+  c .numbers-of .ensures ∙ (ap exported (c .before .report .ensures ∙ c .before .before .before .before .outline .ensures .0) ∙ (outline-known _ _ _ _ (c .before .before .before .before .before .before .before .before .before .of .ensures) (c .before .before .before .before .before .before .before .named .given .1))),
+  c .before .before .before .before .outline .ensures .1 ∙ (outlined-known _ _ _ _ (c .before .before .before .before .before .before .before .before .before .of .ensures) (c .before .before .before .before .before .before .before .named .given .1)),
+)
 
 pub chuntarek-outline-spec : {M : Type 1} → statement M
 chuntarek-outline-spec =
-    tie.close (tie.spec outline-requires report-requires numbers-of-requires same-length returns)
+    tie.close
+    (tie.spec
+    of-requires
+    enum-known-named
+    enum-told
+    no-reading-requires
+    returns
+    outline-requires
+    report-requires
+    numbers-of-requires
+    same-length
+    returns-2)

@@ -1,10 +1,28 @@
--- `chuntarek_render`: the service's answer in numbers, and the buffer as it leaves it. Assumes nothing.
+-- `chuntarek_render`: the service's answer in numbers, and the buffer as it leaves it; 24 where no reading is named. Assumes nothing.
 use mathlib.Core.Path.{_∙_, ap}
 use Rattle.exports.specs.Exports.{exported}
-use Rattle.chuntarek.specs.Answers.{renderGives}
+use Rattle.chuntarek.proofs.Readings.{render-known, render-unknown, rendered-known, rendered-unknown}
 use borrow.Author.Needs.{needs}
 use Rattle.chuntarek.proofs.chuntarek_render.Statement.{statement}
 use Rattle.chuntarek.proofs.chuntarek_render.Tie as tie
+
+of-requires : tie.Need-of-requires
+of-requires c κs = search needs
+
+enum-known-named : tie.Need-enum-known-named
+enum-known-named c = search needs
+
+enum-told : tie.Need-enum-told
+enum-told c = search needs
+
+no-reading-requires : tie.Need-no-reading-requires
+no-reading-requires c κs = search needs
+
+returns : tie.Need-returns
+returns c = (
+  c .no-reading .ensures ∙ (render-unknown _ _ _ _ (c .before .before .before .of .ensures) (c .before .enum-told .given .1)),
+  (rendered-unknown _ _ _ _ (c .before .before .before .of .ensures) (c .before .enum-told .given .1)),
+)
 
 render-requires : tie.Need-render-requires
 render-requires c κs = search needs
@@ -18,10 +36,23 @@ numbers-of-requires c κs = search needs
 same-length : tie.Need-same-length
 same-length c = search needs
 
-returns : tie.Need-returns
-unfolding renderGives
-returns c = (c .numbers-of .ensures ∙ ap exported (c .before .report .ensures ∙ c .before .before .before .before .render .ensures .0), c .before .before .before .before .render .ensures .1)
+returns-2 : tie.Need-returns-2
+returns-2 c = (
+  c .numbers-of .ensures ∙ (ap exported (c .before .report .ensures ∙ c .before .before .before .before .render .ensures .0) ∙ (render-known _ _ _ _ _ (c .before .before .before .before .before .before .before .before .before .of .ensures) (c .before .before .before .before .before .before .before .named .given .1))),
+  c .before .before .before .before .render .ensures .1 ∙ (rendered-known _ _ _ _ _ (c .before .before .before .before .before .before .before .before .before .of .ensures) (c .before .before .before .before .before .before .before .named .given .1)),
+)
 
 pub chuntarek-render-spec : {M : Type 1} → statement M
 chuntarek-render-spec =
-    tie.close (tie.spec render-requires report-requires numbers-of-requires same-length returns)
+    tie.close
+    (tie.spec
+    of-requires
+    enum-known-named
+    enum-told
+    no-reading-requires
+    returns
+    render-requires
+    report-requires
+    numbers-of-requires
+    same-length
+    returns-2)

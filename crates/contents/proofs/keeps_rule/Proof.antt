@@ -5,7 +5,7 @@ use native.Mathlib.Omega.{arith}
 use lib.ListN.{length, take, drop, length-take}
 use borrow.Author.Needs.{needs}
 use borrow.Author.Tests.{not-true, not-false}
-use Rattle.contents.specs.Contents.{readable, contentLength, contentBytes, lies}
+use Rattle.contents.specs.Contents.{contentLength, contentBytes, lies}
 use Rattle.contents.proofs.Kept.{content-length, lies-in, rule-parts, rule-outside, rule-read}
 use Rattle.contents.proofs.keeps_rule.Statement.{statement}
 use Rattle.contents.proofs.keeps_rule.Tie as tie
@@ -20,7 +20,7 @@ returns : tie.Need-returns
 returns c =
     let given = c .before .before .before .before .args in
     c .keeps-parts .ensures
-    ∙ sym (rule-parts (given .area .now) (given .kind) (given .fields) (sym (c .before .before .has-content .ensures) ∙ not-true _ (c .before .if1 .taken)))
+    ∙ sym (rule-parts (given .reading) (given .area .now) (given .kind) (given .fields) (sym (c .before .before .has-content .ensures) ∙ not-true _ (c .before .if1 .taken)))
 
 lies-inside-requires : tie.Need-lies-inside-requires
 lies-inside-requires c κs = search needs
@@ -30,6 +30,7 @@ returns-2 c =
     let given = c .before .before .before .before .before .args in
     sym
     (rule-outside
+    (given .reading)
     (given .area .now)
     (given .kind)
     (given .fields)
@@ -75,6 +76,7 @@ returns-3 c =
     judged
     ∙ sym
     (rule-read
+    (given .reading)
     (given .area .now)
     (given .kind)
     (given .fields)

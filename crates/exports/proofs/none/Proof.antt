@@ -1,4 +1,4 @@
--- `none`: all zero. Assumes nothing.
+-- `none`: its number, and zeros. Assumes nothing.
 use Rattle.exports.specs.Exports.{noRecord}
 use mathlib.Core.Path.{refl}
 use Rattle.exports.proofs.none.Statement.{statement}

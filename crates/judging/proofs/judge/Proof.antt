@@ -1,7 +1,7 @@
--- `judging::judge`: the two limits first, then what the tokens say. Assumes nothing.
+-- `judging::judge`: the two limits first, then what the bytes and the tokens say. Assumes nothing.
 use mathlib.Core.Path.{_∙_}
 use Rattle.text.specs.Limits.{limit}
-use Rattle.deciding.proofs.Told.{outline-long, outline-foreign, outline-decided}
+use Rattle.deciding.proofs.Told.{outline-long, outline-foreign, outline-checked}
 use Rattle.refusals.specs.Answers.{refusal, refusalReport}
 use Rattle.judging.specs.Judging.{judgement, judgedAs, noSizes}
 use Rattle.judging.proofs.Judgements.{declined-judgement}
@@ -11,7 +11,7 @@ use Rattle.judging.proofs.judge.Tie as tie
 
 returns : tie.Need-returns
 unfolding limit judgement judgedAs refusalReport refusal noSizes
-returns c = rw (outline-long _ (c .if1 .taken))
+returns c = rw (outline-long _ _ (c .if1 .taken))
 
 ascii-end-requires : tie.Need-ascii-end-requires
 ascii-end-requires c κs = search needs
@@ -23,10 +23,10 @@ returns-2 : tie.Need-returns-2
 unfolding limit judgement judgedAs refusalReport refusal noSizes
 returns-2 c =
     let e = c .before .before .ascii-end .ensures in
-    rw (outline-foreign _ (c .before .before .before .if1 .left) (rw e at (c .before .if2 .taken)), c .place-at .ensures, e)
+    rw (outline-foreign _ _ (c .before .before .before .if1 .left) (rw e at (c .before .if2 .taken)), c .place-at .ensures, e)
 
-lex-cif-requires : tie.Need-lex-cif-requires
-lex-cif-requires c κs = unfold limit in c .before .before .if1 .left
+decide-requires : tie.Need-decide-requires
+decide-requires c κs = unfold limit in c .before .before .if1 .left
 
 placed-requires : tie.Need-placed-requires
 placed-requires c κs = search needs
@@ -36,7 +36,7 @@ unfolding limit
 returns-3 c =
     let e = c .before .before .before .ascii-end .ensures in
     c .placed .ensures
-    ∙ rw (c .before .lex-cif .ensures, outline-decided _ (c .before .before .before .before .if1 .left) (rw e at (c .before .before .if2 .left))) (declined-judgement _ _)
+    ∙ rw (c .before .decide .ensures, outline-checked _ _ (c .before .before .before .before .if1 .left) (rw e at (c .before .before .if2 .left))) (declined-judgement _ _)
 
 pub judge-spec : {M : Type 1} → statement M
 judge-spec =
@@ -46,6 +46,6 @@ judge-spec =
     ascii-end-requires
     place-at-requires
     returns-2
-    lex-cif-requires
+    decide-requires
     placed-requires
     returns-3)

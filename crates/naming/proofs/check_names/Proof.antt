@@ -10,7 +10,7 @@ is-sound-requires : tie.Need-is-sound-requires
 is-sound-requires c κs = search needs
 
 returns : tie.Need-returns
-returns c = check-unsound _ _ (sym (c .before .is-sound .ensures) ∙ not-true _ (c .if1 .taken))
+returns c = check-unsound _ _ _ (sym (c .before .is-sound .ensures) ∙ not-true _ (c .if1 .taken))
 
 fresh-end-requires : tie.Need-fresh-end-requires
 fresh-end-requires c κs = search needs
@@ -19,7 +19,7 @@ repeat-from-requires : tie.Need-repeat-from-requires
 repeat-from-requires c κs = c .fresh-end .ensures .reached
 
 returns-2 : tie.Need-returns-2
-returns-2 c = c .repeat-from .ensures ∙ check-sound _ _ _ (sym (c .before .before .before .is-sound .ensures) ∙ not-false _ (c .before .before .if1 .left)) (c .before .fresh-end .ensures)
+returns-2 c = c .repeat-from .ensures ∙ check-sound _ _ _ _ (sym (c .before .before .before .is-sound .ensures) ∙ not-false _ (c .before .before .if1 .left)) (c .before .fresh-end .ensures)
 
 pub check-names-spec : {M : Type 1} → statement M
 check-names-spec =

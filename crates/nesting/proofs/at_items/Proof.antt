@@ -36,9 +36,12 @@ returns-7 : tie.Need-returns-7
 unfolding atItems
 returns-7 c = rw (ne-eqb _ _ (c .before .before .before .before .if1 .left), ne-eqb _ _ (c .before .before .before .if3 .left), ne-eqb _ _ (c .before .before .if4 .left), eq-eqb _ _ (c .before .if6 .taken), c .if7 .left)
 
+next-block-requires : tie.Need-next-block-requires
+next-block-requires c κs = search needs
+
 returns-8 : tie.Need-returns-8
 unfolding atItems
-returns-8 c = rw (ne-eqb _ _ (c .before .before .before .if1 .left), ne-eqb _ _ (c .before .before .if3 .left), ne-eqb _ _ (c .before .if4 .left), ne-eqb _ _ (c .if6 .left))
+returns-8 c = rw (ne-eqb _ _ (c .before .before .before .before .if1 .left), ne-eqb _ _ (c .before .before .before .if3 .left), ne-eqb _ _ (c .before .before .if4 .left), ne-eqb _ _ (c .before .if6 .left)) (c .next-block .ensures)
 
 pub at-items-spec : {M : Type 1} → statement M
 at-items-spec =
@@ -52,4 +55,5 @@ at-items-spec =
     returns-5
     returns-6
     returns-7
+    next-block-requires
     returns-8)

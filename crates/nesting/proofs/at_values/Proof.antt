@@ -9,9 +9,12 @@ use Rattle.nesting.proofs.at_values.Tie as tie
 whole-rows-requires : tie.Need-whole-rows-requires
 whole-rows-requires c κs = search needs
 
+end-loop-requires : tie.Need-end-loop-requires
+end-loop-requires c κs = search needs
+
 returns : tie.Need-returns
 unfolding atValues
-returns c = rw (eq-eqb _ _ (c .before .before .if1 .taken), ← c .before .whole-rows .ensures, c .if2 .taken)
+returns c = rw (eq-eqb _ _ (c .before .before .before .if1 .taken), ← c .before .before .whole-rows .ensures, c .before .if2 .taken) (c .end-loop .ensures)
 
 returns-2 : tie.Need-returns-2
 unfolding atValues
@@ -20,8 +23,8 @@ returns-2 c = rw (eq-eqb _ _ (c .before .before .if1 .taken), ← c .before .who
 is-value-requires : tie.Need-is-value-requires
 is-value-requires c κs = search needs
 
-add-t10 : tie.Need-add-t10
-add-t10 c = search needs
+add-t9 : tie.Need-add-t9
+add-t9 c = search needs
 
 returns-3 : tie.Need-returns-3
 unfolding atValues
@@ -34,4 +37,4 @@ returns-4 c = rw (ne-eqb _ _ (c .before .before .if1 .left), ← c .before .is-v
 pub at-values-spec : {M : Type 1} → statement M
 at-values-spec =
     tie.close
-    (tie.spec whole-rows-requires returns returns-2 is-value-requires add-t10 returns-3 returns-4)
+    (tie.spec whole-rows-requires end-loop-requires returns returns-2 is-value-requires add-t9 returns-3 returns-4)

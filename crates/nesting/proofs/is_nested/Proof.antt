@@ -16,13 +16,13 @@ use Rattle.nesting.proofs.is_nested.Statement.{statement}
 use Rattle.nesting.proofs.is_nested.Tie as tie
 
 abbrev Inv-loop : tie.InvT-loop
-Inv-loop store frame₀ place₀ at₀ frame place at = (at ≤ length store) × (counted place ≤ at) × (nested (entries store) ≡ nestedFrom (rest store at) frame place)
+Inv-loop reading store frame₀ place₀ at₀ frame place at = (at ≤ length store) × (counted place ≤ at) × (nested reading (entries store) ≡ nestedFrom reading (rest store at) frame place)
 
 abbrev μ-loop : tie.MeasureT-loop
-μ-loop store frame₀ place₀ at₀ frame place at = length store - at
+μ-loop reading store frame₀ place₀ at₀ frame place at = length store - at
 
 loop-holds : tie.Need-loop-holds Inv-loop μ-loop
-loop-holds c = (omega arith, omega arith, nest-all (c .before .args .store .now))
+loop-holds c = (omega arith, omega arith, nest-all (c .before .args .reading) (c .before .args .store .now))
 
 read-record-requires : tie.Need-read-record-requires Inv-loop μ-loop
 read-record-requires c κs = search needs
@@ -37,7 +37,7 @@ returns : tie.Need-returns Inv-loop μ-loop
 returns c =
     let st = c .before .before .before .before .before .before .args .store .now in
     let here = c .before .before .before .before .loop in
-    sym (here .inv .2 ∙ nest-none st (here .at) (here .frame) (here .place) (c .before .before .before .loop-test .taken) (sym (c .before .before .read-record .ensures) ∙ c .enum-told .given .1))
+    sym (here .inv .2 ∙ nest-none _ st (here .at) (here .frame) (here .place) (c .before .before .before .loop-test .taken) (sym (c .before .before .read-record .ensures) ∙ c .enum-told .given .1))
 
 number-requires : tie.Need-number-requires Inv-loop μ-loop
 number-requires c κs = search needs
@@ -60,8 +60,8 @@ returns-2 c =
     let here = c .before .before .before .before .before .before .before .before .before .before .loop in
     let got = c .before .before .before .before .before .before .kind .given in
     let e : entryAt st (here .at) ≡ Record (got .0 .0) (got .0 .1 .0) (got .0 .1 .1 .0) = sym (c .before .before .before .before .before .before .before .before .read-record .ensures) ∙ got .1 in
-    let s : standing (here .frame) (here .place) (numberOf (got .0 .0)) (got .0 .1 .0 .number) ≡ Falls = rw (← c .before .before .before .before .number .ensures) (sym (c .before .before .standing .ensures) ∙ c .enum-told2 .given .1) in
-    sym (here .inv .2 ∙ nest-falls st (here .at) (here .frame) (here .place) _ _ _ (c .before .before .before .before .before .before .before .before .before .loop-test .taken) e s)
+    let s : standing (c .before .before .before .before .before .before .before .before .before .before .before .before .args .reading) (here .frame) (here .place) (numberOf (got .0 .0)) (got .0 .1 .0 .number) ≡ Falls = rw (← c .before .before .before .before .number .ensures) (sym (c .before .before .standing .ensures) ∙ c .enum-told2 .given .1) in
+    sym (here .inv .2 ∙ nest-falls _ st (here .at) (here .frame) (here .place) _ _ _ (c .before .before .before .before .before .before .before .before .before .loop-test .taken) e s)
 
 loop-less : tie.Need-loop-less Inv-loop μ-loop
 loop-less c =
@@ -79,10 +79,10 @@ loop-again c =
     let then = c .before .stand .given in
     let inside : here .at < length st = omega arith in
     let e : entryAt st (here .at) ≡ Record (got .0 .0) (got .0 .1 .0) (got .0 .1 .1 .0) = sym (c .before .before .before .before .before .before .before .before .before .read-record .ensures) ∙ got .1 in
-    let s : standing (here .frame) (here .place) (numberOf (got .0 .0)) (got .0 .1 .0 .number) ≡ Stands (then .0 .0) (then .0 .1 .0) = rw (← c .before .before .before .before .before .number .ensures) (sym (c .before .before .before .standing .ensures) ∙ then .1) in
+    let s : standing (c .before .before .before .before .before .before .before .before .before .before .before .before .before .args .reading) (here .frame) (here .place) (numberOf (got .0 .0)) (got .0 .1 .0 .number) ≡ Stands (then .0 .0) (then .0 .1 .0) = rw (← c .before .before .before .before .before .number .ensures) (sym (c .before .before .before .standing .ensures) ∙ then .1) in
     let far = next-at st (here .at) _ _ _ inside e in
-    let more = counted-one _ (here .place) _ _ _ (then .0 .1 .0) s in
-    (far .within, omega (arith, more, here .inv .1, far .onwards), here .inv .2 ∙ nest-stands st (here .at) (here .frame) (here .place) _ _ _ inside e _ _ s)
+    let more = counted-one _ _ (here .place) _ _ _ (then .0 .1 .0) s in
+    (far .within, omega (arith, more, here .inv .1, far .onwards), here .inv .2 ∙ nest-stands _ st (here .at) (here .frame) (here .place) _ _ _ inside e _ _ s)
 
 has-ended-requires : tie.Need-has-ended-requires Inv-loop μ-loop
 has-ended-requires c κs = search needs
@@ -91,7 +91,7 @@ returns-3 : tie.Need-returns-3 Inv-loop μ-loop
 returns-3 c =
     let st = c .before .before .before .before .args .store .now in
     let here = c .before .before .loop in
-    sym (here .inv .2 ∙ nest-end st (here .at) (here .frame) (here .place) (c .before .loop-test .left) ∙ sym (c .has-ended .ensures))
+    sym (here .inv .2 ∙ nest-end _ st (here .at) (here .frame) (here .place) (c .before .loop-test .left) ∙ sym (c .has-ended .ensures))
 
 pub is-nested-spec : {M : Type 1} → statement M
 is-nested-spec =

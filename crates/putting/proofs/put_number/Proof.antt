@@ -19,7 +19,7 @@ token-at-requires : tie.Need-token-at-requires
 token-at-requires c κs =
     let a = c .before .before .before .args in
     let p = c .before .before .before .pre in
-    let t = number-token (a .s .now) (a .c .place .offset) (a .kind) (a .size) (p .here) (p .number) in
+    let t = number-token (p .reading) (a .s .now) (a .c .place .offset) (a .kind) (a .size) (p .here) (p .least) (p .most) in
     place-small (a .s .now) (a .c .place) (a .size) (p .going .place) (p .going .short) (omega (arith, t .token .within))
 
 sub-write-place : tie.Need-sub-write-place
@@ -35,9 +35,9 @@ write-place-requires : tie.Need-write-place-requires
 write-place-requires c κs =
     let a = c .before .before .before .before .before .before .args in
     let p = c .before .before .before .before .before .before .pre in
-    let t = number-token (a .s .now) (a .c .place .offset) (a .kind) (a .size) (p .here) (p .number) in
+    let t = number-token (p .reading) (a .s .now) (a .c .place .offset) (a .kind) (a .size) (p .here) (p .least) (p .most) in
     let e = not-true (a .full) (c .before .if1 .taken) in
-    let b = number-outlined (a .s .now) (a .c .place) (a .size) (a .c .area) 0 (a .kind) _ (p .going .place) (p .number) (t .most) (c .before .before .token-at .ensures) in
+    let b = number-outlined (a .s .now) (a .c .place) (a .size) (a .c .area) 0 (a .kind) _ (p .going .place) (p .least) (p .most) (c .before .before .token-at .ensures) in
     rest-room (a .c .at) 17 (a .store .now) (omega (arith, rw e at (p .room), length-place (a .kind) (c .before .before .token-at .result), ap length b, one-length false (a .s .now) (a .c .area) 0 (recAt (a .kind) (a .c .place .offset) (a .size))))
 
 same-length : tie.Need-same-length
@@ -47,16 +47,16 @@ returns : tie.Need-returns
 returns c =
     let a = c .before .before .before .before .before .before .before .before .before .args in
     let p = c .before .before .before .before .before .before .before .before .before .pre in
-    let t = number-token (a .s .now) (a .c .place .offset) (a .kind) (a .size) (p .here) (p .number) in
+    let t = number-token (p .reading) (a .s .now) (a .c .place .offset) (a .kind) (a .size) (p .here) (p .least) (p .most) in
     let e = not-true (a .full) (c .before .before .before .before .if1 .taken) in
-    let b = number-outlined (a .s .now) (a .c .place) (a .size) (a .c .area) 0 (a .kind) _ (p .going .place) (p .number) (t .most) (c .before .before .before .before .before .token-at .ensures) in
+    let b = number-outlined (a .s .now) (a .c .place) (a .size) (a .c .area) 0 (a .kind) _ (p .going .place) (p .least) (p .most) (c .before .before .before .before .before .token-at .ensures) in
     rw (e, ← b) (part-put (a .c .at) _ (a .store .now) _ (c .before .before .write-place .ensures))
 
 add-end : tie.Need-add-end
 add-end c =
     let a = c .before .before .before .before .before .args in
     let p = c .before .before .before .before .before .pre in
-    let t = number-token (a .s .now) (a .c .place .offset) (a .kind) (a .size) (p .here) (p .number) in
+    let t = number-token (p .reading) (a .s .now) (a .c .place .offset) (a .kind) (a .size) (p .here) (p .least) (p .most) in
     omega (arith, t .token .within, p .going .short)
 
 sub-decimal-of : tie.Need-sub-decimal-of
@@ -69,14 +69,14 @@ part-decimal-of-end : tie.Need-part-decimal-of-end
 part-decimal-of-end c =
     let a = c .before .before .before .before .before .before .args in
     let p = c .before .before .before .before .before .before .pre in
-    let t = number-token (a .s .now) (a .c .place .offset) (a .kind) (a .size) (p .here) (p .number) in
+    let t = number-token (p .reading) (a .s .now) (a .c .place .offset) (a .kind) (a .size) (p .here) (p .least) (p .most) in
     omega (arith, t .token .within)
 
 decimal-of-requires : tie.Need-decimal-of-requires
 decimal-of-requires c κs =
     let a = c .before .before .before .before .before .before .before .args in
     let p = c .before .before .before .before .before .before .before .pre in
-    let t = number-token (a .s .now) (a .c .place .offset) (a .kind) (a .size) (p .here) (p .number) in
+    let t = number-token (p .reading) (a .s .now) (a .c .place .offset) (a .kind) (a .size) (p .here) (p .least) (p .most) in
     let z : a .c .place .offset + a .size - a .c .place .offset ≡ a .size = omega arith in
     rw z (t .limits)
 
@@ -84,7 +84,7 @@ put-decimal-requires : tie.Need-put-decimal-requires
 put-decimal-requires c κs =
     let a = c .before .before .before .before .before .before .before .before .args in
     let p = c .before .before .before .before .before .before .before .before .pre in
-    let t = number-token (a .s .now) (a .c .place .offset) (a .kind) (a .size) (p .here) (p .number) in
+    let t = number-token (p .reading) (a .s .now) (a .c .place .offset) (a .kind) (a .size) (p .here) (p .least) (p .most) in
     let e = not-false (a .full) (c .before .before .before .if1 .left) in
     let d = decimal-here (a .s .now) (a .c .place .offset) (a .kind) (a .size) (c .decimal-of .result) (c .decimal-of .ensures) in
     let b = number-read (a .s .now) (a .c .place) (a .size) (a .c .area) 0 (a .kind) _ _ (p .going .place) (t .kind) (c .before .before .before .before .token-at .ensures) d in
@@ -97,7 +97,7 @@ returns-2 : tie.Need-returns-2
 returns-2 c =
     let a = c .before .before .before .before .before .before .before .before .before .before .before .args in
     let p = c .before .before .before .before .before .before .before .before .before .before .before .pre in
-    let t = number-token (a .s .now) (a .c .place .offset) (a .kind) (a .size) (p .here) (p .number) in
+    let t = number-token (p .reading) (a .s .now) (a .c .place .offset) (a .kind) (a .size) (p .here) (p .least) (p .most) in
     let e = not-false (a .full) (c .before .before .before .before .before .before .if1 .left) in
     let d = decimal-here (a .s .now) (a .c .place .offset) (a .kind) (a .size) (c .before .before .before .decimal-of .result) (c .before .before .before .decimal-of .ensures) in
     let b = number-read (a .s .now) (a .c .place) (a .size) (a .c .area) 0 (a .kind) _ _ (p .going .place) (t .kind) (c .before .before .before .before .before .before .before .token-at .ensures) d in

@@ -16,7 +16,7 @@ behind-requires : tie.Need-behind-requires
 behind-requires c κs =
     let a = c .before .before .before .before .before .before .before .args in
     let p = c .before .before .before .before .before .before .before .pre in
-    let t = number-token (a .s .now) (a .c .place .offset) (a .kind) (a .size) (p .here) (p .number) in
+    let t = number-token (p .reading) (a .s .now) (a .c .place .offset) (a .kind) (a .size) (p .here) (p .least) (p .most) in
     (p .going .place, t .token)
 
 record-length-requires : tie.Need-record-length-requires
@@ -35,8 +35,8 @@ returns : tie.Need-returns
 returns c =
     let a = c .before .before .before .before .before .before .before .before .before .args in
     let p = c .before .before .before .before .before .before .before .before .before .pre in
-    let t = number-token (a .s .now) (a .c .place .offset) (a .kind) (a .size) (p .here) (p .number) in
-    λ l. plain-wrote (a .full) (a .s .now) (a .kind) (a .size) 0 (a .c) _ (a .store .now) _ l (number-plain (a .kind) (a .size) (p .number) (t .most))
+    let t = number-token (p .reading) (a .s .now) (a .c .place .offset) (a .kind) (a .size) (p .here) (p .least) (p .most) in
+    λ l. plain-wrote (a .full) (a .s .now) (a .kind) (a .size) 0 (a .c) _ (a .store .now) _ l (number-plain (a .kind) (a .size) (p .least) (p .most))
     (p .going) (t .token) (c .before .behind .ensures) (ap (λ x. a .c .at + x) (c .record-length .ensures)) refl (c .before .before .before .before .put-number .ensures)
 
 pub write-number-spec : {M : Type 1} → statement M

@@ -6,20 +6,20 @@ use borrow.Author.Tests.{eq-eqb, ne-eqb}
 use lib.ListN.{length}
 use Rattle.text.specs.Bytes.{is}
 use Rattle.text.proofs.Runs.{runs-fits}
-use Rattle.quotes.specs.Answers.{quoteEnd}
+use Rattle.quotes.specs.Answers.{markEnd}
 use Rattle.quotes.proofs.Quotes.{quote-go, quote-here, quote-open, quote-over, quote-block}
 use Rattle.quotes.proofs.parse_enclosed.Statement.{statement}
 use Rattle.quotes.proofs.parse_enclosed.Tie as tie
 
 -- the closing from the start on is the closing from here on
 abbrev Inv-loop : tie.InvT-loop
-Inv-loop s from mark at₀ at = quoteEnd mark s from ≡ quoteEnd mark s at
+Inv-loop s from mark at₀ at = markEnd mark s from ≡ markEnd mark s at
 
 abbrev μ-loop : tie.MeasureT-loop
 μ-loop s from mark at₀ at = length s - at
 
 abbrev Inv-loop2 : tie.InvT-loop2
-Inv-loop2 s from mark at₀ at = quoteEnd mark s from ≡ quoteEnd mark s at
+Inv-loop2 s from mark at₀ at = markEnd mark s from ≡ markEnd mark s at
 
 abbrev μ-loop2 : tie.MeasureT-loop2
 μ-loop2 s from mark at₀ at = length s - at

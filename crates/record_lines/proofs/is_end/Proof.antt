@@ -14,7 +14,7 @@ returns c = told isEnd true 0 (7 ∷ []) refl (c .before .args .kind) (c .match 
 
 returns-2 : tie.Need-returns-2
 unfolding kindOf isEnd
-returns-2 c = told isEnd false 1 (2 ∷ 3 ∷ 4 ∷ 5 ∷ 6 ∷ 8 ∷ 9 ∷ 10 ∷ 11 ∷ 12 ∷ 13 ∷ 14 ∷ 15 ∷ []) refl (c .before .args .kind) (c .match .keys2)
+returns-2 c = told isEnd false 1 (2 ∷ 3 ∷ 4 ∷ 5 ∷ 6 ∷ 8 ∷ 9 ∷ 10 ∷ 11 ∷ 12 ∷ 13 ∷ 14 ∷ 15 ∷ 16 ∷ []) refl (c .before .args .kind) (c .match .keys2)
 
 pub is-end-spec : {M : Type 1} → statement M
 is-end-spec = tie.close (tie.spec returns returns-2)

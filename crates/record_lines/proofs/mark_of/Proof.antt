@@ -49,7 +49,7 @@ returns-6 c = told markOf 59 13 [] refl (c .before .before .args .kind) (c .befo
 
 returns-7 : tie.Need-returns-7
 unfolding kindOf markOf
-returns-7 c = told markOf 0 0 (1 ∷ 2 ∷ 3 ∷ 5 ∷ 7 ∷ 10 ∷ 14 ∷ 15 ∷ []) refl (c .before .args .kind) (c .match .keys7)
+returns-7 c = told markOf 0 0 (1 ∷ 2 ∷ 3 ∷ 5 ∷ 7 ∷ 10 ∷ 14 ∷ 15 ∷ 16 ∷ []) refl (c .before .args .kind) (c .match .keys7)
 
 pub mark-of-spec : {M : Type 1} → statement M
 mark-of-spec =

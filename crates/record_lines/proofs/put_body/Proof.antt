@@ -9,8 +9,7 @@ use Rattle.numbers.specs.Spelling.{renderNumber}
 use Rattle.kinds.specs.Kinds.{isContent, marksOf}
 use Rattle.record_lines.specs.Writing.{bodyText}
 use Rattle.numerals.proofs.Wrote.{wrote-none, wrote-as, room-as}
-use Rattle.record_lines.proofs.Lines.{body-content, body-parts, body-uncertain, body-none, parts-short}
-use Rattle.contents.proofs.Kept.{own-inside, own-parts}
+use Rattle.record_lines.proofs.Lines.{body-content, body-parts, body-uncertain, body-none, writable-inside, writable-parts, parts-short}
 use Rattle.record_lines.proofs.put_body.Statement.{statement}
 use Rattle.record_lines.proofs.put_body.Tie as tie
 
@@ -34,7 +33,7 @@ unfolding isContent
 sub-put-part c =
     let s = c .before .before .before .before .before .before .before .before .before .before .before in
     let content = sym (c .before .before .before .before .before .before .before .before .shape .ensures) ∙ c .before .before .before .before .enum-told .given .1 in
-    let kept = own-inside (s .args .area .now) (s .args .kind) (s .args .fields) (s .pre .0) (ap isContent content) in
+    let kept = writable-inside (s .args .area .now) (s .args .kind) (s .args .fields) (s .pre .0) (ap isContent content) in
     omega (arith, kept .marked, c .marks .ensures)
 
 put-part-requires : tie.Need-put-part-requires
@@ -42,7 +41,7 @@ unfolding isContent
 put-part-requires c κs =
     let s = c .before .before .before .before .before .before .before .before .before .before .before in
     let content = sym (c .before .before .before .before .before .before .before .before .shape .ensures) ∙ c .before .before .before .before .enum-told .given .1 in
-    let kept = own-inside (s .args .area .now) (s .args .kind) (s .args .fields) (s .pre .0) (ap isContent content) in
+    let kept = writable-inside (s .args .area .now) (s .args .kind) (s .args .fields) (s .pre .0) (ap isContent content) in
     let room = room-as _ _ (body-content _ _ (s .args .fields) content) (s .pre .1) in
     let size = length-take (s .args .fields .token .length - marksOf (s .args .kind)) (drop (s .args .fields .number) (s .args .area .now)) in
     let rest = length-drop (s .args .fields .number) (s .args .area .now) in
@@ -59,7 +58,7 @@ unfolding isContent
 put-number-requires c κs =
     let s = c .before .before .before .before .before .before .before .before .before in
     let parts = sym (c .before .before .before .before .before .before .shape .ensures) ∙ c .before .before .enum-told2 .given .1 in
-    let kept = own-parts (s .args .area .now) (s .args .kind) (s .args .fields) (s .pre .0) (ap isContent parts) in
+    let kept = writable-parts (s .args .area .now) (s .args .kind) (s .args .fields) (s .pre .0) (ap isContent parts) in
     rw (c .decimal-of .ensures) (parts-short false (s .args .fields .parts) kept, room-as _ _ (body-parts _ _ (s .args .fields) parts) (s .pre .1))
 
 enum-told-3 : tie.Need-enum-told-3
@@ -73,7 +72,7 @@ unfolding isContent
 put-number-requires-2 c κs =
     let s = c .before .before .before .before .before .before .before .before .before in
     let parts = sym (c .before .before .before .before .before .before .shape .ensures) ∙ c .before .before .enum-told3 .given .1 in
-    let kept = own-parts (s .args .area .now) (s .args .kind) (s .args .fields) (s .pre .0) (ap isContent parts) in
+    let kept = writable-parts (s .args .area .now) (s .args .kind) (s .args .fields) (s .pre .0) (ap isContent parts) in
     rw (c .decimal-of2 .ensures) (parts-short true (s .args .fields .parts) kept, room-as _ _ (body-uncertain _ _ (s .args .fields) parts) (s .pre .1))
 
 same-length : tie.Need-same-length

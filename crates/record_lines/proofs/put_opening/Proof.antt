@@ -64,7 +64,7 @@ returns : tie.Need-returns
 unfolding kindOf openingText keyData keySave keyLoop
 returns c =
     let s = c .before .before in
-    wrote-as (told openingText [] 0 (7 ∷ 10 ∷ 14 ∷ 15 ∷ []) refl (s .args .kind) (c .match .keys1)) (wrote-none _ _)
+    wrote-as (told openingText [] 0 (7 ∷ 10 ∷ 14 ∷ 15 ∷ 16 ∷ []) refl (s .args .kind) (c .match .keys1)) (wrote-none _ _)
 
 same-length : tie.Need-same-length
 same-length c = search needs

@@ -1,68 +1,66 @@
--- `record_lines::write_line` meets its contract: each piece is written behind the one before. Assumes nothing.
+-- `record_lines::write_line` meets its contract: the token, behind a space or not. Assumes nothing.
 use borrow.Author.Needs.{needs}
 use mathlib.Core.Path.{sym, _∙_}
-use mathlib.Core.List.{_++_}
+use mathlib.Core.List.{[], _∷_}
 use native.Mathlib.Omega.{arith}
-use Rattle.record_lines.specs.Writing.{openingText, bodyText, closingText}
-use Rattle.numerals.proofs.Wrote.{wrote-none, wrote-as, wrote-then, wrote-room, room-as, room-first}
-use Rattle.record_lines.proofs.Lines.{line-pieces, line-none}
+use Rattle.record_lines.specs.Lines.{plainLine}
+use Rattle.numerals.proofs.Wrote.{wrote-as, wrote-then, wrote-room, room-as, room-first}
+use Rattle.record_lines.proofs.Lines.{line-led, line-plain, rule-writable}
 use Rattle.record_lines.proofs.write_line.Statement.{statement}
 use Rattle.record_lines.proofs.write_line.Tie as tie
 
-is-end-requires : tie.Need-is-end-requires
-is-end-requires c κs = search needs
+is-led-requires : tie.Need-is-led-requires
+is-led-requires c κs = search needs
 
-returns : tie.Need-returns
-returns c = wrote-as (sym (line-none _ _ (c .before .before .before .before .args .fields) (sym (c .before .is-end .ensures) ∙ c .if1 .taken))) (wrote-none _ _)
-
-put-opening-requires : tie.Need-put-opening-requires
-put-opening-requires c κs =
+put-byte-requires : tie.Need-put-byte-requires
+put-byte-requires c κs =
     let s = c .before .before .before .before .before in
-    let line = line-pieces (s .args .area .now) (s .args .kind) (s .args .fields) (sym (c .before .before .is-end .ensures) ∙ c .before .if1 .left) in
-    let body = bodyText (s .args .area .now) (s .args .kind) (s .args .fields) in
-    let end = closingText (s .args .kind) in
+    let line = line-led (s .args .reading) (s .args .area .now) (s .args .kind) (s .args .fields) (sym (c .before .before .is-led .ensures) ∙ c .before .if1 .taken) in
     let room = room-as _ _ line (s .pre .1) in
-    room-first _ _ (openingText (s .args .kind)) (body ++ end) room
+    room-first _ _ (32 ∷ []) (plainLine (s .args .area .now) (s .args .kind) (s .args .fields)) room
 
-put-body-requires : tie.Need-put-body-requires
-put-body-requires c κs =
+put-token-requires : tie.Need-put-token-requires
+put-token-requires c κs =
     let s = c .before .before .before .before .before .before .before .before .before in
-    let line = line-pieces (s .args .area .now) (s .args .kind) (s .args .fields) (sym (c .before .before .before .before .before .before .is-end .ensures) ∙ c .before .before .before .before .before .if1 .left) in
-    let body = bodyText (s .args .area .now) (s .args .kind) (s .args .fields) in
-    let end = closingText (s .args .kind) in
+    let line = line-led (s .args .reading) (s .args .area .now) (s .args .kind) (s .args .fields) (sym (c .before .before .before .before .before .before .is-led .ensures) ∙ c .before .before .before .before .before .if1 .taken) in
     let room = room-as _ _ line (s .pre .1) in
-    (s .pre .0, room-first _ _ body end (wrote-room (body ++ end) room (c .before .before .before .put-opening .ensures)))
-
-put-closing-requires : tie.Need-put-closing-requires
-put-closing-requires c κs =
-    let s = c .before .before .before .before .before .before .before .before .before .before .before .before .before in
-    let line = line-pieces (s .args .area .now) (s .args .kind) (s .args .fields) (sym (c .before .before .before .before .before .before .before .before .before .before .is-end .ensures) ∙ c .before .before .before .before .before .before .before .before .before .if1 .left) in
-    let body = bodyText (s .args .area .now) (s .args .kind) (s .args .fields) in
-    let end = closingText (s .args .kind) in
-    let room = room-as _ _ line (s .pre .1) in
-    wrote-room end (wrote-room (body ++ end) room (c .before .before .before .before .before .before .before .put-opening .ensures)) (c .before .before .before .put-body .ensures)
+    (rule-writable (s .args .reading) (s .args .area .now) (s .args .kind) (s .args .fields) (s .pre .0), wrote-room (plainLine (s .args .area .now) (s .args .kind) (s .args .fields)) room (c .before .before .before .put-byte .ensures))
 
 same-length : tie.Need-same-length
 same-length c = search needs
 
+returns : tie.Need-returns
+returns c =
+    let s = c .before .before .before .before .before .before .before .before .before .before .before .before in
+    let line = line-led (s .args .reading) (s .args .area .now) (s .args .kind) (s .args .fields) (sym (c .before .before .before .before .before .before .before .before .before .is-led .ensures) ∙ c .before .before .before .before .before .before .before .before .if1 .taken) in
+    let room = room-as _ _ line (s .pre .1) in
+    wrote-as (sym line) (wrote-then (omega arith) (c .before .before .before .before .before .before .put-byte .ensures) (c .before .before .put-token .ensures))
+
+put-token-requires-2 : tie.Need-put-token-requires-2
+put-token-requires-2 c κs =
+    let s = c .before .before .before .before .before in
+    let line = line-plain (s .args .reading) (s .args .area .now) (s .args .kind) (s .args .fields) (sym (c .before .before .is-led .ensures) ∙ c .before .if1 .left) in
+    let room = room-as _ _ line (s .pre .1) in
+    (rule-writable (s .args .reading) (s .args .area .now) (s .args .kind) (s .args .fields) (s .pre .0), room)
+
+same-length-2 : tie.Need-same-length-2
+same-length-2 c = search needs
+
 returns-2 : tie.Need-returns-2
 returns-2 c =
-    let s = c .before .before .before .before .before .before .before .before .before .before .before .before .before .before .before .before in
-    let line = line-pieces (s .args .area .now) (s .args .kind) (s .args .fields) (sym (c .before .before .before .before .before .before .before .before .before .before .before .before .before .is-end .ensures) ∙ c .before .before .before .before .before .before .before .before .before .before .before .before .if1 .left) in
-    let body = bodyText (s .args .area .now) (s .args .kind) (s .args .fields) in
-    let end = closingText (s .args .kind) in
-    let room = room-as _ _ line (s .pre .1) in
-    let more = wrote-room (body ++ end) room (c .before .before .before .before .before .before .before .before .before .before .put-opening .ensures) in
-    wrote-as (sym line) (wrote-then (omega arith) (c .before .before .before .before .before .before .before .before .before .before .put-opening .ensures) (wrote-then (omega arith) (c .before .before .before .before .before .before .put-body .ensures) (c .before .before .put-closing .ensures)))
+    let s = c .before .before .before .before .before .before .before .before in
+    let line = line-plain (s .args .reading) (s .args .area .now) (s .args .kind) (s .args .fields) (sym (c .before .before .before .before .before .is-led .ensures) ∙ c .before .before .before .before .if1 .left) in
+    wrote-as (sym line) (c .before .before .put-token2 .ensures)
 
 pub write-line-spec : {M : Type 1} → statement M
 write-line-spec =
     tie.close
     (tie.spec
-    is-end-requires
-    returns
-    put-opening-requires
-    put-body-requires
-    put-closing-requires
+    is-led-requires
+    put-byte-requires
+    put-token-requires
     same-length
+    returns
+    put-token-requires-2
+    same-length-2
     returns-2)

@@ -12,13 +12,13 @@ use Rattle.rendering.proofs.write_lines.Statement.{statement}
 use Rattle.rendering.proofs.write_lines.Tie as tie
 
 abbrev Inv-loop : tie.InvT-loop
-Inv-loop store area out₀ from₀ at₀ out from at = Writing store area out₀ out from at
+Inv-loop reading store area out₀ from₀ at₀ out from at = Writing reading store area out₀ out from at
 
 abbrev μ-loop : tie.MeasureT-loop
-μ-loop store area out₀ from₀ at₀ out from at = length store - from
+μ-loop reading store area out₀ from₀ at₀ out from at = length store - from
 
 loop-holds : tie.Need-loop-holds Inv-loop μ-loop
-loop-holds c = writing-first _ _ _ (c .before .before .before .pre .0) (c .before .before .before .pre .1)
+loop-holds c = writing-first _ _ _ _ (c .before .before .before .pre .0) (c .before .before .before .pre .1)
 
 read-record-requires : tie.Need-read-record-requires Inv-loop μ-loop
 read-record-requires c κs = search needs
@@ -33,13 +33,13 @@ same-length : tie.Need-same-length Inv-loop μ-loop
 same-length c =
     let a = c .before .before .before .before .before .before .before .before .args in
     let here = c .before .before .before .before .loop in
-    writing-length (a .store .now) (a .area .now) (a .out .now) (here .out) (here .from) (here .at) (here .inv)
+    writing-length (a .reading) (a .store .now) (a .area .now) (a .out .now) (here .out) (here .from) (here .at) (here .inv)
 
 returns : tie.Need-returns Inv-loop μ-loop
 returns c =
     let a = c .before .before .before .before .before .before .before .before .args in
     let here = c .before .before .before .before .loop in
-    writing-none (a .store .now) (a .area .now) (a .out .now) (here .out) (here .from) (here .at) (here .inv) (c .before .before .before .loop-test .taken) (sym (c .before .before .read-record .ensures) ∙ c .enum-told .given .1)
+    writing-none (a .reading) (a .store .now) (a .area .now) (a .out .now) (here .out) (here .from) (here .at) (here .inv) (c .before .before .before .loop-test .taken) (sym (c .before .before .read-record .ensures) ∙ c .enum-told .given .1)
 
 write-line-requires : tie.Need-write-line-requires Inv-loop μ-loop
 write-line-requires c κs =
@@ -48,7 +48,7 @@ write-line-requires c κs =
     let got = c .before .before .kind .given in
     let e : entryAt (a .store .now) (here .from) ≡ Record (got .0 .0) (got .0 .1 .0) (got .0 .1 .1 .0) = sym (c .before .before .before .before .read-record .ensures) ∙ got .1 in
     let test = c .before .before .before .before .before .loop-test .taken in
-    (writing-own (a .store .now) (a .area .now) (a .out .now) (here .out) (here .from) (here .at) (here .inv) (got .0 .0) (got .0 .1 .0) (got .0 .1 .1 .0) test e, writing-room (a .store .now) (a .area .now) (a .out .now) (here .out) (here .from) (here .at) (here .inv) (got .0 .0) (got .0 .1 .0) (got .0 .1 .1 .0) test e)
+    (writing-own (a .reading) (a .store .now) (a .area .now) (a .out .now) (here .out) (here .from) (here .at) (here .inv) (got .0 .0) (got .0 .1 .0) (got .0 .1 .1 .0) test e, writing-room (a .reading) (a .store .now) (a .area .now) (a .out .now) (here .out) (here .from) (here .at) (here .inv) (got .0 .0) (got .0 .1 .0) (got .0 .1 .1 .0) test e)
 
 loop-less : tie.Need-loop-less Inv-loop μ-loop
 loop-less c =
@@ -67,19 +67,19 @@ loop-again c =
     let got = c .before .before .before .before .before .kind .given in
     let e : entryAt (a .store .now) (here .from) ≡ Record (got .0 .0) (got .0 .1 .0) (got .0 .1 .1 .0) = sym (c .before .before .before .before .before .before .before .read-record .ensures) ∙ got .1 in
     let test = c .before .before .before .before .before .before .before .before .loop-test .taken in
-    writing-more (a .store .now) (a .area .now) (a .out .now) (here .out) (here .from) (here .at) (here .inv) (got .0 .0) (got .0 .1 .0) (got .0 .1 .1 .0) test e _ _ (c .before .before .write-line .ensures)
+    writing-more (a .reading) (a .store .now) (a .area .now) (a .out .now) (here .out) (here .from) (here .at) (here .inv) (got .0 .0) (got .0 .1 .0) (got .0 .1 .1 .0) test e _ _ (c .before .before .write-line .ensures)
 
 same-length-2 : tie.Need-same-length-2 Inv-loop μ-loop
 same-length-2 c =
     let a = c .before .before .before .before .before .args in
     let here = c .before .loop in
-    writing-length (a .store .now) (a .area .now) (a .out .now) (here .out) (here .from) (here .at) (here .inv)
+    writing-length (a .reading) (a .store .now) (a .area .now) (a .out .now) (here .out) (here .from) (here .at) (here .inv)
 
 returns-2 : tie.Need-returns-2 Inv-loop μ-loop
 returns-2 c =
     let a = c .before .before .before .before .before .args in
     let here = c .before .loop in
-    writing-end (a .store .now) (a .area .now) (a .out .now) (here .out) (here .from) (here .at) (here .inv) (c .loop-test .left)
+    writing-end (a .reading) (a .store .now) (a .area .now) (a .out .now) (here .out) (here .from) (here .at) (here .inv) (c .loop-test .left)
 
 pub write-lines-spec : {M : Type 1} → statement M
 write-lines-spec =

@@ -30,7 +30,7 @@ add-behind : tie.Need-add-behind
 add-behind c =
     let given = c .before .before .before .before .before .before .args in
     let got = c .before .found .given in
-    let inside = content-inside (given .store .now) (given .area .now) (given .number) (got .0 .0) (got .0 .1 .0) (sym (c .before .before .before .find-content .ensures) ∙ got .1) in
+    let inside = content-inside (given .reading) (given .store .now) (given .area .now) (given .number) (got .0 .0) (got .0 .1 .0) (sym (c .before .before .before .find-content .ensures) ∙ got .1) in
     omega (arith, inside)
 
 sub-result-2 : tie.Need-sub-result-2
@@ -43,7 +43,7 @@ part-result-end-2 : tie.Need-part-result-end-2
 part-result-end-2 c =
     let given = c .before .before .before .before .before .before .args in
     let got = c .before .found .given in
-    content-inside (given .store .now) (given .area .now) (given .number) (got .0 .0) (got .0 .1 .0) (sym (c .before .before .before .find-content .ensures) ∙ got .1)
+    content-inside (given .reading) (given .store .now) (given .area .now) (given .number) (got .0 .0) (got .0 .1 .0) (sym (c .before .before .before .find-content .ensures) ∙ got .1)
 
 returns-2 : tie.Need-returns-2
 unfolding partBytes

@@ -42,17 +42,17 @@ packed-requires-2 c κs = search needs
 returns : tie.Need-returns
 returns c =
     let a = c .before .before .before .before .before .before .before .before .args in
-    c .packed .ensures ∙ rw (c .before .number-kind .ensures) (ap packedOf (number-is _ (a .s .now) (a .at) (a .end) _ (c .before .before .before .before .before .parse-numeric .ensures) _ (c .before .before .before .number .given .1)))
+    c .packed .ensures ∙ rw (c .before .number-kind .ensures) (ap packedOf (number-is _ _ (a .s .now) (a .at) (a .end) _ (c .before .before .before .before .before .parse-numeric .ensures) _ (c .before .before .before .number .given .1)))
 
 returns-2 : tie.Need-returns-2
 returns-2 c =
     let a = c .before .before .before .before .before .args in
-    ap packedOf (number-over _ (a .s .now) (a .at) (a .end) _ (c .before .before .parse-numeric .ensures) (c .enum-told .given .1))
+    ap packedOf (number-over _ _ (a .s .now) (a .at) (a .end) _ (c .before .before .parse-numeric .ensures) (c .enum-told .given .1))
 
 returns-3 : tie.Need-returns-3
 returns-3 c =
     let a = c .before .before .before .before .before .before .args in
-    c .packed2 .ensures ∙ ap packedOf (number-not _ (a .s .now) (a .at) (a .end) _ (c .before .before .before .parse-numeric .ensures) (c .before .enum-told2 .given .1))
+    c .packed2 .ensures ∙ ap packedOf (number-not _ _ (a .s .now) (a .at) (a .end) _ (c .before .before .before .parse-numeric .ensures) (c .before .enum-told2 .given .1))
 
 pub number-or-spec : {M : Type 1} → statement M
 number-or-spec =

@@ -1,72 +1,33 @@
--- `values::pack_point`: by the byte behind the point. Assumes nothing.
-use Prim.Native.Nat.{_+_}
-use mathlib.Core.Path.{_≡_, sym, _∙_}
-use mathlib.Core.Bool.{false}
-use native.Mathlib.Omega.{arith}
-use borrow.Author.Tests.{not-true, not-false}
-use lib.ListN.{getD}
-use Rattle.text.specs.Bytes.{isDigit}
-use Rattle.text.proofs.Runs.{past-end}
-use Rattle.words.proofs.Words.{word-from, word-within}
-use Rattle.values.specs.Pieces.{pointAt}
+-- `values::pack_point`: by the reading. Assumes nothing.
 use borrow.Author.Needs.{needs}
 use Rattle.values.proofs.pack_point.Statement.{statement}
 use Rattle.values.proofs.pack_point.Tie as tie
 
-add-next : tie.Need-add-next
-add-next c = search needs
+enum-told : tie.Need-enum-told
+enum-told c = search needs
 
-packed-requires : tie.Need-packed-requires
-packed-requires c κs = search needs
+pack-first-point-requires : tie.Need-pack-first-point-requires
+pack-first-point-requires c κs = search needs
+
+enum-told-2 : tie.Need-enum-told-2
+enum-told-2 c = search needs
+
+pack-alone-requires : tie.Need-pack-alone-requires
+pack-alone-requires c κs = search needs
 
 returns : tie.Need-returns
-unfolding pointAt
-returns c =
-    let a = c .before .before .before .args in
-    let d : isDigit (getD (a .s .now) (a .at + 1) 0) ≡ false = unfold isDigit in rw (past-end (a .s .now) (a .at + 1) (c .before .if1 .taken)) in
-    rw (c .packed .ensures, d)
-
-shared-slice-read-is-digit : tie.Need-shared-slice-read-is-digit
-shared-slice-read-is-digit c = search needs
-
-is-digit-requires : tie.Need-is-digit-requires
-is-digit-requires c κs = search needs
-
-packed-requires-2 : tie.Need-packed-requires-2
-packed-requires-2 c κs = search needs
+returns c = rw (c .before .enum-told .given .1) (c .pack-first-point .ensures)
 
 returns-2 : tie.Need-returns-2
-unfolding pointAt
-returns-2 c = rw (c .packed2 .ensures, sym (c .before .before .is-digit .ensures) ∙ not-true _ (c .before .if2 .taken))
-
-parse-identifier-requires : tie.Need-parse-identifier-requires
-parse-identifier-requires c κs = search needs
-
-number-or-requires : tie.Need-number-or-requires
-number-or-requires c κs =
-    let a = c .before .before .before .before .before .before .args in
-    let p = c .before .before .before .before .before .before .pre in
-    let l = word-within (a .s .now) (a .at) (omega (arith, p .1)) in
-    let f = word-from (a .s .now) (a .at) in
-    let e = c .parse-identifier .ensures in
-    (omega (arith, e, f), omega (arith, e, l), p .0, omega arith)
-
-returns-3 : tie.Need-returns-3
-unfolding pointAt
-returns-3 c =
-    rw (c .number-or .ensures, c .before .parse-identifier .ensures, sym (c .before .before .before .is-digit .ensures) ∙ not-false _ (c .before .before .if2 .left))
+returns-2 c = rw (c .before .enum-told2 .given .1) (c .pack-alone .ensures)
 
 pub pack-point-spec : {M : Type 1} → statement M
 pack-point-spec =
     tie.close
     (tie.spec
-    add-next
-    packed-requires
+    enum-told
+    pack-first-point-requires
+    enum-told-2
+    pack-alone-requires
     returns
-    shared-slice-read-is-digit
-    is-digit-requires
-    packed-requires-2
-    returns-2
-    parse-identifier-requires
-    number-or-requires
-    returns-3)
+    returns-2)

@@ -6,7 +6,7 @@ use Rattle.walking.proofs.write_item.Statement.{statement}
 use Rattle.walking.proofs.write_item.Tie as tie
 
 at-loop-requires : tie.Need-at-loop-requires
-at-loop-requires c κs = search needs
+at-loop-requires c κs = c .before .before .before .before .pre .going .place .within
 
 write-loop-item-requires : tie.Need-write-loop-item-requires
 write-loop-item-requires c κs = (c .before .before .before .before .before .before .before .before .pre, sym (c .before .before .before .at-loop .ensures) ∙ c .before .before .if1 .taken)
@@ -22,8 +22,9 @@ returns c = search needs
 
 write-tag-item-requires : tie.Need-write-tag-item-requires
 write-tag-item-requires c κs =
+    let a = c .before .before .before .before .before .before .before .before .args in
     let h = c .before .before .before .before .before .before .before .before .pre in
-    (h, tag-here (c .before .before .before .before .before .before .before .before .args .s .now) (c .before .before .before .before .before .before .before .before .args .c .place .offset) (h .bare) (sym (c .before .before .before .at-loop .ensures) ∙ c .before .before .if1 .left) (h .read))
+    (h, tag-here (a .reading) (a .s .now) (a .c .place .offset) (h .bare) (sym (c .before .before .before .at-loop .ensures) ∙ c .before .before .if1 .left) (h .read))
 
 same-length-3 : tie.Need-same-length-3
 same-length-3 c = search needs

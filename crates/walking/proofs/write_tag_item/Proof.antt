@@ -1,7 +1,7 @@
 -- `walking::write_tag_item`: the tag, then the one value behind it. Assumes nothing.
 use borrow.Author.Needs.{needs}
 use Prim.Native.Nat.{_-_}
-use mathlib.Core.Path.{refl, sym, ap, _∙_}
+use mathlib.Core.Path.{refl, ap}
 use native.Mathlib.Omega.{arith}
 use Rattle.words.proofs.Words.{word-from}
 use Rattle.kinds.specs.Kinds.{kindOf, shapeOf}
@@ -24,7 +24,7 @@ write-text-requires c κs =
     let d = desk (a .c) (a .store .now) (a .area .now) in
     let p = c .before .before .before .before .before .before .before .pre in
     let q = ap (λ x. x - a .c .place .offset) (c .before .before .long-word-end .ensures) in
-    record { going = p .0 .going; token = tag-token (a .full) s d (p .0) (p .1) _ q; content = unfold kindOf shapeOf in refl; room = tag-room (a .full) s d (p .0) (p .1) _ q }
+    record { going = p .0 .going; token = tag-token (a .reading) (a .full) s d (p .0) (p .1) _ q; content = unfold kindOf shapeOf in refl; room = tag-room (a .reading) (a .full) s d (p .0) (p .1) _ q }
 
 write-values-requires : tie.Need-write-values-requires
 write-values-requires c κs =
@@ -34,7 +34,7 @@ write-values-requires c κs =
     let p = c .before .before .before .before .before .before .before .before .before .before .before .before .before .before .pre in
     let q = ap (λ x. x - a .c .place .offset) (c .before .before .before .before .before .before .before .before .before .long-word-end .ensures) in
     let w = c .before .before .before .before .before .before .write-text .ensures in
-    record { going = w .going; room = tag-value-room (a .full) s d (p .0) (p .1) _ q _ w }
+    record { going = w .going; room = tag-value-room (a .reading) (a .full) s d (p .0) (p .1) _ q _ w }
 
 same-length : tie.Need-same-length
 same-length c =
@@ -43,7 +43,7 @@ same-length c =
     let d = desk (a .c) (a .store .now) (a .area .now) in
     let p = c .before .before .before .before .before .before .before .before .before .before .before .before .before .before .before .before .before .before .before .pre in
     let q = ap (λ x. x - a .c .place .offset) (c .before .before .before .before .before .before .before .before .before .before .before .before .before .before .long-word-end .ensures) in
-    tag-done (a .full) s d (p .0) (p .1) _ q _ (c .before .before .before .before .before .before .before .before .before .before .before .write-text .ensures) _ (c .before .before .before .before .write-values .ensures) .0 .store-length
+    tag-done (a .reading) (a .full) s d (p .0) (p .1) _ q _ (c .before .before .before .before .before .before .before .before .before .before .before .write-text .ensures) _ (c .before .before .before .before .write-values .ensures) .0 .store-length
 
 same-length-2 : tie.Need-same-length-2
 same-length-2 c =
@@ -52,7 +52,7 @@ same-length-2 c =
     let d = desk (a .c) (a .store .now) (a .area .now) in
     let p = c .before .before .before .before .before .before .before .before .before .before .before .before .before .before .before .before .before .before .before .pre in
     let q = ap (λ x. x - a .c .place .offset) (c .before .before .before .before .before .before .before .before .before .before .before .before .before .before .long-word-end .ensures) in
-    tag-done (a .full) s d (p .0) (p .1) _ q _ (c .before .before .before .before .before .before .before .before .before .before .before .write-text .ensures) _ (c .before .before .before .before .write-values .ensures) .0 .area-length
+    tag-done (a .reading) (a .full) s d (p .0) (p .1) _ q _ (c .before .before .before .before .before .before .before .before .before .before .before .write-text .ensures) _ (c .before .before .before .before .write-values .ensures) .0 .area-length
 
 returns : tie.Need-returns
 returns c =
@@ -61,7 +61,7 @@ returns c =
     let d = desk (a .c) (a .store .now) (a .area .now) in
     let p = c .before .before .before .before .before .before .before .before .before .before .before .before .before .before .before .before .before .before .before .pre in
     let q = ap (λ x. x - a .c .place .offset) (c .before .before .before .before .before .before .before .before .before .before .before .before .before .before .long-word-end .ensures) in
-    tag-done (a .full) s d (p .0) (p .1) _ q _ (c .before .before .before .before .before .before .before .before .before .before .before .write-text .ensures) _ (c .before .before .before .before .write-values .ensures) .1
+    tag-done (a .reading) (a .full) s d (p .0) (p .1) _ q _ (c .before .before .before .before .before .before .before .before .before .before .before .write-text .ensures) _ (c .before .before .before .before .write-values .ensures) .1
 
 pub write-tag-item-spec : {M : Type 1} → statement M
 write-tag-item-spec =

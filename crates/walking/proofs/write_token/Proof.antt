@@ -1,6 +1,6 @@
 -- `walking::write_token`: by the kind. Assumes nothing.
 use borrow.Author.Needs.{needs}
-use Rattle.putting.proofs.Numbers.{mark-kind, text-kind}
+use Rattle.putting.proofs.Numbers.{mark-kind}
 use Rattle.walking.proofs.write_token.Statement.{statement}
 use Rattle.walking.proofs.write_token.Tie as tie
 
@@ -18,7 +18,7 @@ returns c = c .before .before .write-mark .ensures (c .before .before .before .b
 write-text-requires : tie.Need-write-text-requires
 write-text-requires c κs =
     let p = c .before .before .before .before .before .before .pre in
-    record { going = p .going; token = p .token; content = text-kind (c .before .before .before .before .before .before .args .kind) (c .before .before .if1 .left) (p .most); room = p .room }
+    record { going = p .going; token = p .token; content = p .text (c .before .before .if1 .left); room = p .room }
 
 same-length-2 : tie.Need-same-length-2
 same-length-2 c = search needs

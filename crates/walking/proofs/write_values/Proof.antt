@@ -18,22 +18,22 @@ use Rattle.walking.proofs.write_values.Statement.{statement}
 use Rattle.walking.proofs.write_values.Tie as tie
 
 abbrev Inv-loop : tie.InvT-loop
-Inv-loop s full store₀ area₀ last₀ store area last = SoFar full s (valuesFrom s) (behindValues s) (desk last₀ store₀ area₀) (desk last store area)
+Inv-loop reading s full store₀ area₀ last₀ store area last = SoFar full s (valuesFrom reading s) (behindValues reading s) (desk last₀ store₀ area₀) (desk last store area)
 
 abbrev μ-loop : tie.MeasureT-loop
-μ-loop s full store₀ area₀ last₀ store area last = length s - last .place .offset
+μ-loop reading s full store₀ area₀ last₀ store area last = length s - last .place .offset
 
 loop-holds : tie.Need-loop-holds Inv-loop μ-loop
 loop-holds c =
     let a = c .before .before .before .args in
-    start (a .full) (a .s .now) (valuesFrom (a .s .now)) (behindValues (a .s .now)) (desk (a .c) (a .store .now) (a .area .now)) (c .before .before .before .pre .going) (c .before .before .before .pre .room)
+    start (a .full) (a .s .now) (valuesFrom (a .reading) (a .s .now)) (behindValues (a .reading) (a .s .now)) (desk (a .c) (a .store .now) (a .area .now)) (c .before .before .before .pre .going) (c .before .before .before .pre .room)
 
 trimmed-requires : tie.Need-trimmed-requires Inv-loop μ-loop
 trimmed-requires c κs = c .loop .inv .going .place
 
 -- what is found
-found : (b : tie.After-of Inv-loop μ-loop) → b .of .result ≡ foundAt (b .before .before .before .before .before .before .before .before .args .s .now) (b .before .before .before .trimmed .result .place .offset)
-found b = found-packed _ _ _ _ (b .before .pack-value .ensures) (b .of .ensures)
+found : (b : tie.After-of Inv-loop μ-loop) → b .of .result ≡ foundAt (b .before .before .before .before .before .before .before .before .args .reading) (b .before .before .before .before .before .before .before .before .args .s .now) (b .before .before .before .trimmed .result .place .offset)
+found b = found-packed _ _ _ _ _ (b .before .pack-value .ensures) (b .of .ensures)
 
 pack-value-requires : tie.Need-pack-value-requires Inv-loop μ-loop
 unfolding limit
@@ -58,9 +58,9 @@ returns c =
     let h = c .before .before .before .before .trimmed in
     let d₀ = desk (a .c) (a .store .now) (a .area .now) in
     let d = desk (h .result) (l .store) (l .area) in
-    let i = value-gap (a .full) (a .s .now) d₀ (l .last) (h .result) (l .store) (l .area) (l .inv) (h .ensures) in
+    let i = value-gap (a .reading) (a .full) (a .s .now) d₀ (l .last) (h .result) (l .store) (l .area) (l .inv) (h .ensures) in
     let g = trim-bare (a .s .now) (l .last) (h .result) (h .ensures) in
-    value-last (a .full) (a .s .now) d₀ d i g (λ k n q. not-value (c .before .of .result) (c .match .keys2) k n (found (c .before) ∙ q))
+    value-last (a .reading) (a .full) (a .s .now) d₀ d i g (λ k n q. not-value (c .before .of .result) (c .match .keys2) k n (found (c .before) ∙ q))
 
 write-found-requires : tie.Need-write-found-requires Inv-loop μ-loop
 write-found-requires c κs =
@@ -69,10 +69,10 @@ write-found-requires c κs =
     let h = c .before .before .before .before .before .before .before .before .trimmed in
     let d₀ = desk (a .c) (a .store .now) (a .area .now) in
     let d = desk (h .result) (l .store) (l .area) in
-    let i = value-gap (a .full) (a .s .now) d₀ (l .last) (h .result) (l .store) (l .area) (l .inv) (h .ensures) in
+    let i = value-gap (a .reading) (a .full) (a .s .now) d₀ (l .last) (h .result) (l .store) (l .area) (l .inv) (h .ensures) in
     let g = trim-bare (a .s .now) (l .last) (h .result) (h .ensures) in
-    let v = value-here (a .s .now) (h .result .place .offset) _ _ g (sym (found (c .before .before .before .before .before)) ∙ c .before .before .before .kind .given .1) in
-    record { going = i .going; here = v; room = value-room (a .full) (a .s .now) d₀ d _ _ i v }
+    let v = value-here (a .reading) (a .s .now) (h .result .place .offset) _ _ g (sym (found (c .before .before .before .before .before)) ∙ c .before .before .before .kind .given .1) in
+    record { going = i .going; here = v; room = value-room (a .reading) (a .full) (a .s .now) d₀ d _ _ i v }
 
 loop-less : tie.Need-loop-less Inv-loop μ-loop
 loop-less c =
@@ -81,10 +81,10 @@ loop-less c =
     let h = c .before .before .before .before .before .before .before .before .before .before .before .before .before .trimmed in
     let d₀ = desk (a .c) (a .store .now) (a .area .now) in
     let d = desk (h .result) (l .store) (l .area) in
-    let i = value-gap (a .full) (a .s .now) d₀ (l .last) (h .result) (l .store) (l .area) (l .inv) (h .ensures) in
+    let i = value-gap (a .reading) (a .full) (a .s .now) d₀ (l .last) (h .result) (l .store) (l .area) (l .inv) (h .ensures) in
     let g = trim-bare (a .s .now) (l .last) (h .result) (h .ensures) in
-    let v = value-here (a .s .now) (h .result .place .offset) _ _ g (sym (found (c .before .before .before .before .before .before .before .before .before .before)) ∙ c .before .before .before .before .before .before .before .before .kind .given .1) in
-    let n = value-next (a .full) (a .s .now) d₀ d _ _ _ i v (c .before .before .before .before .write-found .ensures) in
+    let v = value-here (a .reading) (a .s .now) (h .result .place .offset) _ _ g (sym (found (c .before .before .before .before .before .before .before .before .before .before)) ∙ c .before .before .before .before .before .before .before .before .kind .given .1) in
+    let n = value-next (a .reading) (a .full) (a .s .now) d₀ d _ _ _ i v (c .before .before .before .before .write-found .ensures) in
     omega (arith, n .1, n .2, trim-offset (a .s .now) (l .last) (h .result) (h .ensures), gap-from (a .s .now) (l .last .place .offset))
 
 loop-again : tie.Need-loop-again Inv-loop μ-loop
@@ -94,10 +94,10 @@ loop-again c =
     let h = c .before .before .before .before .before .before .before .before .before .before .before .before .before .trimmed in
     let d₀ = desk (a .c) (a .store .now) (a .area .now) in
     let d = desk (h .result) (l .store) (l .area) in
-    let i = value-gap (a .full) (a .s .now) d₀ (l .last) (h .result) (l .store) (l .area) (l .inv) (h .ensures) in
+    let i = value-gap (a .reading) (a .full) (a .s .now) d₀ (l .last) (h .result) (l .store) (l .area) (l .inv) (h .ensures) in
     let g = trim-bare (a .s .now) (l .last) (h .result) (h .ensures) in
-    let v = value-here (a .s .now) (h .result .place .offset) _ _ g (sym (found (c .before .before .before .before .before .before .before .before .before .before)) ∙ c .before .before .before .before .before .before .before .before .kind .given .1) in
-    value-next (a .full) (a .s .now) d₀ d _ _ _ i v (c .before .before .before .before .write-found .ensures) .0
+    let v = value-here (a .reading) (a .s .now) (h .result .place .offset) _ _ g (sym (found (c .before .before .before .before .before .before .before .before .before .before)) ∙ c .before .before .before .before .before .before .before .before .kind .given .1) in
+    value-next (a .reading) (a .full) (a .s .now) d₀ d _ _ _ i v (c .before .before .before .before .write-found .ensures) .0
 
 pub write-values-spec : {M : Type 1} → statement M
 write-values-spec =

@@ -3,7 +3,7 @@ use borrow.Author.Needs.{needs}
 use mathlib.Core.Path.{refl}
 use mathlib.Core.List.{[]}
 use Rattle.kinds.specs.Kinds.{kindOf, shapeOf}
-use Rattle.writing.proofs.Frames.{closing-place, closing-token, closed}
+use Rattle.writing.proofs.Frames.{closing-place, closed}
 use Rattle.writing.proofs.close_frame.Statement.{statement}
 use Rattle.writing.proofs.close_frame.Tie as tie
 
@@ -15,7 +15,7 @@ write-mark-requires c κs =
     let a = c .before .before .before .before .before .args in
     let p = c .before .before .before .before .before .pre in
     let k = closing-place (a .s .now) (a .c) (a .stop) (c .before .advance .result) (p .going) (p .closing) (c .before .advance .ensures) in
-    record { going = k .0; token = rw (k .1) (closing-token (a .s .now) (a .c .place .offset) (a .stop) (p .closing)); alone = unfold kindOf shapeOf in refl; room = rw (k .1) (p .room) }
+    record { going = k .0; token = rw (k .1) (p .closing .token); alone = unfold kindOf shapeOf in refl; room = rw (k .1) (p .room) }
 
 trimmed-requires : tie.Need-trimmed-requires
 trimmed-requires c κs = c .before .before .write-mark .ensures [] .going .place

@@ -8,15 +8,15 @@ use Rattle.writing.proofs.write_items.Statement.{statement}
 use Rattle.writing.proofs.write_items.Tie as tie
 
 abbrev Inv-loop : tie.InvT-loop
-Inv-loop s full store₀ area₀ here₀ store area here = InBlock full s (desk here₀ store₀ area₀) (desk here store area)
+Inv-loop reading s full store₀ area₀ here₀ store area here = InBlock reading full s (desk here₀ store₀ area₀) (desk here store area)
 
 abbrev μ-loop : tie.MeasureT-loop
-μ-loop s full store₀ area₀ here₀ store area here = length s - here .place .offset
+μ-loop reading s full store₀ area₀ here₀ store area here = length s - here .place .offset
 
 loop-holds : tie.Need-loop-holds Inv-loop μ-loop
 loop-holds c =
     let a = c .before .before .before .args in
-    block-start (a .full) (a .s .now) (desk (a .c) (a .store .now) (a .area .now)) (c .before .before .before .pre)
+    block-start (a .reading) (a .full) (a .s .now) (desk (a .c) (a .store .now) (a .area .now)) (c .before .before .before .pre)
 
 same-length : tie.Need-same-length Inv-loop μ-loop
 same-length c = c .before .before .loop .inv .onward .store-length
@@ -32,10 +32,10 @@ returns c =
     let l = c .before .before .loop in
     let d₀ = desk (a .c) (a .store .now) (a .area .now) in
     let d = desk (l .here) (l .store) (l .area) in
-    block-ended f s _ d₀ d (l .inv .ahead) (c .if1 .taken) (l .inv .onward)
+    block-ended (a .reading) f s _ d₀ d (l .inv .ahead) (c .if1 .taken) (l .inv .onward)
 
-write-item-or-frame-requires : tie.Need-write-item-or-frame-requires Inv-loop μ-loop
-write-item-or-frame-requires c κs = (c .before .before .before .before .loop .inv .ahead, c .before .before .if1 .left)
+write-part-requires : tie.Need-write-part-requires Inv-loop μ-loop
+write-part-requires c κs = (c .before .before .before .before .loop .inv .ahead, c .before .before .if1 .left)
 
 loop-less : tie.Need-loop-less Inv-loop μ-loop
 loop-less c =
@@ -45,7 +45,7 @@ loop-less c =
     let l = c .before .before .before .before .before .before .before .before .before .loop in
     let d₀ = desk (a .c) (a .store .now) (a .area .now) in
     let d = desk (l .here) (l .store) (l .area) in
-    let m = c .before .before .before .before .write-item-or-frame .ensures in
+    let m = c .before .before .before .before .write-part .ensures in
     omega (arith, m .further, m .ahead .going .place .within)
 
 loop-again : tie.Need-loop-again Inv-loop μ-loop
@@ -56,7 +56,7 @@ loop-again c =
     let l = c .before .before .before .before .before .before .before .before .before .loop in
     let d₀ = desk (a .c) (a .store .now) (a .area .now) in
     let d = desk (l .here) (l .store) (l .area) in
-    block-next f s d₀ d _ (l .inv) (c .before .before .before .before .write-item-or-frame .ensures)
+    block-next (a .reading) f s d₀ d _ (l .inv) (c .before .before .before .before .write-part .ensures)
 
 pub write-items-spec : {M : Type 1} → statement M
 write-items-spec =
@@ -68,6 +68,6 @@ write-items-spec =
     same-length
     same-length-2
     returns
-    write-item-or-frame-requires
+    write-part-requires
     loop-less
     loop-again)

@@ -3,6 +3,7 @@ use Prim.Native.Nat.{ℕ, _<_}
 use mathlib.Core.Path.{_≡_, sym, _∙_}
 use mathlib.Core.List.{List}
 use native.Mathlib.Omega.{arith}
+use Rattle.rules.specs.declared.Reading.the-variants.{First}
 use Rattle.numbers.specs.declared.Decimal.{Decimal}
 use Rattle.numbers.specs.declared.Number.the-variants.{Is}
 use Rattle.numbers.specs.Meaning.{numberOf}
@@ -11,8 +12,8 @@ use borrow.Author.Needs.{needs}
 use Rattle.check_leaves.proofs.leaves.number_record.Statement.{statement}
 use Rattle.check_leaves.proofs.leaves.number_record.Tie as tie
 
-few : (w : List ℕ) (d : Decimal) → numberOf w ≡ Is d → d .places < 256
-few w d e = omega (arith, number-facts w d e .places)
+few : (w : List ℕ) (d : Decimal) → numberOf First w ≡ Is d → d .places < 256
+few w d e = omega (arith, number-facts First w d e .places)
 
 parse-numeric-requires : tie.Need-parse-numeric-requires
 parse-numeric-requires c κs = search needs

@@ -7,10 +7,10 @@ use Rattle.check_stores.proofs.damage.try_area.Statement.{statement}
 use Rattle.check_stores.proofs.damage.try_area.Tie as tie
 
 abbrev Inv-loop : tie.InvT-loop
-Inv-loop area₀ store tally₀ at₀ area tally at = length area ≡ length area₀
+Inv-loop reading area₀ store tally₀ at₀ area tally at = length area ≡ length area₀
 
 abbrev μ-loop : tie.MeasureT-loop
-μ-loop area₀ store tally₀ at₀ area tally at = length area - at
+μ-loop reading area₀ store tally₀ at₀ area tally at = length area - at
 
 nothing-requires : tie.Need-nothing-requires Inv-loop μ-loop
 nothing-requires c κs = search needs

@@ -6,10 +6,10 @@ use Rattle.check_stores.proofs.damage.try_byte.Statement.{statement}
 use Rattle.check_stores.proofs.damage.try_byte.Tie as tie
 
 abbrev Inv-loop : tie.InvT-loop
-Inv-loop damaged₀ at other is-store before tally₀ value₀ left₀ damaged tally value left = length damaged ≡ length damaged₀
+Inv-loop reading damaged₀ at other is-store before tally₀ value₀ left₀ damaged tally value left = length damaged ≡ length damaged₀
 
 abbrev μ-loop : tie.MeasureT-loop
-μ-loop damaged₀ at other is-store before tally₀ value₀ left₀ damaged tally value left = left
+μ-loop reading damaged₀ at other is-store before tally₀ value₀ left₀ damaged tally value left = left
 
 slice-read-before : tie.Need-slice-read-before Inv-loop μ-loop
 slice-read-before c = search needs

@@ -7,10 +7,10 @@ use Rattle.check_stores.proofs.damage.try_record.Statement.{statement}
 use Rattle.check_stores.proofs.damage.try_record.Tie as tie
 
 abbrev Inv-loop : tie.InvT-loop
-Inv-loop store₀ area at end kind tally₀ body i₀ store tally i = (length store ≡ length store₀) × (body ≤ i)
+Inv-loop reading store₀ area at end kind tally₀ body i₀ store tally i = (length store ≡ length store₀) × (body ≤ i)
 
 abbrev μ-loop : tie.MeasureT-loop
-μ-loop store₀ area at end kind tally₀ body i₀ store tally i = end - i
+μ-loop reading store₀ area at end kind tally₀ body i₀ store tally i = end - i
 
 slice-read-kind : tie.Need-slice-read-kind Inv-loop μ-loop
 slice-read-kind c = search needs

@@ -7,10 +7,10 @@ use Rattle.check_stores.proofs.damage.try_store.Statement.{statement}
 use Rattle.check_stores.proofs.damage.try_store.Tie as tie
 
 abbrev Inv-loop : tie.InvT-loop
-Inv-loop store₀ area tally₀ at₀ store tally at = length store ≡ length store₀
+Inv-loop reading store₀ area tally₀ at₀ store tally at = length store ≡ length store₀
 
 abbrev μ-loop : tie.MeasureT-loop
-μ-loop store₀ area tally₀ at₀ store tally at = length store - at
+μ-loop reading store₀ area tally₀ at₀ store tally at = length store - at
 
 nothing-requires : tie.Need-nothing-requires Inv-loop μ-loop
 nothing-requires c κs = search needs

@@ -67,8 +67,13 @@ returns-15 c = sym (ap kindOf (c .match .keys15))
 
 returns-16 : tie.Need-returns-16
 unfolding kindOf
-returns-16 c =
+returns-16 c = sym (ap kindOf (c .match .keys16))
+
+returns-17 : tie.Need-returns-17
+unfolding kindOf
+returns-17 c =
     rw (
+      ne-eqb _ _ (c .match .rest .0 .0 .0 .0 .0 .0 .0 .0 .0 .0 .0 .0 .0 .0 .0 .1),
       ne-eqb _ _ (c .match .rest .0 .0 .0 .0 .0 .0 .0 .0 .0 .0 .0 .0 .0 .0 .1),
       ne-eqb _ _ (c .match .rest .0 .0 .0 .0 .0 .0 .0 .0 .0 .0 .0 .0 .0 .1),
       ne-eqb _ _ (c .match .rest .0 .0 .0 .0 .0 .0 .0 .0 .0 .0 .0 .0 .1),
@@ -105,4 +110,5 @@ of-spec =
     returns-13
     returns-14
     returns-15
-    returns-16)
+    returns-16
+    returns-17)

@@ -20,7 +20,7 @@ returns-3 c = told opening 1 11 (12 ∷ 13 ∷ []) refl (c .before .args .self) 
 
 returns-4 : tie.Need-returns-4
 unfolding kindOf opening
-returns-4 c = told opening 0 0 (3 ∷ 5 ∷ 7 ∷ 8 ∷ 9 ∷ 10 ∷ 14 ∷ 15 ∷ []) refl (c .before .args .self) (c .match .keys4)
+returns-4 c = told opening 0 0 (3 ∷ 5 ∷ 7 ∷ 8 ∷ 9 ∷ 10 ∷ 14 ∷ 15 ∷ 16 ∷ []) refl (c .before .args .self) (c .match .keys4)
 
 pub opening-spec : {M : Type 1} → statement M
 opening-spec = tie.close (tie.spec returns returns-2 returns-3 returns-4)

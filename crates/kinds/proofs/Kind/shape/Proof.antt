@@ -39,7 +39,7 @@ returns-5 c = told shapeOf PartsUncertain 15 [] refl (c .before .before .args .s
 
 returns-6 : tie.Need-returns-6
 unfolding kindOf shapeOf
-returns-6 c = told shapeOf Content 1 (2 ∷ 4 ∷ 6 ∷ 10 ∷ 11 ∷ 12 ∷ 13 ∷ []) refl (c .before .args .self) (c .match .keys6)
+returns-6 c = told shapeOf Content 1 (2 ∷ 4 ∷ 6 ∷ 10 ∷ 11 ∷ 12 ∷ 13 ∷ 16 ∷ []) refl (c .before .args .self) (c .match .keys6)
 
 pub shape-spec : {M : Type 1} → statement M
 shape-spec = tie.close (tie.spec enum-told enum-told-2 enum-told-3 returns returns-2 returns-3 returns-4 returns-5 returns-6)

@@ -1,7 +1,7 @@
 -- `sizes::Sizes::add_value`: by the shape of the value's kind. Assumes nothing.
 use mathlib.Core.Path.{sym, _∙_}
 use Rattle.kinds.proofs.Choices.{no-content}
-use Rattle.sizes.proofs.Room.{value-marks, grown-content, grown-other}
+use Rattle.sizes.proofs.Room.{grown-content, grown-other}
 use borrow.Author.Needs.{needs}
 use Rattle.sizes.proofs.Sizes.add_value.Statement.{statement}
 use Rattle.sizes.proofs.Sizes.add_value.Tie as tie
@@ -22,7 +22,7 @@ returns : tie.Need-returns
 returns c =
     let p = c .before .before .before .before .pre in
     let s = c .before .before .shape in
-    c .plus .ensures ∙ grown-other _ _ _ (p .2) (p .3) (s .result) (s .ensures ∙ rw (c .before .before .before .of .ensures)) (no-content (s .result) (c .before .match .keys2))
+    c .plus .ensures ∙ grown-other _ _ _ (p .2) (s .result) (s .ensures ∙ rw (c .before .before .before .of .ensures)) (no-content (s .result) (c .before .match .keys2))
 
 marks-requires : tie.Need-marks-requires
 marks-requires c κs = search needs
@@ -30,7 +30,7 @@ marks-requires c κs = search needs
 sub-plus : tie.Need-sub-plus
 sub-plus c =
     let p = c .before .before .before .before .before .pre in
-    rw (c .marks .ensures, c .before .before .before .before .of .ensures) (value-marks _ _ (p .2) (p .3) (p .4))
+    rw (c .marks .ensures, c .before .before .before .before .of .ensures) (p .3)
 
 plus-requires-2 : tie.Need-plus-requires-2
 plus-requires-2 c κs = search needs
