@@ -1,5 +1,7 @@
 //! How the time grows with texts that are made to be slow: n, 2n and 4n of the same thing.
 
+use chuntarek::Reading;
+
 use crate::inputs::hard::{Sort, SORTS};
 use crate::library;
 use crate::reading::touched;
@@ -64,7 +66,8 @@ struct Rooms<'a> {
 impl<'a> Rooms<'a> {
     fn of(text: &'a [u8]) -> Self {
         let stored = Stored::of(text).expect("each sort of text is read");
-        let outline_length = chuntarek::outline(text, &mut []).first_length as usize;
+        let outline_length =
+            chuntarek::outline(Reading::First, text, &mut []).first_length as usize;
         Rooms {
             text,
             store: touched(stored.store.len()),
@@ -94,12 +97,12 @@ fn services<'a>(rooms: &'a mut Rooms) -> [Call<'a>; SERVICES] {
         area: held,
     } = &*stored;
     [
-        call(|| chuntarek::read(text, store, area)),
-        call(|| chuntarek::outline(text, outline)),
+        call(|| chuntarek::read(Reading::First, text, store, area)),
+        call(|| chuntarek::outline(Reading::First, text, outline)),
         call(|| library::sound(read, held)),
-        call(|| chuntarek::names(read, held)),
+        call(|| chuntarek::names(Reading::First, read, held)),
         call(|| library::walk(read, held)),
-        call(|| chuntarek::render(read, held, rendering)),
+        call(|| chuntarek::render(Reading::First, read, held, rendering)),
     ]
 }
 

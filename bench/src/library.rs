@@ -1,7 +1,7 @@
 //! Two functions of the library without what the crate adds: its `content` asks twice, and its walk
 //! turns each record into another.
 
-use chuntarek::Answer;
+use chuntarek::{Answer, Reading};
 
 /// The header's `chuntarek_record`: seventeen numbers.
 #[repr(C)]
@@ -22,6 +22,7 @@ mod c {
 
     extern "C" {
         pub fn chuntarek_content(
+            reading: u64,
             store: *const u8,
             store_len: usize,
             area: *const u8,
@@ -29,6 +30,7 @@ mod c {
             record: u64,
         ) -> Answer;
         pub fn chuntarek_record_at(
+            reading: u64,
             store: *const u8,
             store_len: usize,
             area: *const u8,
@@ -40,16 +42,34 @@ mod c {
 
 /// Whether store and area are sound: record 0 is the block's, which always has content.
 pub fn sound(store: &[u8], area: &[u8]) -> Answer {
+    let (reading, record) = (Reading::First.number(), 0);
     // SAFETY: the pointers and lengths are those of slices. So below.
-    unsafe { c::chuntarek_content(store.as_ptr(), store.len(), area.as_ptr(), area.len(), 0) }
+    unsafe {
+        c::chuntarek_content(
+            reading,
+            store.as_ptr(),
+            store.len(),
+            area.as_ptr(),
+            area.len(),
+            record,
+        )
+    }
 }
 
 /// How many records a walk over the whole store meets.
 pub fn walk(store: &[u8], area: &[u8]) -> usize {
+    let reading = Reading::First.number();
     let (mut at, mut met) = (0, 0);
     loop {
         let record = unsafe {
-            c::chuntarek_record_at(store.as_ptr(), store.len(), area.as_ptr(), area.len(), at)
+            c::chuntarek_record_at(
+                reading,
+                store.as_ptr(),
+                store.len(),
+                area.as_ptr(),
+                area.len(),
+                at,
+            )
         };
         if record.number() != 0 {
             return met;

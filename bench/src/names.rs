@@ -1,5 +1,7 @@
 //! The name check on names that are many, that stand in frames, and that are chosen against its table.
 
+use chuntarek::Reading;
+
 use crate::inputs::hard::{crowded_tags, framed_tags, plain_tags, short_tags};
 use crate::library;
 use crate::stores::Stored;
@@ -43,9 +45,9 @@ fn timed(effort: Effort, text: &str) -> Taken {
     let taken = best(
         effort,
         &mut [
-            call(|| chuntarek::read(text.as_bytes(), &mut store, &mut area)),
+            call(|| chuntarek::read(Reading::First, text.as_bytes(), &mut store, &mut area)),
             call(|| library::sound(&stored.store, &stored.area)),
-            call(|| chuntarek::names(&stored.store, &stored.area)),
+            call(|| chuntarek::names(Reading::First, &stored.store, &stored.area)),
         ],
     );
     Taken {

@@ -2,7 +2,7 @@
 
 use std::str;
 
-use chuntarek::{Document, Refusal};
+use chuntarek::{Document, Reading, Refusal};
 
 use crate::gemmi;
 use crate::inputs::Input;
@@ -17,6 +17,8 @@ struct Times {
     outline: f64,
     outline_decided: f64,
     document: f64,
+    strict_read: Option<f64>,
+    strict_outline: Option<f64>,
     source: Option<f64>,
     gemmi_document: Option<f64>,
     gemmi_check: Option<f64>,
@@ -34,6 +36,8 @@ pub fn report(effort: Effort, inputs: &[Input]) {
         "de-\nciding",
         "\nwriting",
         "\nDocument",
+        "Read,\nstrict",
+        "Outline,\nstrict",
         "\nsource",
         "gemmi,\ndocument",
         "gemmi,\ncheck",
@@ -61,20 +65,25 @@ pub fn report(effort: Effort, inputs: &[Input]) {
 
 fn time(effort: Effort, input: &Input) -> Result<Times, Refusal> {
     let text = &input.text[..];
-    let (store_length, area_length) = chuntarek::read(text, &mut [], &mut []).needed()?;
-    let (outline_length, _) = chuntarek::outline(text, &mut []).needed()?;
-    let (mut store, mut area) = (touched(store_length), touched(area_length));
-    let mut outline = touched(outline_length);
+    let mut first = Rooms::of(Reading::First, text)?;
+    let mut strict = Rooms::of(Reading::Strict, text).ok();
     let words = str::from_utf8(text).unwrap_or_default();
     let by_source = source::reads(words);
     let by_gemmi = gemmi::check(text);
     let mut calls = vec![
-        call(|| chuntarek::read(text, &mut store, &mut area)),
-        call(|| chuntarek::read(text, &mut [], &mut [])),
-        call(|| chuntarek::outline(text, &mut outline)),
-        call(|| chuntarek::outline(text, &mut [])),
+        call(|| chuntarek::read(Reading::First, text, &mut first.store, &mut first.area)),
+        call(|| chuntarek::read(Reading::First, text, &mut [], &mut [])),
+        call(|| chuntarek::outline(Reading::First, text, &mut first.outline)),
+        call(|| chuntarek::outline(Reading::First, text, &mut [])),
         call(|| Document::read(text)),
     ];
+    let by_strict = strict.is_some();
+    if let Some(rooms) = &mut strict {
+        let (store, area) = (&mut rooms.store, &mut rooms.area);
+        calls.push(call(|| chuntarek::read(Reading::Strict, text, store, area)));
+        let outline = &mut rooms.outline;
+        calls.push(call(|| chuntarek::outline(Reading::Strict, text, outline)));
+    }
     if by_source {
         calls.push(call(|| source::read(words)));
     }
@@ -90,10 +99,31 @@ fn time(effort: Effort, input: &Input) -> Result<Times, Refusal> {
         outline: next(),
         outline_decided: next(),
         document: next(),
+        strict_read: by_strict.then(&mut next),
+        strict_outline: by_strict.then(&mut next),
         source: by_source.then(&mut next),
         gemmi_document: by_gemmi.then(&mut next),
         gemmi_check: by_gemmi.then(&mut next),
     })
+}
+
+/// Exactly the room that Read and Outline of a text need.
+struct Rooms {
+    store: Vec<u8>,
+    area: Vec<u8>,
+    outline: Vec<u8>,
+}
+
+impl Rooms {
+    fn of(reading: Reading, text: &[u8]) -> Result<Rooms, Refusal> {
+        let (store, area) = chuntarek::read(reading, text, &mut [], &mut []).needed()?;
+        let (outline, _) = chuntarek::outline(reading, text, &mut []).needed()?;
+        Ok(Rooms {
+            store: touched(store),
+            area: touched(area),
+            outline: touched(outline),
+        })
+    }
 }
 
 /// A buffer whose pages are all there: every byte of it has been written.
@@ -110,6 +140,8 @@ fn times_row(input: &Input, taken: &Times) -> Vec<String> {
         Some(taken.outline_decided),
         Some(taken.outline - taken.outline_decided),
         Some(taken.document),
+        taken.strict_read,
+        taken.strict_outline,
         taken.source,
         taken.gemmi_document,
         taken.gemmi_check,

@@ -1,6 +1,6 @@
 //! What is done with a store afterwards: soundness, the name check, the walk and Render.
 
-use chuntarek::{Answer, Refusal};
+use chuntarek::{Answer, Reading, Refusal};
 
 use crate::inputs::Input;
 use crate::library;
@@ -17,15 +17,16 @@ pub struct Stored {
 impl Stored {
     /// Store and area of exactly the room that they need.
     pub fn of(text: &[u8]) -> Result<Self, Refusal> {
-        let (store_length, area_length) = chuntarek::read(text, &mut [], &mut []).needed()?;
+        let (store_length, area_length) =
+            chuntarek::read(Reading::First, text, &mut [], &mut []).needed()?;
         let (mut store, mut area) = (touched(store_length), touched(area_length));
-        chuntarek::read(text, &mut store, &mut area).result()?;
+        chuntarek::read(Reading::First, text, &mut store, &mut area).result()?;
         Ok(Stored { store, area })
     }
 
     /// Room for the rendering; none where it would be over the limit.
     pub fn rendering(&self) -> Vec<u8> {
-        let answer: Answer = chuntarek::render(&self.store, &self.area, &mut []);
+        let answer: Answer = chuntarek::render(Reading::First, &self.store, &self.area, &mut []);
         touched(answer.needed().map_or(0, |(length, _)| length))
     }
 }
@@ -57,9 +58,9 @@ fn row(effort: Effort, input: &Input, stored: &Stored) -> Vec<String> {
     let renders = !rendering.is_empty();
     let mut calls = vec![
         call(|| library::sound(store, area)),
-        call(|| chuntarek::names(store, area)),
+        call(|| chuntarek::names(Reading::First, store, area)),
         call(|| library::walk(store, area)),
-        call(|| chuntarek::render(store, area, &mut rendering)),
+        call(|| chuntarek::render(Reading::First, store, area, &mut rendering)),
     ];
     let taken = best(effort, &mut calls);
     let mut cells = vec![

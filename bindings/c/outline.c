@@ -1,5 +1,5 @@
 /* Prints the outline of one CIF file: for each record its kind, offset, length, line and column, then `end`; or why it is refused.
- * Usage: outline FILE. Exit status: 0 done, 1 refused, 2 usage, an unreadable file or no memory. */
+ * Usage: outline [--strict] FILE. Exit status: 0 done, 1 refused, 2 usage, an unreadable file or no memory. */
 #include "chuntarek.h"
 
 #include <errno.h>
@@ -52,16 +52,16 @@ static int print_refusal(chuntarek_answer answer)
 }
 
 /* Asks for the room, then for the outline. */
-static int print_outline(const char *name, const uint8_t *text, size_t length)
+static int print_outline(uint64_t reading, const char *name, const uint8_t *text, size_t length)
 {
     uint8_t nothing[1];
-    chuntarek_answer answer = chuntarek_outline(text, length, nothing, 0);
+    chuntarek_answer answer = chuntarek_outline(reading, text, length, nothing, 0);
     if (answer.number != CHUNTAREK_STORE_FULL)
         return print_refusal(answer);
     uint8_t *store = malloc(answer.first_length);
     if (store == NULL)
         return complain(name, "out of memory");
-    answer = chuntarek_outline(text, length, store, answer.first_length);
+    answer = chuntarek_outline(reading, text, length, store, answer.first_length);
     int status = 0;
     if (answer.number == CHUNTAREK_DONE)
         print_records(store, answer.first_length);
@@ -72,7 +72,7 @@ static int print_outline(const char *name, const uint8_t *text, size_t length)
 }
 
 /* Opens and reads the file once. */
-static int outline_file(const char *name)
+static int outline_file(uint64_t reading, const char *name)
 {
     FILE *file = fopen(name, "rb");
     if (file == NULL)
@@ -83,7 +83,7 @@ static int outline_file(const char *name)
         return complain(name, "out of memory");
     }
     size_t length = fread(text, 1, TEXT_ROOM, file);
-    int status = ferror(file) ? complain(name, strerror(errno)) : print_outline(name, text, length);
+    int status = ferror(file) ? complain(name, strerror(errno)) : print_outline(reading, name, text, length);
     free(text);
     fclose(file);
     return status;
@@ -91,11 +91,12 @@ static int outline_file(const char *name)
 
 int main(int count, char **words)
 {
-    if (count != 2) {
-        fprintf(stderr, "usage: outline FILE\n");
+    int strict = count == 3 && strcmp(words[1], "--strict") == 0;
+    if (count != 2 && !strict) {
+        fprintf(stderr, "usage: outline [--strict] FILE\n");
         return 2;
     }
-    int status = outline_file(words[1]);
+    int status = outline_file(strict ? CHUNTAREK_STRICT : CHUNTAREK_FIRST, words[count - 1]);
     if (fflush(stdout) != 0)
         return complain("output", strerror(errno));
     return status;

@@ -1,8 +1,9 @@
-/* Every function of chuntarek.h on a thread with a small stack: stack KIB FILE...
+/* Every function of chuntarek.h in each reading on a thread with a small stack: stack KIB FILE...
  *
- * The texts are the files, and texts that are made to be hard: many tags, tags of one place, many frames and large ones, a wide loop, long
- * words, fields and comments, quotes and frames that stay open. The stores are those of the texts, the same with damaged bytes, and random bytes.
- * All buffers are on the heap, so that the thread's stack is the library's alone. A stack that is too small ends the program by a signal.
+ * The texts are the files, and texts that are made to be hard: many tags, tags of one place, many frames and large ones, many blocks, a wide
+ * loop, long words, fields and comments, marks in quotes, quotes and frames that stay open. The stores are those of the texts, the same with
+ * damaged bytes, and random bytes. All buffers are on the heap, so that the thread's stack is the library's alone. A stack that is too small
+ * ends the program by a signal.
  */
 #define _POSIX_C_SOURCE 200809L
 #include "chuntarek.h"
@@ -58,6 +59,7 @@ static uint64_t dice(void)
 
 /* One call of each function on a text and on what is read of it, then on damaged and random stores. */
 typedef struct {
+    uint64_t reading;
     const uint8_t *text;
     size_t text_length;
     buffer store, area, rendered, outline;
@@ -68,14 +70,15 @@ static void ask(job *j)
 {
     const uint8_t *store = j->store.bytes, *area = j->area.bytes;
     size_t n = j->store.length, m = j->area.length;
-    chuntarek_names(store, n, area, m);
-    chuntarek_render(store, n, area, m, j->rendered.bytes, 0);
-    chuntarek_render(store, n, area, m, j->rendered.bytes, j->rendered.room);
+    uint64_t reading = j->reading;
+    chuntarek_names(reading, store, n, area, m);
+    chuntarek_render(reading, store, n, area, m, j->rendered.bytes, 0);
+    chuntarek_render(reading, store, n, area, m, j->rendered.bytes, j->rendered.room);
     uint64_t records[] = {0, 1, 2, 1000, UINT64_MAX};
     for (size_t i = 0; i < sizeof records / sizeof *records; i++) {
-        chuntarek_content(store, n, area, m, records[i]);
-        chuntarek_content_part(store, n, area, m, records[i]);
-        chuntarek_record_at(store, n, area, m, records[i]);
+        chuntarek_content(reading, store, n, area, m, records[i]);
+        chuntarek_content_part(reading, store, n, area, m, records[i]);
+        chuntarek_record_at(reading, store, n, area, m, records[i]);
     }
     j->calls += 18;
 }
@@ -83,10 +86,10 @@ static void ask(job *j)
 static void *run(void *argument)
 {
     job *j = argument;
-    chuntarek_read(j->text, j->text_length, j->store.bytes, 0, j->area.bytes, 0);
-    chuntarek_outline(j->text, j->text_length, j->outline.bytes, 0);
-    chuntarek_answer answer = chuntarek_read(j->text, j->text_length, j->store.bytes, j->store.room, j->area.bytes, j->area.room);
-    chuntarek_outline(j->text, j->text_length, j->outline.bytes, j->outline.room);
+    chuntarek_read(j->reading, j->text, j->text_length, j->store.bytes, 0, j->area.bytes, 0);
+    chuntarek_outline(j->reading, j->text, j->text_length, j->outline.bytes, 0);
+    chuntarek_answer answer = chuntarek_read(j->reading, j->text, j->text_length, j->store.bytes, j->store.room, j->area.bytes, j->area.room);
+    chuntarek_outline(j->reading, j->text, j->text_length, j->outline.bytes, j->outline.room);
     j->calls += 4;
     j->store.length = answer.first_length;
     j->area.length = answer.second_length;
@@ -108,14 +111,14 @@ static void *run(void *argument)
     return NULL;
 }
 
-static uint64_t on_thread(size_t kib, const uint8_t *text, size_t length)
+static uint64_t on_thread(size_t kib, uint64_t reading, const uint8_t *text, size_t length)
 {
-    job j = {text, length, {0}, {0}, {0}, {0}, 0};
+    job j = {reading, text, length, {0}, {0}, {0}, {0}, 0};
     uint8_t none = 0;
-    chuntarek_answer need = chuntarek_read(text, length, &none, 0, &none, 0);
+    chuntarek_answer need = chuntarek_read(reading, text, length, &none, 0, &none, 0);
     reserve(&j.store, need.first_length + 4096);
     reserve(&j.area, need.second_length + 4096);
-    reserve(&j.outline, chuntarek_outline(text, length, &none, 0).first_length + 1);
+    reserve(&j.outline, chuntarek_outline(reading, text, length, &none, 0).first_length + 1);
     reserve(&j.rendered, 2 * length + 4096);
     pthread_attr_t attributes;
     pthread_t thread;
@@ -129,6 +132,15 @@ static uint64_t on_thread(size_t kib, const uint8_t *text, size_t length)
     free(j.outline.bytes);
     free(j.rendered.bytes);
     return j.calls;
+}
+
+/* The readings, and numbers before and behind them that name none. */
+static uint64_t in_each_reading(size_t kib, const buffer *text)
+{
+    uint64_t calls = 0;
+    for (uint64_t reading = 0; reading <= 3; reading++)
+        calls += on_thread(kib, reading, text->bytes, text->length);
+    return calls;
 }
 
 /* Whether the name check's table puts a tag of the block among its first places, so that soon none of them is free. */
@@ -153,6 +165,27 @@ static void tags(buffer *b, size_t count, int crowded)
         add(b, line);
         made++;
     }
+}
+
+/* Blocks with a frame, a quoted value and a loop each, which the strict reading reads. */
+static void blocks(buffer *b, size_t count)
+{
+    char line[128];
+    for (size_t i = 0; i < count; i++) {
+        snprintf(line, sizeof line, "data_b%zu _a 'O'Neill' save_f _a ;b save_ loop_ _c _d 1.5(2) ?\n", i);
+        add(b, line);
+    }
+}
+
+/* A text field of so many lines that the strict reading takes as well. */
+static void field(buffer *b, size_t lines)
+{
+    add(b, "data_x _a\n;");
+    for (size_t i = 0; i < lines; i++) {
+        add_times(b, 'f', 2000);
+        add(b, "\n");
+    }
+    add(b, ";\n");
 }
 
 static void frames(buffer *b, size_t count, size_t each)
@@ -209,6 +242,10 @@ static int hard(int n, buffer *b)
     case 13: long_one(b, "data_x save_f ", ' ', 100000, "_a 1"); return 1;
     case 14: long_one(b, "", ' ', 17000000, ""); return 1;
     case 15: long_one(b, "data_x _a 'x", '\'', 100000, "y'"); return 1;
+    case 16: blocks(b, 20000); return 1;
+    case 17: field(b, 1000); return 1;
+    case 18: long_one(b, "data_x _a 'x", '\'', 2000, "y'"); return 1;
+    case 19: long_one(b, "data_x _a ;", ';', 2000, ""); return 1;
     default: return 0;
     }
 }
@@ -236,14 +273,14 @@ int main(int count, char **arguments)
     for (int i = 2; i < count; i++) {
         buffer b = {0};
         file(&b, arguments[i]);
-        calls += on_thread(kib, b.bytes, b.length);
+        calls += in_each_reading(kib, &b);
         free(b.bytes);
     }
     for (int n = 0;; n++) {
         buffer b = {0};
         if (!hard(n, &b))
             break;
-        calls += on_thread(kib, b.bytes, b.length);
+        calls += in_each_reading(kib, &b);
         free(b.bytes);
     }
     printf("%llu calls on a stack of %zu KiB\n", (unsigned long long)calls, kib);

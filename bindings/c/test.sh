@@ -1,6 +1,7 @@
 #!/usr/bin/env bash
 # Builds the C programs against the library and runs them: calls.c as it is, outline.c on every file of examples/ that has an outline
-# beside it, the README's example, and stack.c on all files of examples/ with a stack of 96 KiB. CHUNTAREK_LIB_DIR names the folder of libchuntarek.a; without it that is target/staticlib, made if it is missing.
+# beside it (those below strict/ in the strict reading), the README's example, and stack.c on all files of examples/ with a stack of 96 KiB.
+# CHUNTAREK_LIB_DIR names the folder of libchuntarek.a; without it that is target/staticlib, made if it is missing.
 set -euo pipefail
 here=$(cd "$(dirname "$0")" && pwd)
 root=$(cd "$here/../.." && pwd)
@@ -26,9 +27,10 @@ run() { "${emulator[@]}" "$work/$1" "${@:2}"; }
 # A refused file has status 1, any other 0.
 expected_status() { if grep -q '^refused' "$1"; then echo 1; else echo 0; fi; }
 
+# outline_matches OUTLINE OPTION..
 outline_matches() {
     local outline=$1 file=${1%.outline}.cif status=0
-    run outline "$file" >"$work/got" || status=$?
+    run outline "${@:2}" "$file" >"$work/got" || status=$?
     diff -u "$outline" "$work/got" || fail "outline of ${file#"$root"/} differs"
     [ "$status" -eq "$(expected_status "$outline")" ] || fail "outline of ${file#"$root"/} ended with status $status"
 }
@@ -39,6 +41,10 @@ run calls || fail "calls failed"
 count=0
 for outline in "$root"/examples/*.outline "$root"/examples/refused/*.outline; do
     outline_matches "$outline"
+    count=$((count + 1))
+done
+for outline in "$root"/examples/strict/*.outline "$root"/examples/strict/refused/*.outline; do
+    outline_matches "$outline" --strict
     count=$((count + 1))
 done
 
@@ -57,5 +63,5 @@ kind 15 at line 1, column 11
 TEXT
 
 build "$here/stack.c" stack
-run stack 96 "$root"/examples/*.cif "$root"/examples/refused/*.cif >"$work/got" || fail "a service needs more stack than it may"
+run stack 96 "$root"/examples/*.cif "$root"/examples/refused/*.cif "$root"/examples/strict/*.cif "$root"/examples/strict/refused/*.cif >"$work/got" || fail "a service needs more stack than it may"
 echo "bindings/c: every function called, $count outlines as expected"

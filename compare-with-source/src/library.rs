@@ -1,21 +1,32 @@
-//! The proved library's answer to a text, through its C functions. The store and the area that come
-//! back are held, byte for byte, to what the model writes, lent to every other service of the library,
-//! and cut into records again.
+//! The proved library's answer to a text in a reading, through its C functions. The store and the area
+//! that come back are held, byte for byte, to what the model writes, lent to every other service of the
+//! library, and cut into records again. Numbers that name no reading are tried on each text too.
 
 use crate::answer::{Answer, Refusal};
-use crate::calls::{self, Called, Kept};
+use crate::calls::{self, Called};
+use crate::over_stores::Stored;
 use crate::reading::Reading;
-use crate::{model, over_stores, stores};
+use crate::{model, stores};
+
+/// Numbers that name no reading; the last has the lower half of one that does.
+pub const NO_READINGS: [u64; 4] = [0, 3, u64::MAX, (1 << 32) + 1];
 
 /// Outline has no area; the one given is left alone.
-fn outline(text: &[u8], store: &mut [u8], _area: &mut [u8]) -> Called {
-    calls::outline(text, store)
+fn outline(reading: u64, text: &[u8], store: &mut [u8], _area: &mut [u8]) -> Called {
+    calls::outline(reading, text, store)
 }
 
 /// The library's answer in a reading, or what is wrong with it whatever the source says.
 pub fn read(reading: Reading, text: &[u8]) -> Result<Answer, String> {
-    let service = |name, call| Service { name, call, text };
+    let service = |name, call| Service {
+        name,
+        call,
+        reading: reading.number(),
+        text,
+    };
     let (read, outline) = (service("read", calls::read), service("outline", outline));
+    read.needs_a_reading()?;
+    outline.needs_a_reading()?;
     match model::read(reading, text) {
         Err(refusal) => {
             outline.refuses(&refusal)?;
@@ -26,25 +37,58 @@ pub fn read(reading: Reading, text: &[u8]) -> Result<Answer, String> {
             outline.writes(&stores::encode_outline(&records), &[])?;
             let (store, area) = stores::encode(&records);
             let written = read.writes(&store, &area)?;
-            over_stores::hold(&records, written.kept(reading))?;
+            let stored = Stored {
+                reading,
+                store: written.store(),
+                area: written.area(),
+            };
+            stored.hold(&records)?;
             let decoded = stores::decode(written.store(), written.area());
             Ok(Ok(decoded.ok_or("library, read: no whole records")?))
         }
     }
 }
 
-type Call = fn(&[u8], &mut [u8], &mut [u8]) -> Called;
+type Call = fn(u64, &[u8], &mut [u8], &mut [u8]) -> Called;
 
-/// One service of the library, asked about one text.
+/// One service of the library, asked about one text in one reading.
 struct Service<'a> {
     name: &'static str,
     call: Call,
+    reading: u64,
     text: &'a [u8],
 }
 
 impl Service<'_> {
     fn lend(&self, store: usize, area: usize) -> Lent {
-        Lent::called(self.text, self.call, store, area)
+        self.lend_as(self.reading, store, area)
+    }
+
+    fn lend_as(&self, reading: u64, store_room: usize, area_room: usize) -> Lent {
+        let mut store = vec![FILL; store_room + GUARD];
+        let mut area = vec![FILL; area_room + GUARD];
+        let rooms = (&mut store[..store_room], &mut area[..area_room]);
+        let called = (self.call)(reading, self.text, rooms.0, rooms.1);
+        Lent {
+            store,
+            area,
+            called,
+        }
+    }
+
+    /// A number that names no reading is refused by 24, with room and without, and nothing is written.
+    fn needs_a_reading(&self) -> Result<(), String> {
+        for reading in NO_READINGS {
+            for room in [0, 64] {
+                let lent = self.lend_as(reading, room, room);
+                let refused = lent.called == lengths_call(24, 0, 0) && lent.holds(&[], &[]);
+                self.must(
+                    refused,
+                    "a number that names no reading is not refused by 24",
+                )?;
+            }
+        }
+        Ok(())
     }
 
     /// No fault if this holds.
@@ -134,17 +178,6 @@ const FILL: u8 = 0xA5;
 const GUARD: usize = 16;
 
 impl Lent {
-    fn called(text: &[u8], call: Call, store_room: usize, area_room: usize) -> Lent {
-        let mut store = vec![FILL; store_room + GUARD];
-        let mut area = vec![FILL; area_room + GUARD];
-        let called = call(text, &mut store[..store_room], &mut area[..area_room]);
-        Lent {
-            store,
-            area,
-            called,
-        }
-    }
-
     /// The part of the store that the answer counts.
     fn store(&self) -> &[u8] {
         &self.store[..self.called.first_length as usize]
@@ -153,15 +186,6 @@ impl Lent {
     /// The part of the area that the answer counts.
     fn area(&self) -> &[u8] {
         &self.area[..self.called.second_length as usize]
-    }
-
-    /// Both, for the services after reading.
-    fn kept(&self, reading: Reading) -> Kept<'_> {
-        Kept {
-            reading,
-            store: self.store(),
-            area: self.area(),
-        }
     }
 
     /// Whether these bytes stand first and all others are as they were.
@@ -178,11 +202,14 @@ fn begins(buffer: &[u8], written: &[u8]) -> bool {
 #[cfg(test)]
 mod tests {
     use super::*;
+    use crate::generate;
+    use crate::report::escaped;
 
     fn is_the_models(text: &str) {
-        let text = text.as_bytes();
-        let answer = model::read(Reading::First, text);
-        assert_eq!(read(Reading::First, text), Ok(answer));
+        for reading in [Reading::First, Reading::Strict] {
+            let answer = model::read(reading, text.as_bytes());
+            assert_eq!(read(reading, text.as_bytes()), Ok(answer), "{text:?}");
+        }
     }
 
     #[test]
@@ -209,6 +236,51 @@ mod tests {
             "data_x loop_ _a 1 _b 2 $",
         ] {
             is_the_models(text);
+        }
+    }
+
+    /// What the two readings take otherwise, and what the strict one alone refuses.
+    #[test]
+    fn the_library_answers_in_both_readings() {
+        for text in [
+            "data_x _a 'O'Neill H St C'",
+            "data_x _a ''' _b \"\" _c 'd'e",
+            "data_x _a\n;b\n; _c ;d _e\n;f",
+            "data_x _a\n;b\n;_c 1",
+            "data_x loop_ _a .x ?y 1e+ 1() 1234567890e+ loop_x",
+            "data_x loop__a 1",
+            "data_x loop_ _a loop_ _b 1",
+            "data_",
+            "data_x save_ save_",
+            "data_x _ 1",
+            "data_x data_y _a 1 data_y _a 2",
+            "data_x save_f _a save_",
+            "data_x save_f save_g",
+            "data_x save_f 1 save_",
+            "data_x _a b\x0c",
+            "data_x _a 'b\x7f'",
+        ] {
+            is_the_models(text);
+        }
+        let name = "n".repeat(75);
+        is_the_models(&format!("data_{name} _{} 1 save_{name} save_", &name[1..]));
+        is_the_models(&format!("data_x _{name} 1"));
+        let line = "#".repeat(2048);
+        is_the_models(&format!("data_x\n{line}\n"));
+        is_the_models(&format!("data_x\n{line}#\n"));
+        is_the_models(&format!("{line}\x01"));
+    }
+
+    #[test]
+    fn the_library_answers_to_random_texts_in_both_readings() {
+        for reading in [Reading::First, Reading::Strict] {
+            for mix in [Reading::First, Reading::Strict] {
+                for number in 0..2000 {
+                    let text = generate::text(mix, 20, number);
+                    let answer = model::read(reading, &text);
+                    assert_eq!(read(reading, &text), Ok(answer), "{}", escaped(&text));
+                }
+            }
         }
     }
 }

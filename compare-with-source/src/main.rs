@@ -1,5 +1,6 @@
-//! Feeds the source and the rules of document 01 the same texts and compares their answers; holds a
-//! model of document 02's strict reading, which the source doesn't know, to what is claimed of it.
+//! Feeds the source and the rules of document 01 the same texts and compares their answers. In document
+//! 02's strict reading, which the source doesn't know, the library is held to a model of the rules, and
+//! the model to what is claimed of it.
 
 // Without the source, what takes its answers apart is idle.
 #![cfg_attr(not(has_source), allow(dead_code))]

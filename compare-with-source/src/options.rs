@@ -14,7 +14,8 @@ usage: compare-with-source [--texts N] [--seed S] [--backend model|library] [--f
   --texts N        how many texts to make (default 300000; 0 for files only)
   --seed S         which random texts (default 1)
   --backend WHAT   who answers beside the source (default model)
-  --reading WHICH  first: compare with the source (default); strict: hold the model to its laws
+  --reading WHICH  first: compare with the source (default); strict, which the source doesn't know:
+                   hold the backend to the model, and the model to its laws
   --mix WHICH      the texts made for this reading (default: for the one that is chosen)
   --files DIR      compare also every .cif file below DIR
   --write-list F   write the fixed list
@@ -85,12 +86,13 @@ impl Options {
         self.mix.unwrap_or(self.reading)
     }
 
-    /// The source, its list and so far the library know the first reading alone.
+    /// The source and its list know the first reading alone.
     fn checked(self) -> Result<Options, String> {
         let listed = matches!(self.work, Work::WriteList(_) | Work::CheckList(_));
-        let first_only = listed || self.backend != Backend::Model;
-        if self.reading == Reading::Strict && first_only {
-            return Err(String::from("only the model has the strict reading"));
+        if self.reading == Reading::Strict && listed {
+            return Err(String::from(
+                "the list is the source's, of the first reading",
+            ));
         }
         Ok(self)
     }
@@ -169,6 +171,17 @@ mod tests {
         }
     }
 
+    #[cfg(feature = "library")]
+    #[test]
+    fn the_library_has_both_readings() {
+        for reading in ["first", "strict"] {
+            let options = parsed(&format!("--backend library --reading {reading}"));
+            let options = options.expect("these are known");
+            assert_eq!(options.backend, Backend::Library);
+            assert_eq!(Some(options.reading), Reading::named(reading));
+        }
+    }
+
     #[test]
     fn bad_words_are_refused() {
         for line in [
@@ -179,6 +192,7 @@ mod tests {
             "--backend c",
             "--reading third",
             "--reading strict --check-list f",
+            "--reading strict --write-list f",
         ] {
             assert!(parsed(line).is_err(), "{line}");
         }

@@ -1,54 +1,109 @@
-//! The library's services over a store that it has written, and over one near it: Render, Name check,
-//! Content and the walk, held to the model.
+//! The library's services over a store that it has written, in its own reading and in the other, and
+//! over one near it: Render, Name check, Content and the walk, held to the model.
 
 use crate::alter;
 use crate::answer::{mark_bytes, Body, Decimal, Record};
 use crate::calls::{self, Called, Kept, Part, Walked};
+use crate::library::NO_READINGS;
 use crate::model::TEXT_LIMIT;
 use crate::random::Random;
+use crate::reading::Reading;
 use crate::{model_sound, model_stores, stores};
 
 /// Of a longer store not every content is asked for: each question walks all of it.
 const MOST_QUESTIONS: usize = 40;
 
-/// What is wrong with what the services make of this store and area, if anything.
-pub fn hold(records: &[Record], kept: Kept) -> Result<(), String> {
-    walk(records, kept)?;
-    contents(records, kept)?;
-    names(records, kept)?;
-    rendering(records, kept)?;
-    let seed = records.iter().map(|record| record.length as u64).sum();
-    let (store, area) = alter::near(records, &mut Random::new(kept.area.len() as u64, seed));
-    let kept = Kept {
-        store: &store,
-        area: &area,
-        ..kept
-    };
-    near(kept).map_err(|fault| format!("{fault}, in a store near one that was read"))
+/// A store and its area, and the reading that they are looked at in.
+#[derive(Clone, Copy)]
+pub struct Stored<'a> {
+    pub reading: Reading,
+    pub store: &'a [u8],
+    pub area: &'a [u8],
 }
 
-/// A store that no one wrote: every service refuses it by 12 exactly where the model finds it unsound.
-fn near(kept: Kept) -> Result<(), String> {
-    let sound = stores::decode(kept.store, kept.area).filter(|_| is_sound(kept));
-    if let Some(records) = sound {
-        names(&records, kept)?;
-        return rendering(&records, kept);
+impl Stored<'_> {
+    /// What is wrong with what the services make of the store that was written for these records, if
+    /// anything.
+    pub fn hold(self, records: &[Record]) -> Result<(), String> {
+        let kept = self.kept();
+        walk(records, kept)?;
+        contents(records, kept)?;
+        names(records, self)?;
+        rendering(records, self)?;
+        no_reading(self)?;
+        let other = Stored {
+            reading: self.reading.other(),
+            ..self
+        };
+        walk(records, other.kept())?;
+        any_store(other).map_err(|fault| format!("{fault}, in the other reading"))?;
+        let seed = records.iter().map(|record| record.length as u64).sum();
+        let (store, area) = alter::near(records, &mut Random::new(self.area.len() as u64, seed));
+        let near = Stored {
+            store: &store,
+            area: &area,
+            ..self
+        };
+        any_store(near).map_err(|fault| format!("{fault}, in a store near one that was read"))
     }
-    for answer in [kept.names(), kept.render(&mut [0; 64]), kept.content(0)] {
-        must(answer == refused(12), "not refused by 12")?;
+
+    fn kept(&self) -> Kept<'_> {
+        Kept {
+            reading: self.reading.number(),
+            store: self.store,
+            area: self.area,
+        }
     }
-    let nothing = Part {
-        start: 0,
-        length: 0,
+
+    fn is_sound(&self) -> bool {
+        model_sound::is_sound(self.reading, self.store, self.area)
+    }
+}
+
+/// A store that this reading need not have written: every service refuses it by 12 exactly where the
+/// model finds it unsound.
+fn any_store(stored: Stored) -> Result<(), String> {
+    let sound = stores::decode(stored.store, stored.area).filter(|_| stored.is_sound());
+    match sound {
+        Some(records) => {
+            names(&records, stored)?;
+            rendering(&records, stored)
+        }
+        None => is_refused(stored.kept(), 12),
+    }
+}
+
+/// A number that names no reading is refused by 24, whatever the store.
+fn no_reading(stored: Stored) -> Result<(), String> {
+    let nothing = Walked {
+        number: 24,
+        ..Walked::default()
     };
+    for reading in NO_READINGS {
+        let kept = Kept {
+            reading,
+            ..stored.kept()
+        };
+        is_refused(kept, 24)?;
+        must(kept.record_at(0) == nothing, "walk: not refused by 24")?;
+    }
+    Ok(())
+}
+
+/// Every service that judges a store answers by this number, and gives nothing out.
+fn is_refused(kept: Kept, number: u64) -> Result<(), String> {
+    let mut out = [0xA5; 64];
+    for answer in [kept.names(), kept.render(&mut out), kept.content(0)] {
+        must(
+            answer == refused(number),
+            &format!("not refused by {number}"),
+        )?;
+    }
+    must(out == [0xA5; 64], "render: a refusal wrote something")?;
     must(
-        kept.content_part(0) == nothing,
-        "content: a part of an unsound store",
+        kept.content_part(0) == Part::default(),
+        "content: a part where it is refused",
     )
-}
-
-fn is_sound(kept: Kept) -> bool {
-    model_sound::is_sound(kept.reading, kept.store, kept.area)
 }
 
 fn must(holds: bool, what: &str) -> Result<(), String> {
@@ -176,27 +231,27 @@ fn content_is(
 }
 
 /// The name check, of the names as they are and of some spelt otherwise.
-fn names(records: &[Record], kept: Kept) -> Result<(), String> {
+fn names(records: &[Record], stored: Stored) -> Result<(), String> {
     must(
-        kept.names() == named(records, kept),
+        stored.kept().names() == named(records, stored),
         "names: the answer differs",
     )?;
     let records = respelt(records);
     let (store, area) = stores::encode(&records);
-    let kept = Kept {
+    let stored = Stored {
         store: &store,
         area: &area,
-        ..kept
+        ..stored
     };
     must(
-        kept.names() == named(&records, kept),
+        stored.kept().names() == named(&records, stored),
         "names: the answer differs where some are spelt otherwise",
     )
 }
 
-fn named(records: &[Record], kept: Kept) -> Called {
+fn named(records: &[Record], stored: Stored) -> Called {
     match model_stores::repeated_name(records) {
-        _ if !is_sound(kept) => refused(12),
+        _ if !stored.is_sound() => refused(12),
         None => refused(0),
         Some((first, second)) => Called {
             offset: first as u64,
@@ -219,9 +274,10 @@ fn respelt(records: &[Record]) -> Vec<Record> {
     records
 }
 
-/// The rendering is document 01's, in exact room and in no less, and reads as the same records.
-fn rendering(records: &[Record], kept: Kept) -> Result<(), String> {
-    let text = model_stores::rendering(kept.reading, records);
+/// The rendering is the documents', in exact room and in no less, and reads as the same records.
+fn rendering(records: &[Record], stored: Stored) -> Result<(), String> {
+    let kept = stored.kept();
+    let text = model_stores::rendering(stored.reading, records);
     if text.len() > TEXT_LIMIT {
         return must(
             kept.render(&mut []) == refused(1),
@@ -258,7 +314,7 @@ fn read_back(records: &[Record], kept: Kept, text: &[u8]) -> Result<(), String> 
         ..refused(0)
     };
     must(
-        calls::read(text, &mut store, &mut area) == answer,
+        calls::read(kept.reading, text, &mut store, &mut area) == answer,
         "render: what is read back differs",
     )?;
     let again = stores::decode(&store, &area).unwrap_or_default();

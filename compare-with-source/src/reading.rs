@@ -10,6 +10,24 @@ pub enum Reading {
 }
 
 impl Reading {
+    /// The number that names it in the library's calls.
+    #[cfg(feature = "library")]
+    pub fn number(self) -> u64 {
+        match self {
+            Reading::First => 1,
+            Reading::Strict => 2,
+        }
+    }
+
+    /// The other one.
+    #[cfg(feature = "library")]
+    pub fn other(self) -> Reading {
+        match self {
+            Reading::First => Reading::Strict,
+            Reading::Strict => Reading::First,
+        }
+    }
+
     /// The reading of this name.
     pub fn named(name: &str) -> Option<Reading> {
         match name {

@@ -9,7 +9,7 @@ use crate::answer::Answer;
 
 /// The header's `chuntarek_part`.
 #[repr(C)]
-#[derive(Clone, Copy)]
+#[derive(Debug, Clone, Copy, Default, PartialEq, Eq)]
 pub struct Part {
     pub start: u64,
     pub length: u64,
@@ -17,7 +17,7 @@ pub struct Part {
 
 /// The header's `chuntarek_record`.
 #[repr(C)]
-#[derive(Clone, Copy)]
+#[derive(Debug, Clone, Copy, Default, PartialEq, Eq)]
 pub struct Walked {
     pub number: u64,
     pub kind: u64,
@@ -43,6 +43,7 @@ mod c {
 
     extern "C" {
         pub fn chuntarek_read(
+            reading: u64,
             text: *const u8,
             text_len: usize,
             store: *mut u8,
@@ -51,12 +52,14 @@ mod c {
             area_len: usize,
         ) -> Answer;
         pub fn chuntarek_outline(
+            reading: u64,
             text: *const u8,
             text_len: usize,
             store: *mut u8,
             store_len: usize,
         ) -> Answer;
         pub fn chuntarek_render(
+            reading: u64,
             store: *const u8,
             store_len: usize,
             area: *const u8,
@@ -65,12 +68,14 @@ mod c {
             out_len: usize,
         ) -> Answer;
         pub fn chuntarek_names(
+            reading: u64,
             store: *const u8,
             store_len: usize,
             area: *const u8,
             area_len: usize,
         ) -> Answer;
         pub fn chuntarek_content(
+            reading: u64,
             store: *const u8,
             store_len: usize,
             area: *const u8,
@@ -78,6 +83,7 @@ mod c {
             record: u64,
         ) -> Answer;
         pub fn chuntarek_content_part(
+            reading: u64,
             store: *const u8,
             store_len: usize,
             area: *const u8,
@@ -85,6 +91,7 @@ mod c {
             record: u64,
         ) -> Part;
         pub fn chuntarek_record_at(
+            reading: u64,
             store: *const u8,
             store_len: usize,
             area: *const u8,
@@ -94,10 +101,11 @@ mod c {
     }
 }
 
-pub fn read(text: &[u8], store: &mut [u8], area: &mut [u8]) -> Answer {
+pub fn read(reading: u64, text: &[u8], store: &mut [u8], area: &mut [u8]) -> Answer {
     // SAFETY: what the header asks holds for every slice, as said above. So below.
     unsafe {
         c::chuntarek_read(
+            reading,
             text.as_ptr(),
             text.len(),
             store.as_mut_ptr(),
@@ -108,13 +116,22 @@ pub fn read(text: &[u8], store: &mut [u8], area: &mut [u8]) -> Answer {
     }
 }
 
-pub fn outline(text: &[u8], store: &mut [u8]) -> Answer {
-    unsafe { c::chuntarek_outline(text.as_ptr(), text.len(), store.as_mut_ptr(), store.len()) }
+pub fn outline(reading: u64, text: &[u8], store: &mut [u8]) -> Answer {
+    unsafe {
+        c::chuntarek_outline(
+            reading,
+            text.as_ptr(),
+            text.len(),
+            store.as_mut_ptr(),
+            store.len(),
+        )
+    }
 }
 
-pub fn render(store: &[u8], area: &[u8], out: &mut [u8]) -> Answer {
+pub fn render(reading: u64, store: &[u8], area: &[u8], out: &mut [u8]) -> Answer {
     unsafe {
         c::chuntarek_render(
+            reading,
             store.as_ptr(),
             store.len(),
             area.as_ptr(),
@@ -125,13 +142,22 @@ pub fn render(store: &[u8], area: &[u8], out: &mut [u8]) -> Answer {
     }
 }
 
-pub fn names(store: &[u8], area: &[u8]) -> Answer {
-    unsafe { c::chuntarek_names(store.as_ptr(), store.len(), area.as_ptr(), area.len()) }
+pub fn names(reading: u64, store: &[u8], area: &[u8]) -> Answer {
+    unsafe {
+        c::chuntarek_names(
+            reading,
+            store.as_ptr(),
+            store.len(),
+            area.as_ptr(),
+            area.len(),
+        )
+    }
 }
 
-pub fn content(store: &[u8], area: &[u8], record: u64) -> Answer {
+pub fn content(reading: u64, store: &[u8], area: &[u8], record: u64) -> Answer {
     unsafe {
         c::chuntarek_content(
+            reading,
             store.as_ptr(),
             store.len(),
             area.as_ptr(),
@@ -141,9 +167,10 @@ pub fn content(store: &[u8], area: &[u8], record: u64) -> Answer {
     }
 }
 
-pub fn content_part(store: &[u8], area: &[u8], record: u64) -> Part {
+pub fn content_part(reading: u64, store: &[u8], area: &[u8], record: u64) -> Part {
     unsafe {
         c::chuntarek_content_part(
+            reading,
             store.as_ptr(),
             store.len(),
             area.as_ptr(),
@@ -153,6 +180,18 @@ pub fn content_part(store: &[u8], area: &[u8], record: u64) -> Part {
     }
 }
 
-pub fn record_at(store: &[u8], area: &[u8], at: u64) -> Walked {
-    unsafe { c::chuntarek_record_at(store.as_ptr(), store.len(), area.as_ptr(), area.len(), at) }
+pub fn record_at(reading: u64, store: &[u8], area: &[u8], at: u64) -> Walked {
+    unsafe {
+        c::chuntarek_record_at(
+            reading,
+            store.as_ptr(),
+            store.len(),
+            area.as_ptr(),
+            area.len(),
+            at,
+        )
+    }
 }
+
+#[cfg(test)]
+mod tests;

@@ -18,9 +18,20 @@
 //! # Ok::<(), chuntarek::Refusal>(())
 //! ```
 //!
+//! A file may be read by the standard's own rules too ([`Reading::Strict`]), which take several blocks:
+//!
+//! ```
+//! use chuntarek::{Document, Reading};
+//!
+//! let document = Document::read_as(Reading::Strict, b"data_x _a 'a dog's life' data_y _a 1")?;
+//! let value = document.records().nth(2).and_then(|record| record.text());
+//! assert_eq!(value, Some("a dog's life"));
+//! # Ok::<(), chuntarek::Refusal>(())
+//! ```
+//!
 //! Below it stand the library's own services over lent slices, for programs that keep their buffers
-//! themselves: [`read`], [`outline`], [`render`], [`names`], [`content`] and [`record_at`]. Their
-//! answers are those of the header `chuntarek.h`.
+//! themselves: [`read`], [`outline`], [`render`], [`names`], [`content`] and [`record_at`]. Each takes
+//! the [`Reading`] first. Their answers are those of the header `chuntarek.h`.
 
 #![cfg_attr(
     not(test),
@@ -36,6 +47,7 @@ mod answer;
 mod decimal;
 mod document;
 mod foreign;
+mod reading;
 mod reason;
 mod record;
 mod refusal;
@@ -44,6 +56,7 @@ mod services;
 pub use answer::Answer;
 pub use decimal::Decimal;
 pub use document::{Document, Records};
+pub use reading::Reading;
 pub use reason::Reason;
 pub use record::{Kind, Place, Record};
 pub use refusal::{number, Refusal};

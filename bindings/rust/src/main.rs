@@ -23,6 +23,7 @@ mod command {
     pub mod ragged;
     pub mod render;
     pub mod status;
+    pub mod strict;
     pub mod table;
     pub mod values;
     pub mod walk;
@@ -62,9 +63,13 @@ fn answer(request: &Request, out: &mut impl Write) -> io::Result<Status> {
     match request {
         Request::Help => write!(out, "{}", help::TEXT).map(|()| Status::Done),
         Request::Version => writeln!(out, "{}", help::VERSION).map(|()| Status::Done),
-        Request::Outline { files } => outline::files(files, out),
-        Request::Check { files } => Ok(check::files(files)),
-        Request::Values { file, tags, layout } => values::file(file, tags, *layout, out),
-        Request::Render { file } => render::file(file, out),
+        Request::Outline { reading, files } => outline::files(*reading, files, out),
+        Request::Check { reading, files } => Ok(check::files(*reading, files)),
+        Request::Values {
+            reading,
+            file,
+            wish,
+        } => values::file(*reading, file, wish, out),
+        Request::Render { reading, file } => render::file(*reading, file, out),
     }
 }

@@ -9,11 +9,13 @@ use std::fmt;
 pub enum Reason {
     /// The text ends there. Never the reason of a 7.
     TextEnds = 1,
-    /// The word there begins with `data_`, `global_`, `loop_`, `save_` or `stop_`, in any letter case.
+    /// The word there begins with `data_`, `global_`, `loop_`, `save_` or `stop_`, in any letter case. In
+    /// the strict reading a longer word than `global_`, `loop_` or `stop_` is a value like others.
     ReservedWord = 2,
     /// The byte there starts no value: `_`, `$`, `[`, `]` or a control character.
     StartsNoValue = 3,
-    /// A `'` or `"` stands there, and none closes the quote on its line.
+    /// A `'` or `"` stands there, and none closes the quote on its line. In the strict reading a mark
+    /// closes it only before space, a line end or the text's end.
     OpenQuote = 4,
     /// A `;` stands there, and none at the start of a line closes the text field.
     OpenField = 5,

@@ -49,11 +49,13 @@ pub enum Kind {
     Number = 14,
     /// A number with its uncertainty in brackets.
     Uncertain = 15,
+    /// A text between `'` or `"` marks, in the strict reading; its content begins with the opening mark.
+    Quoted = 21,
 }
 
 impl Kind {
     /// All kinds, by their numbers.
-    const ALL: [Kind; 15] = [
+    const ALL: [Kind; 16] = [
         Kind::Block,
         Kind::FrameOpen,
         Kind::FrameClose,
@@ -69,6 +71,7 @@ impl Kind {
         Kind::Multiline,
         Kind::Number,
         Kind::Uncertain,
+        Kind::Quoted,
     ];
 
     /// The kind's number in stores and outlines.
@@ -78,8 +81,12 @@ impl Kind {
 
     /// The kind of this number.
     pub fn of_number(number: u64) -> Option<Kind> {
-        let before = usize::try_from(number.checked_sub(1)?).ok()?;
-        Kind::ALL.get(before).copied()
+        let before = match number {
+            1..=15 => number - 1,
+            21 => 15,
+            _ => return None,
+        };
+        Kind::ALL.get(usize::try_from(before).ok()?).copied()
     }
 
     /// Whether it is the value of a tag, single or in a loop.
@@ -92,6 +99,7 @@ impl Kind {
         match self {
             Kind::Block | Kind::FrameOpen | Kind::Tag | Kind::LoopTag => true,
             Kind::Bare | Kind::SingleQuoted | Kind::DoubleQuoted | Kind::Multiline => true,
+            Kind::Quoted => true,
             Kind::FrameClose | Kind::Loop | Kind::LoopEnd | Kind::Inapplicable => false,
             Kind::Unknown | Kind::Number | Kind::Uncertain => false,
         }
@@ -108,7 +116,8 @@ pub struct Record<'a> {
     pub place: Option<Place>,
     /// The bytes of its token, marks included.
     pub length: u64,
-    /// The name without its mark, or the text without its marks; none for kinds without one.
+    /// The bytes that the area holds of it: the name without its mark, or the text without its marks,
+    /// but that of [`Kind::Quoted`] with its opening mark. None for kinds without one.
     pub content: Option<&'a [u8]>,
     /// How many tags a loop has.
     pub tags: Option<u64>,
@@ -119,9 +128,12 @@ pub struct Record<'a> {
 }
 
 impl<'a> Record<'a> {
-    /// The content as text. What was read is plain ASCII, so none only where there is no content.
+    /// The name or the text, without any mark, also of [`Kind::Quoted`]. What was read is plain ASCII,
+    /// so none only where there is no content.
     pub fn text(&self) -> Option<&'a str> {
-        str::from_utf8(self.content?).ok()
+        let content = self.content?;
+        let marks = usize::from(self.kind == Kind::Quoted);
+        str::from_utf8(content.get(marks..).unwrap_or_default()).ok()
     }
 }
 
@@ -131,10 +143,10 @@ mod tests {
 
     #[test]
     fn kinds_and_numbers_go_both_ways() {
-        for number in 1..=15 {
+        for number in (1..=15).chain([21]) {
             assert_eq!(Kind::of_number(number).map(Kind::number), Some(number));
         }
-        for number in [0, 16, 255, u64::MAX] {
+        for number in [0, 16, 17, 18, 19, 20, 22, 255, u64::MAX] {
             assert_eq!(Kind::of_number(number), None);
         }
     }
@@ -153,6 +165,36 @@ mod tests {
             .filter(|kind| kind.has_content())
             .map(Kind::number)
             .collect();
-        assert_eq!(with, [1, 2, 4, 6, 10, 11, 12, 13]);
+        assert_eq!(with, [1, 2, 4, 6, 10, 11, 12, 13, 21]);
+    }
+
+    fn with_content(kind: Kind, content: &[u8]) -> Record<'_> {
+        Record {
+            kind,
+            place: None,
+            length: 0,
+            content: Some(content),
+            tags: None,
+            decimal: None,
+            next: 0,
+        }
+    }
+
+    #[test]
+    fn the_text_of_a_quoted_value_is_without_its_mark() {
+        let text = |kind, content| with_content(kind, content).text();
+        for (content, inside) in [
+            (&b"'"[..], ""),
+            (b"''", "'"),
+            (b"\"a", "a"),
+            (b"'a dog's life", "a dog's life"),
+        ] {
+            assert_eq!(text(Kind::Quoted, content), Some(inside));
+        }
+        assert_eq!(text(Kind::Bare, b"'a"), Some("'a"));
+        assert_eq!(text(Kind::Multiline, b"a\n"), Some("a\n"));
+        // No reading leaves the content of a quoted value empty; a damaged store may.
+        assert_eq!(text(Kind::Quoted, b""), Some(""));
+        assert_eq!(text(Kind::Quoted, b"'\xff"), None);
     }
 }

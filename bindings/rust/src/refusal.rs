@@ -40,6 +40,16 @@ pub mod number {
     pub const NAME_TWICE: u64 = 13;
     /// No such record, or it has no content.
     pub const NO_CONTENT: u64 = 14;
+    /// No space stands between two tokens (strict reading).
+    pub const NO_SPACE: u64 = 15;
+    /// A line has more than 2,048 bytes before its end (strict reading).
+    pub const LONG_LINE: u64 = 16;
+    /// A name is empty or too long (strict reading).
+    pub const NAME_LENGTH: u64 = 17;
+    /// A control byte other than tab, LF and CR (strict reading).
+    pub const CONTROL_BYTE: u64 = 18;
+    /// The call's number names no reading. Nothing in this crate makes such a call.
+    pub const NO_READING: u64 = 24;
 }
 
 /// Why a service did nothing.
@@ -48,7 +58,7 @@ pub mod number {
 pub struct Refusal {
     /// One of [`number`], never 0.
     pub number: u64,
-    /// Where in the text, for 2 to 9.
+    /// Where in the text, for 2 to 9 and 15 to 18.
     pub place: Option<Place>,
     /// For 13: the number of the name's first record, and of the record that repeats it.
     pub records: Option<(u64, u64)>,
@@ -67,7 +77,7 @@ impl Refusal {
             column: answer.column,
         };
         Refusal {
-            place: matches!(answer.number, number::NOT_ASCII..=number::OVER_LIMIT).then_some(place),
+            place: has_place(answer.number).then_some(place),
             records: (answer.number == number::NAME_TWICE).then_some((answer.offset, answer.line)),
             needed: matches!(answer.number, number::STORE_FULL | number::AREA_FULL)
                 .then_some((answer.first_length as usize, answer.second_length as usize)),
@@ -108,6 +118,14 @@ impl Refusal {
     }
 }
 
+/// Whether a refusal of this number tells a place in the text.
+fn has_place(number: u64) -> bool {
+    matches!(
+        number,
+        number::NOT_ASCII..=number::OVER_LIMIT | number::NO_SPACE..=number::CONTROL_BYTE
+    )
+}
+
 fn ragged(left_over: u64) -> String {
     let verb = if left_over == 1 { "is" } else { "are" };
     format!("the values of this loop do not fill whole rows: {left_over} {verb} left over")
@@ -135,6 +153,18 @@ fn fixed_sentence(number: u64) -> &'static str {
         number::UNSOUND => "the store is damaged, or its area is not the one written with it",
         number::NAME_TWICE => "the same tag stands twice",
         number::NO_CONTENT => "there is no such record, or it holds no name or text",
+        number::NO_SPACE => {
+            "the `;` before this closes a text field: put space or a line end behind it \
+             (no line of such a field may begin with `;`)"
+        }
+        number::LONG_LINE => {
+            "this line has more than 2,048 bytes, the most that CIF allows: break it before this place"
+        }
+        number::NAME_LENGTH => {
+            "this name is empty, or has more than the 75 bytes that CIF allows (a tag's `_` counts)"
+        }
+        number::CONTROL_BYTE => "a control character stands here, as in no CIF file: remove it",
+        number::NO_READING => "no reading has this number",
         _ => "refused for a reason that this version does not know",
     }
 }
@@ -194,6 +224,21 @@ mod tests {
     }
 
     #[test]
+    fn refusals_of_a_text_have_places_and_no_others_have() {
+        for number in 1..=30 {
+            let answer = Answer {
+                number,
+                offset: 7,
+                line: 1,
+                column: 8,
+                ..DONE
+            };
+            let expected = (2..=9).contains(&number) || (15..=18).contains(&number);
+            assert_eq!(Refusal::of(answer).place.is_some(), expected, "{number}");
+        }
+    }
+
+    #[test]
     fn a_repeated_name_has_two_records_and_no_place() {
         let refusal = Refusal::of(Answer {
             number: 13,
@@ -225,19 +270,21 @@ mod tests {
 
     #[test]
     fn every_number_has_a_sentence_of_its_own() {
-        let mut sentences: Vec<String> = (1..=15)
+        // 19 stands for all that are not known.
+        let mut sentences: Vec<String> = (1..=19)
+            .chain([24])
             .map(|number| Refusal::bare(number, 0).sentence())
             .collect();
         sentences.sort();
         sentences.dedup();
-        assert_eq!(sentences.len(), 15);
+        assert_eq!(sentences.len(), 20);
     }
 
     #[test]
     fn only_6_and_7_have_a_reason() {
         for detail in 0..=6 {
             let reason = Reason::of_number(detail);
-            for number in 1..=15 {
+            for number in (1..=18).chain([24]) {
                 let expected = if number == 6 || number == 7 {
                     reason
                 } else {

@@ -1,57 +1,72 @@
-//! The services over lent slices. Each says what the header says of the function of its name.
+//! The services over lent slices. Each says what the header says of the function of its name. A store
+//! goes with the reading that it was written in: in another one it may be refused by 12.
 
 use crate::answer::Answer;
 use crate::decimal::Decimal;
 use crate::foreign::{self, Walked};
+use crate::reading::Reading;
 use crate::record::{Kind, Place, Record};
 use crate::refusal::{number, Refusal};
 
 /// Reads a text: records to the store, contents to the area.
 ///
-/// Refuses by 1 to 11. A refusal writes nothing, success only the bytes counted; exactly enough room
-/// is room. With empty buffers the answer tells the room needed ([`Answer::needed`]).
-pub fn read(text: &[u8], store: &mut [u8], area: &mut [u8]) -> Answer {
-    foreign::read(text, store, area)
+/// Refuses by 1 to 11, and in the strict reading by 15 to 18 as well. A refusal writes nothing, success
+/// only the bytes counted; exactly enough room is room. With empty buffers the answer tells the room
+/// needed ([`Answer::needed`]).
+pub fn read(reading: Reading, text: &[u8], store: &mut [u8], area: &mut [u8]) -> Answer {
+    foreign::read(reading.number(), text, store, area)
 }
 
 /// Reads a text: kinds and places alone, 17 bytes for each record and 1 for the end of a loop.
 ///
 /// Refuses as [`read`] does, but never by 11. A refusal writes nothing, success only the bytes
 /// counted. Such a store is no store of [`read`]: [`render`], [`names`] and [`content`] refuse it.
-pub fn outline(text: &[u8], store: &mut [u8]) -> Answer {
-    foreign::outline(text, store)
+pub fn outline(reading: Reading, text: &[u8], store: &mut [u8]) -> Answer {
+    foreign::outline(reading.number(), text, store)
 }
 
-/// Writes a text that reads as the same records, each token on lines of its own.
+/// Writes a text that reads as the same records in this reading, each token on lines of its own.
 ///
 /// Refuses by 12, 1 and 11. A refusal writes nothing, success only the bytes counted.
-pub fn render(store: &[u8], area: &[u8], out: &mut [u8]) -> Answer {
-    foreign::render(store, area, out)
+pub fn render(reading: Reading, store: &[u8], area: &[u8], out: &mut [u8]) -> Answer {
+    foreign::render(reading.number(), store, area, out)
 }
 
-/// Whether names stand once among the block's own tags, and among those of each frame. Letter case
+/// Whether names stand once among each block's own tags, and among those of each frame. Letter case
 /// makes no difference: A to Z are taken as a to z, and every other byte as it is.
 ///
 /// Refuses by 12 and 13.
-pub fn names(store: &[u8], area: &[u8]) -> Answer {
-    foreign::names(store, area)
+pub fn names(reading: Reading, store: &[u8], area: &[u8]) -> Answer {
+    foreign::names(reading.number(), store, area)
 }
 
-/// The content of the record of this number, counted from 0.
+/// The content of the record of this number, counted from 0. That of a quoted value of the strict
+/// reading begins with its opening mark.
 ///
 /// Refuses by 12 and 14. It looks at the whole store; to see every content, walk the records.
-pub fn content<'a>(store: &[u8], area: &'a [u8], record: u64) -> Result<&'a [u8], Refusal> {
-    foreign::content(store, area, record).result()?;
-    let part = foreign::content_part(store, area, record);
+pub fn content<'a>(
+    reading: Reading,
+    store: &[u8],
+    area: &'a [u8],
+    record: u64,
+) -> Result<&'a [u8], Refusal> {
+    foreign::content(reading.number(), store, area, record).result()?;
+    let part = foreign::content_part(reading.number(), store, area, record);
     part_of(area, part.start, part.length).ok_or_else(no_content)
 }
 
 /// The record at this byte offset of the store; the first is at 0, each says where the next one is.
 ///
 /// Refuses by 14 where no whole record starts there, as at the store's end. It looks at that record
-/// alone, and so says nothing about the rest of the store.
-pub fn record_at<'a>(store: &[u8], area: &'a [u8], at: usize) -> Result<Record<'a>, Refusal> {
-    let walked = foreign::record_at(store, area, at as u64);
+/// alone, and so says nothing about the rest of the store. The kinds of all readings are records to it,
+/// so that its answer is the same in each.
+pub fn record_at<'a>(
+    reading: Reading,
+    store: &[u8],
+    area: &'a [u8],
+    at: usize,
+) -> Result<Record<'a>, Refusal> {
+    let walked = foreign::record_at(reading.number(), store, area, at as u64);
     if walked.number != number::DONE {
         return Err(Refusal::bare(walked.number, 0));
     }

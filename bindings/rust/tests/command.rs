@@ -95,7 +95,7 @@ fn the_readme_shows_what_the_command_prints() {
         assert!(printed.starts_with(&(output + &message)), "{line}");
         shown += 1;
     }
-    assert_eq!(shown, 3);
+    assert_eq!(shown, 4);
 }
 
 #[test]
@@ -200,7 +200,7 @@ fn check_says_what_is_wrong_and_shows_where() {
         ),
         (
             "07-second-block",
-            "4:1: refused 7: a second block begins here, and one file holds one: put each block into a file of its own\n    data_y\n    ^\n",
+            "4:1: refused 7: a second block begins here: use --strict, which reads several, or put each block into a file of its own\n    data_y\n    ^\n",
         ),
         (
             "07-no-item",
@@ -219,6 +219,144 @@ fn check_says_what_is_wrong_and_shows_where() {
         let file = format!("examples/refused/{name}.cif");
         let expected = refused("", &format!("{file}:{message}"));
         assert_eq!(run(&["check", &file]), expected);
+    }
+}
+
+#[test]
+fn check_says_what_the_strict_reading_refuses() {
+    let long_line = format!(
+        "    ...{}\n{}^\n",
+        &include_str!("../../../examples/strict/refused/16-long-line.cif")[2055 - 64..2055 + 13],
+        " ".repeat(4 + 3 + 64)
+    );
+    let long_tag = format!("    _{}\n    ^\n", "n".repeat(75) + " 1");
+    let messages = [
+        (
+            "04-open-frame",
+            "2:1: refused 4: this save frame is not closed: where its items end, no `save_` stands\n    save_f\n    ^\n".into(),
+        ),
+        (
+            "06-empty-loop",
+            "3:1: refused 6: this loop has no values: `loop_` stands in their place \
+             (remove the loop, or give it a row of `?`)\n    loop_ _y 1\n    ^\n".into(),
+        ),
+        (
+            "06-open-quote",
+            "2:7: refused 6: the quote that opens here is not closed on its line: \
+             the mark that closes it stands before space or the line's end\n    _name 'urea'#c\n          ^\n".into(),
+        ),
+        (
+            "07-no-space",
+            "2:1: refused 7: a space is missing behind `loop_`\n    loop__label C1\n    ^\n".into(),
+        ),
+        (
+            "15-no-space",
+            "4:2: refused 15: the `;` before this closes a text field: put space or a line end behind it \
+             (no line of such a field may begin with `;`)\n    ;_name urea\n     ^\n".into(),
+        ),
+        (
+            "16-long-line",
+            "2:2049: refused 16: this line has more than 2,048 bytes, the most that CIF allows: \
+             break it before this place\n".to_string() + &long_line,
+        ),
+        (
+            "17-empty-name",
+            "1:1: refused 17: this block has no name: write one directly behind `data_`\n    data_\n    ^\n".into(),
+        ),
+        (
+            "17-long-name",
+            "2:1: refused 17: this tag, its `_` included, has 76 bytes, and CIF allows 75: shorten it\n".to_string()
+                + &long_tag,
+        ),
+        (
+            "18-control-byte",
+            "2:11: refused 18: the control character 0C (form feed) stands here: remove it\n    \
+             _name 'ure\u{fffd}a'\n              ^\n".into(),
+        ),
+    ];
+    for (name, message) in messages {
+        let file = format!("examples/strict/refused/{name}.cif");
+        let expected = refused("", &format!("{file}:{message}"));
+        assert_eq!(run(&["check", "--strict", &file]), expected);
+    }
+}
+
+/// Two blocks, and a quote that holds its own mark: what the one reading refuses the other reads.
+#[test]
+fn every_command_takes_the_strict_reading() {
+    let file = "examples/strict/blocks.cif";
+    let message = format!(
+        "{file}:2:23: refused 7: the mark before this closes its quote: a text that holds this mark \
+         stands between marks of the other kind\n    _audit_author_name 'O'Neill H St C'\n{}^\n",
+        " ".repeat(26)
+    );
+    assert_eq!(run(&["check", file]), refused("", &message));
+    assert_eq!(run(&["check", "--strict", file]), done(""));
+    let outline = include_str!("../../../examples/strict/blocks.outline");
+    assert_eq!(run(&["outline", "--strict", file]), done(outline));
+    assert_eq!(
+        run(&["values", "--strict", file]),
+        done(
+            "data_urea_12K\n_audit_author_name  O'Neill H St C\n_cell_length_a      5.565(1)\n\n\
+             data_urea_123K\n_audit_author_name  O'Neill H St C\n_cell_length_a      5.584(1)\n"
+        )
+    );
+    assert_eq!(
+        run(&["values", "--strict", "--tabs", file, "cell_length_a"]),
+        done(
+            "data_urea_12K\n_cell_length_a\t5.565(1)\n\ndata_urea_123K\n_cell_length_a\t5.584(1)\n"
+        )
+    );
+    let (status, rendered, _) = run(&["render", "--strict", file]);
+    assert_eq!(status, 0);
+    assert!(rendered.contains("\n'O'Neill H St C'\n"));
+    assert_eq!(
+        run_with(&["render", "--strict", "-"], rendered.as_bytes()),
+        done(&rendered)
+    );
+}
+
+#[test]
+fn the_strict_rendering_has_a_space_before_a_semicolon() {
+    assert_eq!(
+        run(&["render", "--strict", "examples/strict/words.cif"]),
+        done(
+            "data_words\nloop_\n_word\nx\n ;b\n.x\n?y\n1e+\n1()\nloop_x\n'it's'\n\"a\"b\"\n.\n?\n\
+             _note\n;field; and\n;\n"
+        )
+    );
+}
+
+/// In each block, and only there, a tag stands once.
+#[test]
+fn check_names_block_by_block() {
+    let check = |text: &[u8]| run_with(&["check", "--strict", "-"], text);
+    assert_eq!(check(b"data_x\n_a 1\ndata_y\n_a 2\n"), done(""));
+    assert_eq!(
+        check(b"data_x\n_a 1\ndata_y\n_b 2\n_B 3\n"),
+        refused(
+            "",
+            "<stdin>:5:1: refused 13: the tag _B stands here again\n    _B 3\n    ^\n\
+             <stdin>:4:1: it stands here before as _b: small and capital letters count as the same\n    _b 2\n    ^\n"
+        )
+    );
+}
+
+#[test]
+fn files_that_are_no_cif_get_one_line_in_the_strict_reading_too() {
+    for (text, line) in [
+        (
+            &b"\x7fELF\x02\0"[..],
+            "<stdin>:1:1: refused 18: this is no text file\n",
+        ),
+        (
+            b"\x1f\x8b\x08\0\0",
+            "<stdin>:1:2: refused 2: the file is compressed: unpack it first\n",
+        ),
+        (b"", "<stdin>:1:1: refused 3: the file is empty\n"),
+    ] {
+        let expected = refused("", line);
+        assert_eq!(run_with(&["check", "--strict", "-"], text), expected);
     }
 }
 
@@ -512,10 +650,10 @@ fn help_and_version_are_output() {
     let (status, output, message) = run(&["--help"]);
     assert_eq!((status, message.as_str()), (0, ""));
     for word in [
-        "outline FILE",
-        "check FILE",
-        "values",
-        "render FILE",
+        "outline [--strict] FILE",
+        "check [--strict] FILE",
+        "values [--strict] [--tabs] FILE",
+        "render [--strict] FILE",
         "Examples:",
     ] {
         assert!(output.contains(word), "{word}");

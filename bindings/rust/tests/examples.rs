@@ -1,15 +1,16 @@
-//! The files of examples/, held to the outlines beside them.
+//! The files of examples/, held to the outlines beside them: those below strict/ in the strict reading.
 
 use std::fs;
 use std::path::{Path, PathBuf};
 
-use chuntarek::{outline, Document, Refusal};
+use chuntarek::{outline, Document, Reading, Refusal};
 
-/// The files that have an outline beside them.
-fn outlined() -> Vec<(PathBuf, String)> {
+/// The files of a folder of examples, and of its refused ones, that have an outline beside them.
+fn outlined(folder: &str) -> Vec<(PathBuf, String)> {
     let examples = Path::new(env!("CARGO_MANIFEST_DIR")).join("../../examples");
+    let folder = examples.join(folder);
     let mut found = Vec::new();
-    for folder in [examples.clone(), examples.join("refused")] {
+    for folder in [folder.clone(), folder.join("refused")] {
         for entry in fs::read_dir(folder).expect("the folder is there") {
             let path = entry.expect("the entry is there").path();
             if path
@@ -35,8 +36,8 @@ fn refused(refusal: Refusal) -> String {
 }
 
 /// The outline by the records of a reading.
-fn by_records(text: &[u8]) -> String {
-    let document = match Document::read(text) {
+fn by_records(reading: Reading, text: &[u8]) -> String {
+    let document = match Document::read_as(reading, text) {
         Ok(document) => document,
         Err(refusal) => return refused(refusal),
     };
@@ -54,13 +55,15 @@ fn by_records(text: &[u8]) -> String {
 }
 
 /// The outline by the bytes that the service Outline writes.
-fn by_outline(text: &[u8]) -> String {
-    let length = match outline(text, &mut []).needed() {
+fn by_outline(reading: Reading, text: &[u8]) -> String {
+    let length = match outline(reading, text, &mut []).needed() {
         Ok((length, _)) => length,
         Err(refusal) => return refused(refusal),
     };
     let mut store = vec![0; length];
-    outline(text, &mut store).result().expect("there is room");
+    outline(reading, text, &mut store)
+        .result()
+        .expect("there is room");
     let mut lines = String::new();
     let mut rest = &store[..];
     while let Some((kind, after)) = rest.split_first() {
@@ -76,13 +79,18 @@ fn by_outline(text: &[u8]) -> String {
     lines + "end\n"
 }
 
-#[test]
-fn examples_have_the_outlines_beside_them() {
-    let outlined = outlined();
-    assert_eq!(outlined.len(), 23);
+fn have_outlines(reading: Reading, folder: &str, count: usize) {
+    let outlined = outlined(folder);
+    assert_eq!(outlined.len(), count);
     for (file, lines) in outlined {
         let text = fs::read(&file).expect("the example is there");
-        assert_eq!(by_records(&text), lines, "{}", file.display());
-        assert_eq!(by_outline(&text), lines, "{}", file.display());
+        assert_eq!(by_records(reading, &text), lines, "{}", file.display());
+        assert_eq!(by_outline(reading, &text), lines, "{}", file.display());
     }
+}
+
+#[test]
+fn examples_have_the_outlines_beside_them() {
+    have_outlines(Reading::First, "", 23);
+    have_outlines(Reading::Strict, "strict", 11);
 }

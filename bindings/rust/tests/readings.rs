@@ -2,25 +2,12 @@
 
 mod common;
 
-use chuntarek::{outline, read, Decimal, Document, Kind, Reason, Refusal};
-use common::{document, kinds, refusal};
+use chuntarek::{Decimal, Document, Kind, Reading, Reason, Refusal};
+use common::{document, is_refused, kinds, refusal};
 
-/// Both services refuse a text alike, with any room.
 fn refused(text: &[u8], number: u64, offset: u64, line: u64, column: u64, detail: u64) {
     let expected = refusal(number, offset, line, column, detail);
-    let shown = String::from_utf8_lossy(text);
-    assert_eq!(read(text, &mut [], &mut []), expected, "{shown}");
-    let (mut store, mut area) = ([0; 512], [0; 512]);
-    assert_eq!(read(text, &mut store, &mut area), expected, "{shown}");
-    assert_eq!(outline(text, &mut []), expected, "{shown}");
-    assert_eq!(outline(text, &mut store), expected, "{shown}");
-    assert_eq!((store, area), ([0; 512], [0; 512]), "{shown}");
-    let refusal = Document::read(text).expect_err("both services refuse it");
-    assert_eq!(
-        (refusal.number, refusal.detail),
-        (number, detail),
-        "{shown}"
-    );
+    is_refused(Reading::First, text, expected);
 }
 
 /// The value of the one tag of a text: its kind, content and decimal.

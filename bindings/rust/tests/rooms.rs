@@ -3,8 +3,10 @@
 
 mod common;
 
-use chuntarek::{outline, read, render, Answer, Document, Refusal, TEXT_LIMIT};
+use chuntarek::{outline, read, render, Answer, Document, Reading, Refusal, TEXT_LIMIT};
 use common::*;
+
+const FIRST: Reading = Reading::First;
 
 /// A buffer of which the first bytes are lent.
 struct Lent {
@@ -32,7 +34,7 @@ impl Lent {
 
 fn read_into(store_room: usize, area_room: usize) -> (Answer, Lent, Lent) {
     let (mut store, mut area) = (Lent::new(store_room), Lent::new(area_room));
-    let answer = read(SAMPLE, store.lend(), area.lend());
+    let answer = read(FIRST, SAMPLE, store.lend(), area.lend());
     (answer, store, area)
 }
 
@@ -74,20 +76,23 @@ fn read_without_room_tells_both_lengths_and_writes_nothing() {
 #[test]
 fn an_empty_area_is_enough_where_no_content_is() {
     let mut store = [0; 21];
-    assert_eq!(read(b"data_", &mut store, &mut []), answer(0, 21, 0));
-    assert_eq!(read(b"data_", &mut store[..20], &mut []), answer(10, 21, 0));
+    assert_eq!(read(FIRST, b"data_", &mut store, &mut []), answer(0, 21, 0));
+    assert_eq!(
+        read(FIRST, b"data_", &mut store[..20], &mut []),
+        answer(10, 21, 0)
+    );
 }
 
 #[test]
 fn outline_fills_what_it_counts() {
     for spare in [0, 1, 16] {
         let mut store = Lent::new(SAMPLE_OUTLINE + spare);
-        assert_eq!(outline(SAMPLE, store.lend()), answer(0, 137, 0));
+        assert_eq!(outline(FIRST, SAMPLE, store.lend()), answer(0, 137, 0));
         store.only_changed(SAMPLE_OUTLINE);
     }
     for room in [0, 1, SAMPLE_OUTLINE - 1] {
         let mut store = Lent::new(room);
-        assert_eq!(outline(SAMPLE, store.lend()), answer(10, 137, 0));
+        assert_eq!(outline(FIRST, SAMPLE, store.lend()), answer(10, 137, 0));
         store.only_changed(0);
     }
 }
@@ -95,7 +100,7 @@ fn outline_fills_what_it_counts() {
 #[test]
 fn outline_writes_kinds_and_places() {
     let mut store = [0; SAMPLE_OUTLINE];
-    outline(SAMPLE, &mut store);
+    outline(FIRST, SAMPLE, &mut store);
     let block = [1, 0, 0, 0, 0, 6, 0, 0, 0, 1, 0, 0, 0, 1, 0, 0, 0];
     let unknown_and_end = [9, 32, 0, 0, 0, 1, 0, 0, 0, 4, 0, 0, 0, 3, 0, 0, 0, 7];
     assert!(store.starts_with(&block));
@@ -108,14 +113,14 @@ fn render_fills_what_it_counts() {
     let length = SAMPLE_RENDERED.len();
     for spare in [0, 1, 16] {
         let mut out = Lent::new(length + spare);
-        let done = render(sample.store(), sample.area(), out.lend());
+        let done = render(FIRST, sample.store(), sample.area(), out.lend());
         assert_eq!(done, answer(0, length as u64, 0));
         assert!(out.bytes.starts_with(SAMPLE_RENDERED));
         out.only_changed(length);
     }
     for room in [0, 1, length - 1] {
         let mut out = Lent::new(room);
-        let refused = render(sample.store(), sample.area(), out.lend());
+        let refused = render(FIRST, sample.store(), sample.area(), out.lend());
         assert_eq!(refused, answer(11, length as u64, 0));
         out.only_changed(0);
     }
@@ -134,8 +139,8 @@ fn a_text_over_the_limit_is_refused_whatever_it_holds() {
     let refused = answer(1, 0, 0);
     for text in [field_text(TEXT_LIMIT + 1), vec![0xFF; TEXT_LIMIT + 1]] {
         let (mut store, mut area) = (Lent::new(64), Lent::new(64));
-        assert_eq!(read(&text, store.lend(), area.lend()), refused);
-        assert_eq!(outline(&text, store.lend()), refused);
+        assert_eq!(read(FIRST, &text, store.lend(), area.lend()), refused);
+        assert_eq!(outline(FIRST, &text, store.lend()), refused);
         store.only_changed(0);
         area.only_changed(0);
         let refusal = Document::read(&text).map(|_| ()).map_err(place_and_number);
@@ -155,7 +160,7 @@ fn a_text_at_the_limit_is_read_and_its_rendering_may_be_over_it() {
     assert_eq!(document.store().len(), 63);
     assert_eq!(document.area().len(), TEXT_LIMIT - 10);
     let mut out = Lent::new(64);
-    let refused = render(document.store(), document.area(), out.lend());
+    let refused = render(FIRST, document.store(), document.area(), out.lend());
     assert_eq!(refused, answer(1, 0, 0));
     out.only_changed(0);
     assert_eq!(document.render().map_err(place_and_number), Err((1, false)));

@@ -1,58 +1,22 @@
-//! Stores and areas, whole and damaged, through every service that takes them.
+//! Stores and areas of the first reading, whole and damaged, through every service that takes them.
 
 mod common;
 
-use chuntarek::{content, names, outline, record_at, render, Document};
+use chuntarek::{outline, record_at, Document, Reading};
 use common::*;
 
-/// Whether a store is sound, which every service that takes one has to say alike.
+const FIRST: Reading = Reading::First;
+
 fn is_sound(store: &[u8], area: &[u8]) -> bool {
-    let named = names(store, area);
-    let mut out = [FILL; 48];
-    let rendered = render(store, area, &mut out);
-    let found = content(store, area, u64::MAX).expect_err("no store is that long");
-    let refused = [named.number, rendered.number, found.number].map(|number| number == 12);
-    assert!(refused == [true; 3] || refused == [false; 3], "{refused:?}");
-    if named.number == 12 {
-        assert_eq!([named, rendered], [answer(12, 0, 0); 2]);
-        assert_eq!(out, [FILL; 48]);
-        assert_eq!(content(store, area, 0), Err(found));
-    }
-    named.number != 12
+    common::is_sound(FIRST, store, area)
 }
 
-/// What holds of any bytes: walks end within the store, contents stay within the area.
 fn walk(store: &[u8], area: &[u8]) {
-    let mut at = 0;
-    while let Ok(record) = record_at(store, area, at) {
-        assert!(record.next > at && record.next <= store.len());
-        assert!(record.content.unwrap_or_default().len() <= area.len());
-        at = record.next;
-    }
+    common::walk(FIRST, store, area);
 }
 
-/// A sound store, changed or not, renders to a text that reads as the same records.
 fn round_trip(store: &[u8], area: &[u8]) {
-    let kept = Document::from_parts(store.to_vec(), area.to_vec()).expect("the store is sound");
-    let text = kept.render().expect("the rendering is short");
-    let again = Document::read(&text).expect("a rendering is read");
-    assert_eq!(without_places(&again), without_places(&kept));
-    assert_eq!(again.area(), kept.area());
-    assert_eq!(again.render(), Ok(text));
-}
-
-/// Every store that differs from this one in one byte.
-fn each_damage(bytes: &[u8], mut action: impl FnMut(usize, u8, &[u8])) {
-    let mut damaged = bytes.to_vec();
-    for at in 0..bytes.len() {
-        for byte in 0..=255 {
-            if byte != bytes[at] {
-                damaged[at] = byte;
-                action(at, byte, &damaged);
-            }
-        }
-        damaged[at] = bytes[at];
-    }
+    common::round_trip(FIRST, store, area);
 }
 
 #[test]
@@ -166,7 +130,9 @@ fn an_empty_store_and_an_outline_are_unsound() {
     assert!(!is_sound(&[], b"x"));
     for text in [b"data_".as_slice(), b"data_t", SAMPLE] {
         let mut store = vec![0; 1000];
-        let (length, _) = outline(text, &mut store).result().expect("there is room");
+        let (length, _) = outline(FIRST, text, &mut store)
+            .result()
+            .expect("there is room");
         assert!(!is_sound(&store[..length], &[]));
         assert!(!is_sound(&store[..length], SAMPLE_AREA));
     }
@@ -248,17 +214,18 @@ fn a_record_is_found_by_its_offset() {
     let ends: Vec<usize> = sample.records().map(|record| record.next).collect();
     assert_eq!(ends, [21, 42, 81, 102, 123, 144, 165, 182, 183]);
     for at in [183, 184, 1 << 32, usize::MAX] {
-        let refusal = record_at(sample.store(), sample.area(), at).expect_err("past the end");
+        let refusal =
+            record_at(FIRST, sample.store(), sample.area(), at).expect_err("past the end");
         assert_eq!((refusal.number, refusal.place), (14, None));
     }
     for at in 0..183 {
         walk(&sample.store()[at..], sample.area());
-        if let Ok(record) = record_at(sample.store(), sample.area(), at) {
+        if let Ok(record) = record_at(FIRST, sample.store(), sample.area(), at) {
             assert!(record.next > at && record.next <= 183, "{at}");
         }
     }
-    assert!(record_at(&[], &[], 0).is_err());
-    assert!(record_at(&sample.store()[..20], sample.area(), 0).is_err());
+    assert!(record_at(FIRST, &[], &[], 0).is_err());
+    assert!(record_at(FIRST, &sample.store()[..20], sample.area(), 0).is_err());
 }
 
 #[test]

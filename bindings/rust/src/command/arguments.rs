@@ -2,6 +2,8 @@
 
 use std::ffi::{OsStr, OsString};
 
+use chuntarek::Reading;
+
 use super::table::Layout;
 
 /// What is asked for.
@@ -10,19 +12,29 @@ pub enum Request {
     Help,
     Version,
     Outline {
+        reading: Reading,
         files: Vec<OsString>,
     },
     Check {
+        reading: Reading,
         files: Vec<OsString>,
     },
     Values {
+        reading: Reading,
         file: OsString,
-        tags: Vec<OsString>,
-        layout: Layout,
+        wish: Wish,
     },
     Render {
+        reading: Reading,
         file: OsString,
     },
+}
+
+/// Which values are shown, all if no tags are named, and how.
+#[derive(Debug, PartialEq, Eq)]
+pub struct Wish {
+    pub tags: Vec<OsString>,
+    pub layout: Layout,
 }
 
 /// The words behind the command's name: options, and what they are about.
@@ -30,6 +42,7 @@ pub enum Request {
 struct Words {
     help: bool,
     version: bool,
+    strict: bool,
     tabs: bool,
     plain: Vec<OsString>,
 }
@@ -43,6 +56,10 @@ pub fn parse(arguments: impl Iterator<Item = OsString>) -> Result<Request, Strin
     if words.version {
         return Ok(Request::Version);
     }
+    let reading = match words.strict {
+        true => Reading::Strict,
+        false => Reading::First,
+    };
     let mut plain = words.plain.into_iter();
     let Some(name) = plain.next() else {
         return Err(String::from("nothing is asked for"));
@@ -52,10 +69,12 @@ pub fn parse(arguments: impl Iterator<Item = OsString>) -> Result<Request, Strin
         return Err(String::from("--tabs belongs to `values`"));
     }
     match name.to_str() {
-        Some("outline") => some_files("outline", rest).map(|files| Request::Outline { files }),
-        Some("check") => some_files("check", rest).map(|files| Request::Check { files }),
-        Some("values") => values(rest, words.tabs),
-        Some("render") => one_file(rest).map(|file| Request::Render { file }),
+        Some("outline") => {
+            some_files("outline", rest).map(|files| Request::Outline { reading, files })
+        }
+        Some("check") => some_files("check", rest).map(|files| Request::Check { reading, files }),
+        Some("values") => values(reading, rest, words.tabs),
+        Some("render") => one_file(rest).map(|file| Request::Render { reading, file }),
         _ => Err(format!("there is no command {name:?}")),
     }
 }
@@ -73,6 +92,7 @@ fn sort(arguments: impl Iterator<Item = OsString>) -> Result<Words, String> {
             Some("--") => options_end = true,
             Some("--help" | "-h") => words.help = true,
             Some("--version" | "-V") => words.version = true,
+            Some("--strict") => words.strict = true,
             Some("--tabs") => words.tabs = true,
             _ => return Err(format!("there is no option {word:?}")),
         }
@@ -98,15 +118,18 @@ fn one_file(files: Vec<OsString>) -> Result<OsString, String> {
     }
 }
 
-fn values(words: Vec<OsString>, tabs: bool) -> Result<Request, String> {
+fn values(reading: Reading, words: Vec<OsString>, tabs: bool) -> Result<Request, String> {
     let mut words = words.into_iter();
     let Some(file) = words.next() else {
         return Err(String::from("`values` needs a file"));
     };
     Ok(Request::Values {
+        reading,
         file,
-        tags: words.collect(),
-        layout: if tabs { Layout::Tabs } else { Layout::Aligned },
+        wish: Wish {
+            tags: words.collect(),
+            layout: if tabs { Layout::Tabs } else { Layout::Aligned },
+        },
     })
 }
 
@@ -123,16 +146,50 @@ mod tests {
         assert_eq!(
             parsed("outline a.cif -"),
             Ok(Request::Outline {
+                reading: Reading::First,
                 files: vec!["a.cif".into(), "-".into()]
             })
         );
         assert_eq!(
             parsed("values a.cif _b c --tabs"),
             Ok(Request::Values {
+                reading: Reading::First,
                 file: "a.cif".into(),
-                tags: vec!["_b".into(), "c".into()],
-                layout: Layout::Tabs
+                wish: Wish {
+                    tags: vec!["_b".into(), "c".into()],
+                    layout: Layout::Tabs
+                }
             })
+        );
+    }
+
+    #[test]
+    fn each_command_takes_the_strict_reading() {
+        let reading = Reading::Strict;
+        let (file, files) = (OsString::from("a.cif"), vec![OsString::from("a.cif")]);
+        for line in ["outline --strict a.cif", "--strict outline a.cif"] {
+            let files = files.clone();
+            assert_eq!(parsed(line), Ok(Request::Outline { reading, files }));
+        }
+        assert_eq!(
+            parsed("check a.cif --strict"),
+            Ok(Request::Check { reading, files })
+        );
+        let wish = Wish {
+            tags: vec!["b".into()],
+            layout: Layout::Aligned,
+        };
+        assert_eq!(
+            parsed("values --strict a.cif b"),
+            Ok(Request::Values {
+                reading,
+                file: file.clone(),
+                wish
+            })
+        );
+        assert_eq!(
+            parsed("render --strict a.cif"),
+            Ok(Request::Render { reading, file })
         );
     }
 
@@ -149,6 +206,7 @@ mod tests {
         assert_eq!(
             parsed("render -- --help"),
             Ok(Request::Render {
+                reading: Reading::First,
                 file: "--help".into()
             })
         );

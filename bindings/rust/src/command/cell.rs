@@ -20,8 +20,8 @@ pub fn write(record: &Record, cell: &mut String) {
         // Writing into a text cannot fail.
         let _ = write!(cell, "{decimal}");
     }
-    for byte in record.content.unwrap_or_default() {
-        escape(*byte, cell);
+    for byte in record.text().unwrap_or_default().bytes() {
+        escape(byte, cell);
     }
 }
 
@@ -41,10 +41,14 @@ fn escape(byte: u8, cell: &mut String) {
 #[cfg(test)]
 mod tests {
     use super::*;
-    use chuntarek::Document;
+    use chuntarek::{Document, Reading};
 
     fn cells(text: &[u8]) -> Vec<String> {
-        let document = Document::read(text).expect("the text is read");
+        cells_as(Reading::First, text)
+    }
+
+    fn cells_as(reading: Reading, text: &[u8]) -> Vec<String> {
+        let document = Document::read_as(reading, text).expect("the text is read");
         let mut cell = String::new();
         document
             .records()
@@ -72,6 +76,28 @@ mod tests {
                 "e",
                 "f",
                 "-0.50e1(2)",
+                ""
+            ]
+        );
+    }
+
+    #[test]
+    fn a_strict_value_has_its_cell_without_marks() {
+        assert_eq!(
+            cells_as(
+                Reading::Strict,
+                b"data_x loop_ _a 'O'Neill H St C' \"b\" '' ;c .d ?e"
+            ),
+            [
+                "data_x",
+                "",
+                "_a",
+                "O'Neill H St C",
+                "b",
+                "",
+                ";c",
+                ".d",
+                "?e",
                 ""
             ]
         );

@@ -1,9 +1,9 @@
 //! Hints: a refusal's sentence in closer words, by its reason and by what stands there. They decide
 //! nothing.
 
-use chuntarek::{number, Place, Reason, Refusal};
+use chuntarek::{number, Place, Reading, Reason, Refusal};
 
-use super::{excerpt, ragged, walk};
+use super::{excerpt, ragged, strict, walk};
 
 /// What is wrong, and where.
 #[derive(Debug, PartialEq, Eq)]
@@ -15,34 +15,43 @@ pub struct Hint {
 /// What to write where a value is missing.
 const WRITE_IT: &str = "write `?` for an unknown value";
 
-/// Said of the place behind a quote that ends too early.
+/// Said of the place behind a quote that ends too early, which the strict reading's never do.
 pub const CLOSED_EARLY: &str =
     "the mark before this closes its quote: a text that holds this mark stands between marks of the other kind";
 
+/// Said of a second block, which the first reading does not take.
+const SECOND_BLOCK: &str =
+    "a second block begins here: use --strict, which reads several, or put each block into a file of its own";
+
 /// Closer words for this refusal of a text, and what else there is to say; empty where the refusal
 /// says enough itself.
-pub fn hints(text: &[u8], refusal: &Refusal) -> Vec<Hint> {
+pub fn hints(reading: Reading, text: &[u8], refusal: &Refusal) -> Vec<Hint> {
     let Some(place) = refusal.place else {
         return Vec::new();
     };
     match (refusal.number, refusal.reason()) {
-        (number::RAGGED, _) => ragged::hints(text, place, refusal),
-        (number::NO_VALUE, Some(reason)) => Vec::from_iter(instead_of_value(text, place, reason)),
+        (number::RAGGED, _) => ragged::hints(reading, text, place, refusal),
+        (number::NO_VALUE, Some(reason)) => {
+            Vec::from_iter(instead_of_value(reading, text, place, reason))
+        }
         _ => {
-            let sentence = at_place(text, place, refusal);
+            let sentence = at_place(reading, text, place, refusal);
             Vec::from_iter(sentence.map(|sentence| Hint { place, sentence }))
         }
     }
 }
 
 /// Closer words where the refusal's own place is the right one.
-fn at_place(text: &[u8], place: Place, refusal: &Refusal) -> Option<String> {
+fn at_place(reading: Reading, text: &[u8], place: Place, refusal: &Refusal) -> Option<String> {
     let offset = usize::try_from(place.offset).ok()?;
     let (before, rest) = text.split_at_checked(offset)?;
     match refusal.number {
         number::NOT_ASCII => Some(instead_of_ascii(text, rest)),
         number::NO_DATA => Some(instead_of_block(text, rest)),
-        number::NO_ITEM => instead_of_item(before, rest, refusal.reason()),
+        number::NO_ITEM => instead_of_item(reading, before, rest, refusal.reason()),
+        number::NAME_LENGTH => strict::name_length(first_word(rest)),
+        number::CONTROL_BYTE if is_binary(text) => Some(String::from(NO_TEXT)),
+        number::CONTROL_BYTE => control_character(*rest.first()?),
         _ => None,
     }
 }
@@ -75,11 +84,13 @@ fn other_encoding(text: &[u8]) -> Option<&'static str> {
     } else if text.starts_with(b"\xff\xfe") || text.starts_with(b"\xfe\xff") {
         Some("the file is in UTF-16: save it as plain ASCII")
     } else if is_binary(text) {
-        Some("this is no text file")
+        Some(NO_TEXT)
     } else {
         None
     }
 }
+
+const NO_TEXT: &str = "this is no text file";
 
 /// Whether bytes are no text: no text has a byte 0.
 pub fn is_binary(text: &[u8]) -> bool {
@@ -93,7 +104,7 @@ fn instead_of_block(text: &[u8], rest: &[u8]) -> String {
     } else if rest.is_empty() {
         String::from("the file holds only space and comments")
     } else if is_binary(text) {
-        String::from("this is no text file")
+        String::from(NO_TEXT)
     } else {
         let start = excerpt::start(rest);
         format!("a CIF file begins with `data_` and a name, and here stands `{start}`")
@@ -102,7 +113,12 @@ fn instead_of_block(text: &[u8], rest: &[u8]) -> String {
 
 /// What stands where the value of a tag should, at its own place. Where the text ends, that is directly
 /// behind the tag: there the value can be written.
-fn instead_of_value(text: &[u8], tag_place: Place, reason: Reason) -> Option<Hint> {
+fn instead_of_value(
+    reading: Reading,
+    text: &[u8],
+    tag_place: Place,
+    reason: Reason,
+) -> Option<Hint> {
     let start = usize::try_from(tag_place.offset).ok()?;
     let end = walk::word_end(text, start);
     let at = match reason {
@@ -111,9 +127,13 @@ fn instead_of_value(text: &[u8], tag_place: Place, reason: Reason) -> Option<Hin
     };
     let tag = excerpt::start(text.get(start..end)?);
     let rest = text.get(at..)?;
+    let missing = match reading {
+        Reading::Strict if strict::is_in_loop(text, start) => strict::missing_row(rest, reason),
+        _ => missing_value(&tag, rest, reason),
+    };
     Some(Hint {
         place: walk::place_at(text, tag_place, at),
-        sentence: missing_value(&tag, rest, reason).or_else(|| failed_value(rest, reason))?,
+        sentence: missing.or_else(|| failed_value(reading, rest, reason))?,
     })
 }
 
@@ -137,7 +157,7 @@ fn missing_value(tag: &str, rest: &[u8], reason: Reason) -> Option<String> {
 }
 
 /// Why what stands here is no value, be it a tag's or a loop's.
-pub fn failed_value(rest: &[u8], reason: Reason) -> Option<String> {
+pub fn failed_value(reading: Reading, rest: &[u8], reason: Reason) -> Option<String> {
     match reason {
         Reason::ReservedWord => Some(format!(
             "`{}` begins with a reserved word: put quote marks around it",
@@ -147,9 +167,8 @@ pub fn failed_value(rest: &[u8], reason: Reason) -> Option<String> {
             let first = rest.first()?;
             control_character(*first).or_else(|| Some(unquoted(*first)))
         }
-        Reason::OpenQuote => Some(String::from(
-            "the quote that opens here is not closed on its line",
-        )),
+        Reason::OpenQuote if reading == Reading::Strict => Some(strict::open_quote(rest)),
+        Reason::OpenQuote => Some(String::from(OPEN_QUOTE)),
         Reason::OpenField => Some(String::from(
             "the text field that opens here has no closing `;` at the start of a line",
         )),
@@ -157,13 +176,21 @@ pub fn failed_value(rest: &[u8], reason: Reason) -> Option<String> {
     }
 }
 
+/// Said of a quote without an end.
+pub const OPEN_QUOTE: &str = "the quote that opens here is not closed on its line";
+
 fn unquoted(first: u8) -> String {
     let first = char::from(first);
     format!("this value begins with `{first}`: put quote marks around it")
 }
 
 /// What stands where a tag, a loop or a frame is expected.
-fn instead_of_item(before: &[u8], rest: &[u8], reason: Option<Reason>) -> Option<String> {
+fn instead_of_item(
+    reading: Reading,
+    before: &[u8],
+    rest: &[u8],
+    reason: Option<Reason>,
+) -> Option<String> {
     let first = *rest.first()?;
     if let Some(control) = control_character(first) {
         return Some(control);
@@ -172,7 +199,7 @@ fn instead_of_item(before: &[u8], rest: &[u8], reason: Option<Reason>) -> Option
         return Some(String::from(sentence));
     }
     match reason {
-        Some(reason) => failed_value(rest, reason),
+        Some(reason) => failed_value(reading, rest, reason),
         None => Some(String::from(lone_value(first))),
     }
 }
@@ -184,9 +211,11 @@ fn misplaced(before: &[u8], word: &[u8]) -> Option<&'static str> {
     } else if ends_with(before, b"save_") {
         Some("the `save_` before this closes the open frame, and no name follows it: a closing `save_` is missing above")
     } else if starts_with(word, b"data_") {
-        Some("a second block begins here, and one file holds one: put each block into a file of its own")
+        Some(SECOND_BLOCK)
     } else if is_keyword(word) {
         Some("this word is reserved and stands in no CIF file")
+    } else if starts_with(word, b"loop_") {
+        Some("a space is missing behind `loop_`")
     } else {
         None
     }
@@ -232,7 +261,7 @@ pub fn first_word(rest: &[u8]) -> &[u8] {
 }
 
 /// Keywords match in any letter case.
-fn starts_with(word: &[u8], keyword: &[u8]) -> bool {
+pub fn starts_with(word: &[u8], keyword: &[u8]) -> bool {
     word.get(..keyword.len())
         .is_some_and(|start| start.eq_ignore_ascii_case(keyword))
 }
@@ -251,7 +280,11 @@ mod tests {
 
     /// The first hint on a refusal, or an empty one.
     fn first_hint(text: &[u8]) -> Hint {
-        let refusal = Document::read(text).expect_err("the text is refused");
+        hint_as(Reading::First, text)
+    }
+
+    fn hint_as(reading: Reading, text: &[u8]) -> Hint {
+        let refusal = Document::read_as(reading, text).expect_err("the text is refused");
         let nowhere = Place {
             offset: 0,
             line: 0,
@@ -261,7 +294,8 @@ mod tests {
             place: nowhere,
             sentence: String::new(),
         };
-        hints(text, &refusal).into_iter().next().unwrap_or(none)
+        let hints = hints(reading, text, &refusal);
+        hints.into_iter().next().unwrap_or(none)
     }
 
     fn hinted(text: &[u8]) -> String {
@@ -361,28 +395,36 @@ mod tests {
             "data_x _a",
             "data_x loop_ _a 1 ",
             "data_x loop_ _a _b 1 ",
+            "data_x _a\n;b\n;",
         ] {
             for pair in 0..=u16::MAX {
                 let text = [before.as_bytes(), &pair.to_be_bytes()].concat();
-                if let Err(refusal) = Document::read(&text) {
-                    let hints = hints(&text, &refusal);
-                    let is_said = |hint: &Hint| {
-                        !hint.sentence.is_empty() && hint.place.offset <= text.len() as u64
-                    };
-                    assert!(hints.iter().all(is_said), "{text:?}");
-                    let may_be_silent = matches!(
-                        refusal.number,
-                        number::NO_NAMES | number::OVER_LIMIT | number::OPEN_FRAME
-                    );
-                    assert!(may_be_silent || !hints.is_empty(), "{text:?}");
+                for reading in [Reading::First, Reading::Strict] {
+                    is_spoken_of(reading, &text);
                 }
             }
         }
     }
 
+    /// Some refusals say enough themselves; all others have a hint within the text.
+    fn is_spoken_of(reading: Reading, text: &[u8]) {
+        let Err(refusal) = Document::read_as(reading, text) else {
+            return;
+        };
+        let hints = hints(reading, text, &refusal);
+        let is_said =
+            |hint: &Hint| !hint.sentence.is_empty() && hint.place.offset <= text.len() as u64;
+        assert!(hints.iter().all(is_said), "{text:?}");
+        let may_be_silent = matches!(
+            refusal.number,
+            number::NO_NAMES | number::OVER_LIMIT | number::OPEN_FRAME | number::NO_SPACE
+        );
+        assert!(may_be_silent || !hints.is_empty(), "{text:?}");
+    }
+
     #[test]
     fn a_second_block_is_named() {
-        assert!(hinted(b"data_x DATA_y").starts_with("a second block begins here"));
+        assert_eq!(hinted(b"data_x DATA_y"), SECOND_BLOCK);
     }
 
     #[test]

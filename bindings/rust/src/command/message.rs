@@ -2,7 +2,7 @@
 
 use std::io::{self, Write};
 
-use chuntarek::{number, Document, Place, Record, Refusal};
+use chuntarek::{number, Document, Place, Reading, Record, Refusal};
 
 use super::cell;
 use super::excerpt::excerpt;
@@ -23,9 +23,9 @@ pub fn printable(character: char) -> char {
     }
 }
 
-/// What is wrong with a text that is refused, each thing where it stands.
-pub fn refused(input: &Input, refusal: &Refusal) -> String {
-    let mut hints = hints(&input.text, refusal).into_iter();
+/// What is wrong with a text that this reading refuses, each thing where it stands.
+pub fn refused(reading: Reading, input: &Input, refusal: &Refusal) -> String {
+    let mut hints = hints(reading, &input.text, refusal).into_iter();
     let first = hints.next().or_else(|| unhinted(refusal));
     let Some(Hint { place, sentence }) = first else {
         return numbered(refusal, &input.name, &refusal.sentence());
@@ -123,24 +123,28 @@ mod tests {
         let whole =
             b"data_x loop_ _a _b 1 'c' \"d\" # e\n;f\n; _g 'h' save_i save_ loop_ _j\r\n[ _k stop_x";
         let ends = [b'\'', b';', b'#', b'_', b'[', b'.', b' ', 0, 12, 127, 200];
-        let mut refusals = 0;
-        for cut in 0..=whole.len() {
-            for (first, second) in ends.iter().flat_map(|end| ends.map(|other| (*end, other))) {
-                let text = [&whole[..cut], &[first, second]].concat();
-                let Err(refusal) = Document::read(&text) else {
-                    continue;
-                };
-                let input = Input {
-                    name: String::from("x.cif"),
-                    text,
-                };
-                let message = refused(&input, &refusal);
-                let start = format!(": refused {}: ", refusal.number);
-                assert!(message.starts_with("x.cif:"), "{message}");
-                assert!(message.contains(&start), "{message}");
-                refusals += 1;
+        for reading in [Reading::First, Reading::Strict] {
+            let mut refusals = 0;
+            for cut in 0..=whole.len() {
+                for (first, second) in ends.iter().flat_map(|end| ends.map(|other| (*end, other))) {
+                    let text = [&whole[..cut], &[first, second]].concat();
+                    refusals += usize::from(is_refused(reading, text));
+                }
             }
+            assert!(refusals > 5_000, "only {refusals} texts are refused");
         }
-        assert!(refusals > 5_000, "only {refusals} texts are refused");
+    }
+
+    /// Whether a text is refused; then its message has a name and a number.
+    fn is_refused(reading: Reading, text: Vec<u8>) -> bool {
+        let Err(refusal) = Document::read_as(reading, &text) else {
+            return false;
+        };
+        let name = String::from("x.cif");
+        let message = refused(reading, &Input { name, text }, &refusal);
+        let start = format!(": refused {}: ", refusal.number);
+        assert!(message.starts_with("x.cif:"), "{message}");
+        assert!(message.contains(&start), "{message}");
+        true
     }
 }

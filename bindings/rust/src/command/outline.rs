@@ -3,14 +3,14 @@
 use std::ffi::OsString;
 use std::io::{self, Write};
 
-use chuntarek::{Document, Record, Refusal};
+use chuntarek::{Document, Reading, Record, Refusal};
 
 use super::input::{self, Input};
 use super::message;
 use super::status::Status;
 
 /// Outlines the files in their order, under their names if there are several.
-pub fn files(files: &[OsString], out: &mut impl Write) -> io::Result<Status> {
+pub fn files(reading: Reading, files: &[OsString], out: &mut impl Write) -> io::Result<Status> {
     let mut status = Status::Done;
     for file in files {
         let Some(input) = input::open(file) else {
@@ -20,13 +20,13 @@ pub fn files(files: &[OsString], out: &mut impl Write) -> io::Result<Status> {
         if files.len() > 1 {
             writeln!(out, "==> {} <==", input.name)?;
         }
-        status = status.max(text(&input, out)?);
+        status = status.max(text(reading, &input, out)?);
     }
     Ok(status)
 }
 
-fn text(input: &Input, out: &mut impl Write) -> io::Result<Status> {
-    match Document::read(&input.text) {
+fn text(reading: Reading, input: &Input, out: &mut impl Write) -> io::Result<Status> {
+    match Document::read_as(reading, &input.text) {
         Ok(document) => {
             for entry in document.records() {
                 record(&entry, out)?;
@@ -37,7 +37,7 @@ fn text(input: &Input, out: &mut impl Write) -> io::Result<Status> {
         Err(refusal) => {
             refused(&refusal, out)?;
             out.flush()?;
-            message::say(&message::refused(input, &refusal));
+            message::say(&message::refused(reading, input, &refusal));
             Ok(Status::Refused)
         }
     }

@@ -3,7 +3,7 @@
 //! A loop that is refused has no records. Where it has one tag, though, any values fill whole rows: so
 //! the library is asked once more, about the text without the loop's other tags, and tells its values.
 
-use chuntarek::{number, Document, Kind, Place, Record, Records, Refusal};
+use chuntarek::{number, Document, Kind, Place, Reading, Record, Records, Refusal};
 
 use super::excerpt;
 use super::hint::{failed_value, first_word, is_keyword, Hint, CLOSED_EARLY};
@@ -12,19 +12,19 @@ use super::walk;
 /// The most values that are shown.
 const SHOWN: usize = 4;
 
-/// A text that is cut where it is refused is refused at most once more, for the frame or the loop that it
+/// A text that is cut where it is refused is refused again at most for the loop and for the frame that it
 /// was cut in.
-const MOST_CUTS: usize = 2;
+const MOST_CUTS: usize = 3;
 
 /// What the loop has, and where to look. Empty where its values are not found.
-pub fn hints(text: &[u8], place: Place, refusal: &Refusal) -> Vec<Hint> {
-    found(text, place, refusal).unwrap_or_default()
+pub fn hints(reading: Reading, text: &[u8], place: Place, refusal: &Refusal) -> Vec<Hint> {
+    found(reading, text, place, refusal).unwrap_or_default()
 }
 
-fn found(text: &[u8], place: Place, refusal: &Refusal) -> Option<Vec<Hint>> {
+fn found(reading: Reading, text: &[u8], place: Place, refusal: &Refusal) -> Option<Vec<Hint>> {
     let left_over = usize::try_from(refusal.detail).ok()?;
     let (one_tag, tags) = with_one_tag(text, usize::try_from(place.offset).ok()?)?;
-    let ended = Ended::read(one_tag)?;
+    let ended = Ended::read(reading, one_tag)?;
     let values = Values::of(&ended.document, place)?;
     // Whatever else was found is not this loop.
     if values.count.checked_rem(tags)? != left_over {
@@ -71,10 +71,10 @@ struct Ended {
 }
 
 impl Ended {
-    fn read(mut text: Vec<u8>) -> Option<Ended> {
+    fn read(reading: Reading, mut text: Vec<u8>) -> Option<Ended> {
         let mut first = None;
         for _ in 0..=MOST_CUTS {
-            match Document::read(&text) {
+            match Document::read_as(reading, &text) {
                 Ok(document) => {
                     return Some(Ended {
                         document,
@@ -99,7 +99,7 @@ impl Ended {
         if !values.are_last || is_keyword(first_word(rest)) {
             return None;
         }
-        let sentence = failed_value(rest, refusal.reason()?)?;
+        let sentence = failed_value(self.document.reading(), rest, refusal.reason()?)?;
         Some(Hint { place, sentence })
     }
 }
@@ -179,10 +179,14 @@ mod tests {
     use super::*;
 
     fn hinted(text: &[u8]) -> Vec<(u64, u64, String)> {
-        let refusal = Document::read(text).expect_err("the text is refused");
+        hinted_as(Reading::First, text)
+    }
+
+    fn hinted_as(reading: Reading, text: &[u8]) -> Vec<(u64, u64, String)> {
+        let refusal = Document::read_as(reading, text).expect_err("the text is refused");
         assert_eq!(refusal.number, 5);
         let place = refusal.place.expect("a refusal of a text has a place");
-        let hints = hints(text, place, &refusal).into_iter();
+        let hints = hints(reading, text, place, &refusal).into_iter();
         hints
             .map(|hint| (hint.place.line, hint.place.column, hint.sentence))
             .collect()
@@ -301,5 +305,24 @@ mod tests {
         assert_eq!(second(text), (2, 22, CLOSED_EARLY.into()));
         let text = b"data_x loop_ _a _b _c\n1 'a dog's life '\n";
         assert_eq!(second(text), (2, 10, CLOSED_EARLY.into()));
+    }
+
+    /// The strict reading's own values, in its second block, before a frame that ends in an empty loop.
+    #[test]
+    fn the_strict_readings_loops_are_looked_at() {
+        let text = b"data_x _a 1 data_y\nloop_ _a _b\n'it's' ;b .c\nsave_f loop_ _d save_";
+        let hints = hinted_as(Reading::Strict, text);
+        let counted = "1 is left over, as it has 2 tags and 3 values (last: `'it's'` `;b` `.c`)";
+        let expected = [(2, 1, counted), (3, 11, NOT_WHOLE)];
+        assert_eq!(hints.len(), 2);
+        for (hint, (line, column, end)) in hints.iter().zip(expected) {
+            assert_eq!((hint.0, hint.1), (line, column));
+            assert!(hint.2.ends_with(end), "{}", hint.2);
+        }
+        let text = b"data_x\nloop_ _a _b\n1 'b'c";
+        let sentence = "the quote that opens here is not closed on its line: \
+                        the mark that closes it stands before space or the line's end";
+        let second = hinted_as(Reading::Strict, text).remove(1);
+        assert_eq!(second, (3, 3, sentence.into()));
     }
 }

@@ -3,8 +3,9 @@
 use std::ffi::{OsStr, OsString};
 use std::io::{self, Write};
 
-use chuntarek::{Document, Kind, Record, Records};
+use chuntarek::{Document, Kind, Reading, Record, Records};
 
+use super::arguments::Wish;
 use super::cell;
 use super::input::{self, Input};
 use super::message;
@@ -13,22 +14,22 @@ use super::table::{Columns, Layout};
 
 /// Writes the values of a file: all, or those of the tags that are named.
 pub fn file(
+    reading: Reading,
     file: &OsStr,
-    tags: &[OsString],
-    layout: Layout,
+    wish: &Wish,
     out: &mut impl Write,
 ) -> io::Result<Status> {
     let Some(input) = input::open(file) else {
         return Ok(Status::Failed);
     };
-    let document = match Document::read(&input.text) {
+    let document = match Document::read_as(reading, &input.text) {
         Ok(document) => document,
         Err(refusal) => {
-            message::say(&message::refused(&input, &refusal));
+            message::say(&message::refused(reading, &input, &refusal));
             return Ok(Status::Refused);
         }
     };
-    let mut tables = Tables::new(Wanted::new(tags), layout, out);
+    let mut tables = Tables::new(Wanted::new(&wish.tags), wish.layout, out);
     tables.all(&document)?;
     let wanted = tables.wanted;
     out.flush()?;
@@ -102,6 +103,21 @@ struct Section<'d> {
     block: Record<'d>,
     current: Record<'d>,
     headed: Option<Record<'d>>,
+    /// Whether the file has more blocks than one.
+    among_blocks: bool,
+}
+
+impl Section<'_> {
+    /// The block, or the frame; behind its block, where the file has several.
+    fn heading(&self) -> String {
+        let (mut heading, mut block) = (String::new(), String::new());
+        cell::write(&self.current, &mut heading);
+        if self.among_blocks && self.current != self.block {
+            cell::write(&self.block, &mut block);
+            heading = format!("{block} {heading}");
+        }
+        heading
+    }
 }
 
 impl<'a, W: Write> Tables<'a, W> {
@@ -119,15 +135,19 @@ impl<'a, W: Write> Tables<'a, W> {
         let Some(block) = records.next() else {
             return Ok(());
         };
+        let among_blocks = records.clone().any(|record| record.kind == Kind::Block);
+        // Who asks for certain tags knows the block, if there is only one.
+        let is_known = !among_blocks && !self.wanted.tags.is_empty();
         let mut section = Section {
             block,
             current: block,
-            // Who asks for certain tags knows the block.
-            headed: (!self.wanted.tags.is_empty()).then_some(block),
+            headed: is_known.then_some(block),
+            among_blocks,
         };
         let mut here = records.clone();
         while let Some(record) = records.next() {
             match record.kind {
+                Kind::Block => (section.block, section.current) = (record, record),
                 Kind::FrameOpen => section.current = record,
                 Kind::FrameClose => section.current = section.block,
                 Kind::Tag => records = self.singles(here, &mut section)?,
@@ -147,9 +167,7 @@ impl<'a, W: Write> Tables<'a, W> {
         self.begun = true;
         if section.headed != Some(section.current) {
             section.headed = Some(section.current);
-            let mut heading = String::new();
-            cell::write(&section.current, &mut heading);
-            writeln!(self.out, "{heading}")?;
+            writeln!(self.out, "{}", section.heading())?;
         }
         Ok(())
     }
@@ -274,7 +292,11 @@ mod tests {
     use super::*;
 
     fn written(text: &[u8], tags: &[&str], layout: Layout) -> String {
-        let document = Document::read(text).expect("the text is read");
+        written_as(Reading::First, text, tags, layout)
+    }
+
+    fn written_as(reading: Reading, text: &[u8], tags: &[&str], layout: Layout) -> String {
+        let document = Document::read_as(reading, text).expect("the text is read");
         let tags: Vec<OsString> = tags.iter().map(OsString::from).collect();
         let mut out = Vec::new();
         let mut tables = Tables::new(Wanted::new(&tags), layout, &mut out);
@@ -318,6 +340,32 @@ mod tests {
             "_a  1\n\nsave_f\n_a  2\n"
         );
         assert_eq!(written(text, &["b"], Layout::Aligned), "_b  3\n");
+    }
+
+    #[test]
+    fn each_of_several_blocks_is_named() {
+        let text = b"data_x _a 1 _b 2 save_f _a 3 save_ data_empty data_y save_f _a 4 save_ _a 5 data_y _c 6";
+        let aligned = |tags: &[&str]| written_as(Reading::Strict, text, tags, Layout::Aligned);
+        assert_eq!(
+            aligned(&[]),
+            "data_x\n_a  1\n_b  2\n\ndata_x save_f\n_a  3\n\ndata_y save_f\n_a  4\n\ndata_y\n_a  5\n\ndata_y\n_c  6\n"
+        );
+        assert_eq!(
+            aligned(&["a"]),
+            "data_x\n_a  1\n\ndata_x save_f\n_a  3\n\ndata_y save_f\n_a  4\n\ndata_y\n_a  5\n"
+        );
+        assert_eq!(aligned(&["c"]), "data_y\n_c  6\n");
+    }
+
+    /// The reading makes no difference to a file of one block.
+    #[test]
+    fn one_block_is_named_as_ever() {
+        let text = b"data_x _a 1 save_f _a 2 save_";
+        for reading in [Reading::First, Reading::Strict] {
+            let tabs = |tags: &[&str]| written_as(reading, text, tags, Layout::Tabs);
+            assert_eq!(tabs(&[]), "data_x\n_a\t1\n\nsave_f\n_a\t2\n");
+            assert_eq!(tabs(&["a"]), "_a\t1\n\nsave_f\n_a\t2\n");
+        }
     }
 
     #[test]
