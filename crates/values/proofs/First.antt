@@ -16,7 +16,7 @@ use Rattle.words.specs.Words.{wordEnd, isOrdinary}
 use Rattle.words.proofs.Words.{word-span}
 use Rattle.folding.specs.Folding.{lower}
 use Rattle.keywords.specs.Keywords.{reserved, isFreeLetter}
-use Rattle.keywords.proofs.Keywords.{reserved-low}
+use Rattle.keywords.proofs.Keywords.{reserved-low, reserved-none}
 use Rattle.keywords.proofs.Letters.{free-letter-is, free-letter}
 use Rattle.numbers.specs.Pieces.{startsNumber}
 use Rattle.decimals.specs.Plain.{decimalEnd}
@@ -110,6 +110,15 @@ other-none b e t =
 module _ (r : Reading) (s : List ℕ) (o : ℕ) (h : Start r s o) (b : ℕ) (e : b ≡ getD s o 0) where
   low : (c : ℕ) → b ≡ c → c < 68 → reserved r (drop o s) ≡ false
   low c q l = reserved-low r s o (h .within) (omega (arith, e, q))
+
+  -- `_` starts none
+  pub tag-here : b ≡ 95 → foundAt r s o ≡ Missing NoStart
+  unfolding isOrdinary lower is
+  tag-here q =
+      let f : getD s o 0 ≡ 95 = sym e ∙ q in
+      let z : reserved r (drop o s) ≡ false = reserved-none r s o (h .within) 95 (rw f) (λ x. omega (arith, x)) (λ x. omega (arith, x)) (λ x. omega (arith, x)) (λ x. omega (arith, x)) in
+      let no : (c : ℕ) → (95 ≡ c → ⊥) → getD s o 0 ≡ c → ⊥ = λ c n x. n (sym f ∙ x) in
+      found-none r s o (h .within) (h .apart) z (no 46 (λ x. omega (arith, x))) (no 63 (λ x. omega (arith, x))) (no 39 (λ x. omega (arith, x))) (no 34 (λ x. omega (arith, x))) (no 59 (λ x. omega (arith, x))) (rw f)
 
   pub unknown-here : b ≡ 63 → foundAt r s o ≡ unknownAt r s o
   unknown-here q = found-unknown r s o (h .within) (h .apart) (low 63 q (omega arith)) (sym e ∙ q)

@@ -29,6 +29,11 @@ pub record Start (r : Reading) (s : List ℕ) (o : ℕ) : Type 0 where
   pub within : o < length s
   pub apart : isParted r (byteBefore s o) ≡ true
 
+-- what stands at offset o, if anything does, has space before it where the reading asks for it
+pub record Parted (r : Reading) (s : List ℕ) (o : ℕ) : Type 0 where
+  pub short : length s < 2 ^ 32
+  pub apart : o < length s → isParted r (byteBefore s o) ≡ true
+
 -- a number of n bytes, or what the word is otherwise
 unfoldable pub judgedOr : Found → ℕ → Number → Found
 judgedOr other n Not = other

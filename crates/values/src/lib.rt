@@ -9,7 +9,7 @@ ghost use Rattle.words.specs.Words.{wordEnd};
 ghost use Rattle.values.specs.Answers.{valueAt, numberOfWhy};
 ghost use Rattle.values.specs.Finding.{startsDecimal, kindOfNumber, pack, packedOf, packedAt, whyOfNumber, unpackedOf};
 ghost use Rattle.values.specs.Values.{quoteKind};
-ghost use Rattle.values.specs.Pieces.{numberAt, wordAt, firstPoint, aloneAt, pointAt, unknownAt, quoteAt, fieldAt, semicolonAt, Start};
+ghost use Rattle.values.specs.Pieces.{numberAt, wordAt, firstPoint, aloneAt, pointAt, unknownAt, quoteAt, fieldAt, semicolonAt, Start, Parted};
 ghost use Rattle.values.specs.declared.Found.the-variants.{Value as FoundValue};
 use kinds::Kind;
 use numbers::Decimal;
@@ -258,11 +258,15 @@ fn pack_decimal(reading: Reading, s: &[u8], at: usize) -> usize
     packed(Kind::NUMBER, end - at)
 }
 
-// What stands where another byte does: a mark, a letter that may start a reserved word, or another byte.
+// What stands where another byte does: a mark, a letter that may start a reserved word, or another byte. Most often it is the `_`
+// behind a list of values.
 fn pack_marked(reading: Reading, s: &[u8], at: usize, b: u8) -> usize
     requires { ⌜ Start reading (now s) at × (b ≡ getD (now s) at 0) × (startsDecimal b ≡ false) ⌝ }
     ensures { λ r. ⌜ r ≡ packedAt reading (now (s .entry)) at ⌝ }
 {
+    if b == b'_' {
+        return NO_START;
+    }
     if b == b'?' {
         return pack_unknown(reading, s, at);
     }
@@ -287,17 +291,14 @@ fn pack_marked(reading: Reading, s: &[u8], at: usize, b: u8) -> usize
     pack_bare(s, at)
 }
 
-// What stands at an offset where a value may, behind space and comments, packed for `Found::of`. The first byte tells
-// most values, without making what they mean. Lengths are stored in four bytes.
-pub fn pack_value(reading: Reading, s: &[u8], at: usize) -> usize
-    requires { ⌜ length (now s) < 2 ^ 32 ⌝ }
+// What stands where space parts it from what stands before, if the reading asks for that. The first byte tells most values, without
+// making what they mean.
+fn pack_parted(reading: Reading, s: &[u8], at: usize) -> usize
+    requires { ⌜ Parted reading (now s) at ⌝ }
     ensures { λ r. ⌜ r ≡ packedAt reading (now (s .entry)) at ⌝ }
 {
     if s.len() <= at {
         return AT_END;
-    }
-    if !columns::is_parted(reading, s, at) {
-        return JOINED;
     }
     let b = s[at];
     if keywords::is_free_letter(b) {
@@ -307,6 +308,32 @@ pub fn pack_value(reading: Reading, s: &[u8], at: usize) -> usize
         return pack_decimal(reading, s, at);
     }
     pack_marked(reading, s, at, b)
+}
+
+// What stands in the strict reading, which asks for it.
+fn pack_strict(s: &[u8], at: usize) -> usize
+    requires { ⌜ length (now s) < 2 ^ 32 ⌝ }
+    ensures { λ r. ⌜ r ≡ packedAt Strict (now (s .entry)) at ⌝ }
+{
+    if s.len() <= at {
+        return AT_END;
+    }
+    if !columns::is_parted(Reading::Strict, s, at) {
+        return JOINED;
+    }
+    pack_parted(Reading::Strict, s, at)
+}
+
+// What stands at an offset where a value may, behind space and comments, packed for `Found::of`. Lengths are stored in four
+// bytes. The first reading has a call of its own, since even a test whether to look at the byte before would slow it down.
+pub fn pack_value(reading: Reading, s: &[u8], at: usize) -> usize
+    requires { ⌜ length (now s) < 2 ^ 32 ⌝ }
+    ensures { λ r. ⌜ r ≡ packedAt reading (now (s .entry)) at ⌝ }
+{
+    match reading {
+        Reading::First => pack_parted(Reading::First, s, at),
+        Reading::Strict => pack_strict(s, at),
+    }
 }
 
 // Why no value stands, by its number.
