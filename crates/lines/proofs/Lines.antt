@@ -1,26 +1,23 @@
--- Laws of lines and control bytes: a line that keeps its limit is passed over, and what is found is the earlier of two scans. Assumes nothing.
+-- Laws of lines and control bytes: lines that keep their limit are passed over many at once, and what is found is the
+-- earlier of two scans. Assumes nothing.
 use Prim.Native.Nat.{ℕ, zero, suc, _+_, _-_, _≤_, _<_}
 use mathlib.Core.Path.{_≡_, refl, sym, ap, _∙_}
-use mathlib.Core.Bool.{Bool, true, false, not, cond, _&&_, _||_, and-false}
+use mathlib.Core.Bool.{Bool, true, false, not, cond, _&&_, _||_, and-false, or-assoc}
 use mathlib.Core.List.{List, [], _∷_, _++_}
 use native.Mathlib.Nat.{zero-add}
 use native.Mathlib.Numerals.{add-one}
 use native.Mathlib.Omega.{arith}
-use borrow.Author.Tests.{eq-eqb, ne-eqb, eqb-true, eqb-false, leb-true, leb-false, ltb-true, ltb-false, le-leb, lt-leb, lt-ltb, le-ltb}
-use lib.Dec.{eqb, leb, ltb}
+use borrow.Author.Tests.{eq-eqb, ne-eqb, eqb-true, eqb-false, ltb-true, ltb-false, lt-ltb, le-ltb}
+use lib.Dec.{eqb, ltb}
 use lib.ListN.{length, drop, getD, drop-of-length-le}
 use lib.Seq.{drop-cons}
-use Rattle.text.specs.Bytes.{is, isEol}
-use Rattle.text.specs.Runs.{span, spanEnd}
-use Rattle.text.specs.Blocks.{clear}
-use Rattle.text.proofs.Bools.{and-l, and-r}
-use Rattle.text.proofs.Runs.{span-go, span-stop, span-over, span-from, span-ends, span-le, span-end, span-by}
-use Rattle.text.proofs.Blocks.{clear-least, clear-other, span-keeps}
-use Rattle.places.specs.Lines.{lineEnd}
-use Rattle.places.proofs.Lines.{line-from, line-within, line-plain, line-stops}
+use Rattle.text.specs.Bytes.{isEol}
+use Rattle.text.specs.Runs.{span, spanEnd, runs}
+use Rattle.text.proofs.Runs.{span-le, span-end, runs-met}
 use Rattle.lines.specs.declared.Screen.{Screen}
 use Rattle.lines.specs.declared.Screen.the-variants.{Fine, LongLine, Control}
-use Rattle.lines.specs.Lines.{longest, isControl, noControl, column, isLong, short, screenFrom, screened, isFine, fits}
+use Rattle.lines.specs.Ends.{behindLast}
+use Rattle.lines.specs.Lines.{isControl, noControl, column, isLong, short, screenFrom, screened, isFine, fits}
 
 -- Lines
 
@@ -50,7 +47,8 @@ module _ (c : ℕ) (s : List ℕ) (o : ℕ) where
   short-over h = rw (drop-of-length-le s h) (omega arith)
 
 -- bytes of one line, as many as it may have
-short-run : (n : ℕ) (c : ℕ) (s : List ℕ) (o : ℕ) → o + n ≤ length s → c + n ≤ 2048 → ((k : ℕ) → o ≤ k → k < o + n → isEol (getD s k 0) ≡ false) → shortAt c s o ≡ shortAt (c + n) s (o + n)
+short-run : (n : ℕ) (c : ℕ) (s : List ℕ) (o : ℕ) → o + n ≤ length s → c + n ≤ 2048
+    → ((k : ℕ) → o ≤ k → k < o + n → isEol (getD s k 0) ≡ false) → shortAt c s o ≡ shortAt (c + n) s (o + n)
 short-run zero c s o h l f =
     let a : c + 0 ≡ c = omega arith in
     let b : o + 0 ≡ o = omega arith in
@@ -58,72 +56,141 @@ short-run zero c s o h l f =
 short-run (suc n) c s o h l f =
     let a : c + suc n ≡ c + 1 + n = omega arith in
     let b : o + suc n ≡ o + 1 + n = omega arith in
-    rw (a, b) (short-go c s o (omega arith) (f o (omega arith) (omega arith)) (omega arith) ∙ short-run n (c + 1) s (o + 1) (omega arith) (omega arith) (λ k m u. f k (omega arith) (omega arith)))
+    let on = short-run n (c + 1) s (o + 1) (omega arith) (omega arith) (λ k m u. f k (omega arith) (omega arith)) in
+    rw (a, b) (short-go c s o (omega arith) (f o (omega arith) (omega arith)) (omega arith) ∙ on)
 
--- a line from o on, which ends at e; c of its bytes stand before o
-module _ (c : ℕ) (s : List ℕ) (o e : ℕ) (h : o ≤ length s) (q : e ≡ lineEnd s o) where
-  from : o ≤ e
-  from = rw q (line-from s o)
+-- bytes of any lines, no more than the first has room for: so many then stand on the last of these lines
+short-on : (n c : ℕ) (s : List ℕ) (o : ℕ) → o + n ≤ length s → c + n ≤ 2048
+    → (d : ℕ) × shortAt c s o ≡ shortAt d s (o + n)
+short-on zero c s o h l = (c, let z : o + 0 ≡ o = omega arith in rw z)
+short-on (suc n) c s o h l = by (isEol (getD s o 0)) refl (λ d. short-on n d s (o + 1) (omega arith))
+  where
+    next : o + 1 + n ≡ o + suc n
+    next = omega arith
 
-  pub within : e ≤ length s
-  within = rw q (line-within s o h)
+    by : (t : Bool) → isEol (getD s o 0) ≡ t
+        → ((d : ℕ) → d + n ≤ 2048 → (e : ℕ) × shortAt d s (o + 1) ≡ shortAt e s (o + 1 + n))
+        → (d : ℕ) × shortAt c s o ≡ shortAt d s (o + suc n)
+    by true e f =
+        let on = f 0 (omega arith) in
+        (on .0, short-eol c s o (omega arith) e ∙ rw next at (on .1))
+    by false e f =
+        let on = f (c + 1) (omega arith) in
+        (on .0, short-go c s o (omega arith) e (omega arith) ∙ rw next at (on .1))
 
-  plain : (k : ℕ) → o ≤ k → k < e → isEol (getD s k 0) ≡ false
-  plain k l u = line-plain s o k l (rw (← q) u)
+-- behind the last line end of some bytes, from their end back: a byte that ends a line, one that ends none
+module _ (s : List ℕ) (o n k : ℕ) (z : n ≡ suc k) where
+  pub last-here : isEol (getD s (o + k) 0) ≡ true → behindLast s o n ≡ o + k + 1
+  unfolding behindLast
+  last-here e = rw (z, e, add-one (o + k))
 
-  on : (n : ℕ) → o + n ≤ e → c + n ≤ 2048 → shortAt c s o ≡ shortAt (c + n) s (o + n)
-  on n l m = short-run n c s o (omega (arith, within)) m (λ k a b. plain k a (omega arith))
+  pub last-back : isEol (getD s (o + k) 0) ≡ false → behindLast s o n ≡ behindLast s o k
+  unfolding behindLast
+  last-back e = rw (z, e)
 
-  pub line-long : (room : ℕ) → c + room ≡ 2048 → room < e - o → shortAt c s o ≡ o + room
-  line-long room z l = on room (omega arith) (omega arith) ∙ short-here (c + room) s (o + room) (omega (arith, within)) (plain (o + room) (omega arith) (omega arith)) z
+pub last-none : (s : List ℕ) (o : ℕ) → behindLast s o 0 ≡ o
+unfolding behindLast
+last-none s o = refl
 
-  to-end : c + (e - o) ≤ 2048 → shortAt c s o ≡ shortAt (c + (e - o)) s e
-  to-end l =
-      let z : o + (e - o) ≡ e = omega (arith, from) in
-      rw z at (on (e - o) (omega (arith, from)) l)
+last-le : (s : List ℕ) (o n : ℕ) → behindLast s o n ≤ o + n
+last-le s o zero = omega (arith, last-none s o)
+last-le s o (suc n) = by (isEol (getD s (o + n) 0)) refl (last-le s o n)
+  where
+    by : (t : Bool) → isEol (getD s (o + n) 0) ≡ t → behindLast s o n ≤ o + n → behindLast s o (suc n) ≤ o + suc n
+    by true e h = omega (arith, last-here s o (suc n) n refl e)
+    by false e h = omega (arith, last-back s o (suc n) n refl e)
 
-  pub line-last : (room : ℕ) → c + room ≡ 2048 → e - o ≤ room → length s ≤ e → shortAt c s o ≡ e
-  line-last room z l m = to-end (omega arith) ∙ short-over (c + (e - o)) s e m
+pub last-within : (s : List ℕ) (o n next : ℕ) → next ≡ behindLast s o n → o + n ≤ length s → next ≤ length s
+last-within s o n next q h = omega (arith, last-le s o n)
 
-  pub line-next : (room : ℕ) → c + room ≡ 2048 → e - o ≤ room → e < length s → shortAt c s o ≡ shortAt 0 s (e + 1)
-  line-next room z l m = to-end (omega arith) ∙ short-eol (c + (e - o)) s e m (rw q (line-stops s o (rw (← q) m)))
+-- without one, none of them ends a line
+no-end : (s : List ℕ) (o n : ℕ) → behindLast s o n ≤ o → (k : ℕ) → o ≤ k → k < o + n → isEol (getD s k 0) ≡ false
+no-end s o zero h k l u = absurd (omega arith)
+no-end s o (suc n) h k l u = by (isEol (getD s (o + n) 0)) refl (eqb k (o + n)) refl (no-end s o n)
+  where
+    by : (t : Bool) → isEol (getD s (o + n) 0) ≡ t → (v : Bool) → eqb k (o + n) ≡ v
+        → (behindLast s o n ≤ o → (k : ℕ) → o ≤ k → k < o + n → isEol (getD s k 0) ≡ false) → isEol (getD s k 0) ≡ false
+    by true e v q f = absurd (omega (arith, last-here s o (suc n) n refl e))
+    by false e true q f = rw (eqb-true k (o + n) q) e
+    by false e false q f =
+        let d : k ≡ o + n → ⊥ = eqb-false k (o + n) q in
+        f (omega (arith, last-back s o (suc n) n refl e)) k l (omega arith)
+
+-- with one, no byte before it is one too many
+to-last : (n c : ℕ) (s : List ℕ) (o : ℕ) → o + n ≤ length s → c + n ≤ 2049 → o < behindLast s o n
+    → shortAt c s o ≡ shortAt 0 s (behindLast s o n)
+to-last zero c s o h l i = absurd (omega (arith, last-none s o))
+to-last (suc n) c s o h l i = by (isEol (getD s (o + n) 0)) refl (to-last n c s o)
+  where
+    by : (t : Bool) → isEol (getD s (o + n) 0) ≡ t
+        → (o + n ≤ length s → c + n ≤ 2049 → o < behindLast s o n → shortAt c s o ≡ shortAt 0 s (behindLast s o n))
+        → shortAt c s o ≡ shortAt 0 s (behindLast s o (suc n))
+    by true e f =
+        let on = short-on n c s o (omega arith) (omega arith) in
+        rw (last-here s o (suc n) n refl e) (on .1 ∙ short-eol (on .0) s (o + n) (omega arith) e)
+    by false e f =
+        let back = last-back s o (suc n) n refl e in
+        rw back (f (omega arith) (omega arith) (rw back at i))
+
+-- where the line at o has so much room: all of the text fits, a byte is one too many, or more lines follow
+module _ (c : ℕ) (s : List ℕ) (o room : ℕ) (z : c + room ≡ 2048) where
+  pub rest-fits : o ≤ length s → length s - o ≤ room → shortAt c s o ≡ length s
+  rest-fits h l =
+      let on = short-on (length s - o) c s o (omega arith) (omega arith) in
+      let all : o + (length s - o) ≡ length s = omega arith in
+      on .1 ∙ short-over (on .0) s (o + (length s - o)) (omega arith) ∙ all
+
+  module _ (n next : ℕ) (w : n ≡ room + 1) (h : room < length s - o) (q : next ≡ behindLast s o n) where
+    pub line-long : next ≤ o → shortAt c s o ≡ o + room
+    line-long l =
+        let none = no-end s o n (rw (← q) l) in
+        short-run room c s o (omega arith) (omega arith) (λ k a b. none k a (omega arith))
+        ∙ short-here (c + room) s (o + room) (omega arith) (none (o + room) (omega arith) (omega arith)) z
+
+    pub lines-next : o < next → shortAt c s o ≡ shortAt 0 s next
+    lines-next l = rw q (to-last n c s o (omega arith) (omega arith) (rw (← q) l))
 
 -- Control bytes
-
--- neither below space nor 127
-pub clear-plain : (b : ℕ) → clear 32 127 b ≡ true → noControl b ≡ true
-unfolding noControl isControl is
-clear-plain b e = rw (le-ltb b 32 (clear-least 32 127 b e), clear-other 32 127 b e, and-false (not (eqb b 9 || (eqb b 10 || eqb b 13))))
-
-pub clear-low : (b : ℕ) → b < 32 → clear 32 127 b ≡ false
-unfolding clear
-clear-low b h = rw (lt-leb 32 b h)
-
-pub clear-delete : (b : ℕ) → b ≡ 127 → clear 32 127 b ≡ false
-unfolding clear is
-clear-delete b e = rw e
-
-pub clear-high : (b : ℕ) → 32 ≤ b → (b ≡ 127 → ⊥) → clear 32 127 b ≡ true
-unfolding clear is
-clear-high b h e = rw (le-leb 32 b h, ne-eqb b 127 e)
 
 pub control-start : (s : List ℕ) → span noControl s ≡ spanEnd noControl s 0
 control-start s = sym (span-end noControl s 0 ∙ omega arith)
 
-module _ (s : List ℕ) (o e : ℕ) (q : e ≡ spanEnd (clear 32 127) s o) where
-  low-keeps : spanEnd noControl s o ≡ spanEnd noControl s e
-  low-keeps = rw q (span-keeps (spanEnd noControl s) (clear 32 127) s o (λ k l h t. span-go noControl s k h (clear-plain (getD s k 0) t)))
+pub control-stop : (b : ℕ) → isControl b ≡ true → noControl b ≡ false
+unfolding noControl
+control-stop b e = rw e
 
-  pub low-last : length s ≤ e → spanEnd noControl s o ≡ e
-  low-last h = low-keeps ∙ span-over noControl s e h
+pub control-go : (b : ℕ) → isControl b ≡ false → noControl b ≡ true
+unfolding noControl
+control-go b e = rw e
 
-  pub low-here : e < length s → isControl (getD s e 0) ≡ true → spanEnd noControl s o ≡ e
-  unfolding noControl
-  low-here h c = low-keeps ∙ span-stop noControl s e h (rw c)
+-- as the scan of a block tests a byte: a control byte below space, or 127
+unfoldable pub isLow : ℕ → Bool
+isLow b = ((ltb b 32 && not (eqb b 9)) && not (eqb b 10)) && not (eqb b 13)
 
-  pub low-next : e < length s → isControl (getD s e 0) ≡ false → spanEnd noControl s o ≡ spanEnd noControl s (e + 1)
-  unfolding noControl
-  low-next h c = low-keeps ∙ span-go noControl s e h (rw c)
+control-byte : (b : ℕ) → (isLow b || eqb b 127) ≡ not (noControl b)
+unfolding isLow noControl isControl
+control-byte b = by (eqb b 127) refl
+  where
+    other : (t u v w : Bool)
+        → ((((t && not u) && not v) && not w) || false) ≡ not (not (not (u || (v || w)) && (t || false)))
+    other false u v w = rw (and-false (not (u || (v || w))))
+    other true true v w = refl
+    other true false true w = refl
+    other true false false true = refl
+    other true false false false = refl
+
+    by : (t : Bool) → eqb b 127 ≡ t
+        → (isLow b || t) ≡ not (not (not (eqb b 9 || (eqb b 10 || eqb b 13)) && (ltb b 32 || t)))
+    by true e = rw (eqb-true b 127 e)
+    by false e = other (ltb b 32) (eqb b 9) (eqb b 10) (eqb b 13)
+
+-- and as it keeps it: has a control byte been met
+pub control-met : (s : List ℕ) (o n : ℕ) → o + n < length s
+    → ((not (runs noControl n s o) || isLow (getD s (o + n) 0)) || eqb (getD s (o + n) 0) 127)
+    ≡ not (runs noControl (n + 1) s o)
+control-met s o n h =
+    let b = getD s (o + n) 0 in
+    or-assoc (not (runs noControl n s o)) (isLow b) (eqb b 127) ∙ runs-met noControl s o n _ h (control-byte b)
 
 -- The earlier of the two, the line first at one byte
 

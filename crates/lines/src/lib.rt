@@ -1,8 +1,9 @@
 // What the strict reading asks of a text before it reads tokens: no line is too long, and no control byte stands in it.
 ghost use mathlib.Core.Path.{_≡_};
-ghost use Prim.Native.Nat.{_≤_, _<_};
-ghost use Rattle.text.specs.Runs.{span, spanEnd};
-ghost use Rattle.text.specs.Blocks.{clear};
+ghost use Prim.Native.Nat.{_+_, _≤_, _<_};
+ghost use lib.ListN.{length};
+ghost use Rattle.text.specs.Runs.{span, runs};
+ghost use Rattle.lines.specs.Ends.{behindLast};
 ghost use Rattle.lines.specs.Lines.{isControl, noControl, short, screened, fits as fitsBehind};
 
 // The most bytes of a line before its end.
@@ -37,20 +38,37 @@ fn is_control(b: u8) -> bool
     b == DELETE
 }
 
-// Where the next control byte of any kind stands at an offset or behind it, or the text's end: by blocks first.
-fn next_low(s: &[u8], from: usize) -> usize
-    ensures { λ r. ⌜ r ≡ spanEnd (clear 32 127) (now (s .entry)) from ⌝ }
+// Whether 32 bytes stand at an offset, none of them a control byte that may not stand in a text. Every byte is looked
+// at, so that they are compared many at once.
+fn is_plain_block(s: &[u8], at: usize) -> bool
+    ensures { λ r. ⌜ r ≡ runs noControl 32 (now (s .entry)) at ⌝ }
 {
-    let mut at = from;
-    while text::is_clear(s, at, 16, b' ', DELETE) {
-        at += 16;
+    if s.len() < 32 {
+        return false;
+    }
+    if s.len() - 32 < at {
+        return false;
+    }
+    let mut met = false;
+    let mut i = 0;
+    while i < 32 {
+        let b = s[at + i];
+        met = met | ((b < b' ') & (b != b'\t') & (b != b'\n') & (b != b'\r')) | (b == DELETE);
+        i += 1;
+    }
+    !met
+}
+
+// How many bytes stand before the first control byte that may not stand in a text: by blocks first.
+fn control_end(s: &[u8]) -> usize
+    ensures { λ r. ⌜ r ≡ span noControl (now (s .entry)) ⌝ }
+{
+    let mut at = 0;
+    while is_plain_block(s, at) {
+        at += 32;
     }
     while at < s.len() {
-        let b = s[at];
-        if b < b' ' {
-            return at;
-        }
-        if b == DELETE {
+        if is_control(s[at]) {
             return at;
         }
         at += 1;
@@ -58,24 +76,24 @@ fn next_low(s: &[u8], from: usize) -> usize
     at
 }
 
-// How many bytes stand before the first control byte that may not stand in a text.
-fn control_end(s: &[u8]) -> usize
-    ensures { λ r. ⌜ r ≡ span noControl (now (s .entry)) ⌝ }
+// Behind the last line end of so many bytes at an offset, or the offset where they have none: from their end back.
+fn behind_last(s: &[u8], from: usize, count: usize) -> usize
+    requires { ⌜ from + count ≤ length (now s) ⌝ }
+    ensures { λ r. ⌜ r ≡ behindLast (now (s .entry)) from count ⌝ }
 {
-    let mut at = 0;
-    loop {
-        at = next_low(s, at);
-        if s.len() <= at {
-            return at;
+    let mut n = count;
+    while 0 < n {
+        n -= 1;
+        if text::is_eol(s[from + n]) {
+            return from + n + 1;
         }
-        if is_control(s[at]) {
-            return at;
-        }
-        at += 1;
     }
+    from
 }
 
 // How many bytes stand before the first that is one too many on its line; so many of the first line stand before them.
+// Only the bytes behind the last line end in reach are looked at. None of them ends a line, so that the next line end
+// stands behind them: no byte is looked at twice, but for those of a line that is too long.
 fn short_end(s: &[u8], column: usize) -> usize
     requires { ⌜ column ≤ 2048 ⌝ }
     ensures { λ r. ⌜ r ≡ short column (now (s .entry)) ⌝ }
@@ -83,14 +101,14 @@ fn short_end(s: &[u8], column: usize) -> usize
     let mut room = LONGEST - column;
     let mut at = 0;
     loop {
-        let end = places::line_end(s, at);
-        if room < end - at {
+        if s.len() - at <= room {
+            return s.len();
+        }
+        let next = behind_last(s, at, room + 1);
+        if next <= at {
             return at + room;
         }
-        if s.len() <= end {
-            return end;
-        }
-        at = end + 1;
+        at = next;
         room = LONGEST;
     }
 }

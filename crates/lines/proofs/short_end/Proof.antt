@@ -1,11 +1,11 @@
--- `lines::short_end`: line by line, to one that is too long or the last. Assumes nothing.
-use Prim.Native.Nat.{_+_, _-_, _≤_}
+-- `lines::short_end`: over as many lines as there is room for bytes, to one that is too long or the text's end.
+-- Assumes nothing.
+use Prim.Native.Nat.{_-_, _≤_}
 use mathlib.Core.Path.{_≡_, sym, _∙_}
 use native.Mathlib.Omega.{arith}
 use lib.ListN.{length}
-use Rattle.places.proofs.Lines.{line-from}
 use Rattle.lines.specs.Lines.{short}
-use Rattle.lines.proofs.Lines.{shortAt, short-start, within, line-long, line-last, line-next}
+use Rattle.lines.proofs.Lines.{shortAt, short-start, rest-fits, line-long, lines-next, last-within}
 use Rattle.lines.proofs.short_end.Statement.{statement}
 use Rattle.lines.proofs.short_end.Tie as tie
 
@@ -17,7 +17,7 @@ abbrev μ-loop : tie.MeasureT-loop
 μ-loop s column room₀ at₀ room at = length s - at
 
 sub-room : tie.Need-sub-room Inv-loop μ-loop
-sub-room c = c .before .pre
+sub-room c = omega (arith, c .before .pre)
 
 loop-holds : tie.Need-loop-holds Inv-loop μ-loop
 loop-holds c =
@@ -25,38 +25,44 @@ loop-holds c =
     let all : 2048 - (2048 - column) ≡ column = omega (arith, c .before .pre) in
     (omega arith, omega arith, rw all (short-start column (c .before .args .s .now)))
 
-line-end-requires : tie.Need-line-end-requires Inv-loop μ-loop
-line-end-requires c κs = tt
-
 sub-if1 : tie.Need-sub-if1 Inv-loop μ-loop
-sub-if1 c = rw (c .line-end .ensures) (line-from _ _)
-
-add-result : tie.Need-add-result Inv-loop μ-loop
-add-result c = omega (arith, within 0 _ _ _ (c .before .before .loop .inv .0) (c .before .line-end .ensures), c .if1 .taken)
+sub-if1 c = c .loop .inv .0
 
 returns : tie.Need-returns Inv-loop μ-loop
 returns c =
-    let room = c .before .before .loop .room in
-    let all : 2048 - room + room ≡ 2048 = omega (arith, c .before .before .loop .inv .1) in
-    sym (c .before .before .loop .inv .2 ∙ line-long (2048 - room) _ _ _ (c .before .before .loop .inv .0) (c .before .line-end .ensures) room all (c .if1 .taken))
+    let l = c .before .loop in
+    sym (l .inv .2 ∙ rest-fits _ _ _ _ (omega (arith, l .inv .1)) (l .inv .0) (c .if1 .taken))
+
+add-behind-last : tie.Need-add-behind-last Inv-loop μ-loop
+add-behind-last c = omega arith
+
+behind-last-requires : tie.Need-behind-last-requires Inv-loop μ-loop
+behind-last-requires c κs = omega arith
+
+add-result : tie.Need-add-result Inv-loop μ-loop
+add-result c = omega arith
 
 returns-2 : tie.Need-returns-2 Inv-loop μ-loop
 returns-2 c =
-    let room = c .before .before .before .loop .room in
-    let all : 2048 - room + room ≡ 2048 = omega (arith, c .before .before .before .loop .inv .1) in
-    sym (c .before .before .before .loop .inv .2 ∙ line-last (2048 - room) _ _ _ (c .before .before .before .loop .inv .0) (c .before .before .line-end .ensures) room all (c .before .if1 .left) (c .if2 .taken))
-
-add-at : tie.Need-add-at Inv-loop μ-loop
-add-at c = omega arith
+    let l = c .before .before .before .loop in
+    let next = c .before .behind-last .ensures in
+    let more = c .before .before .if1 .left in
+    sym (l .inv .2 ∙ line-long _ _ _ _ (omega (arith, l .inv .1)) _ _ (omega arith) more next (c .if2 .taken))
 
 loop-less : tie.Need-loop-less Inv-loop μ-loop
-loop-less c = omega (arith, c .before .before .line-end .ensures, line-from (c .before .before .before .before .before .args .s .now) (c .before .before .before .loop .at))
+loop-less c = omega arith
 
 loop-again : tie.Need-loop-again Inv-loop μ-loop
 loop-again c =
-    let room = c .before .before .before .loop .room in
-    let all : 2048 - room + room ≡ 2048 = omega (arith, c .before .before .before .loop .inv .1) in
-    (omega arith, omega arith, c .before .before .before .loop .inv .2 ∙ line-next (2048 - room) _ _ _ (c .before .before .before .loop .inv .0) (c .before .before .line-end .ensures) room all (c .before .if1 .left) (c .if2 .left))
+    let l = c .before .before .before .loop in
+    let next = c .before .behind-last .ensures in
+    let more = c .before .before .if1 .left in
+    let within = last-within _ _ _ _ next (omega arith) in (
+      within,
+      omega arith,
+      l .inv .2
+          ∙ lines-next _ _ _ _ (omega (arith, l .inv .1)) _ _ (omega arith) more next (c .if2 .left),
+    )
 
 pub short-end-spec : {M : Type 1} → statement M
 short-end-spec =
@@ -66,11 +72,11 @@ short-end-spec =
     μ-loop
     sub-room
     loop-holds
-    line-end-requires
     sub-if1
-    add-result
     returns
+    add-behind-last
+    behind-last-requires
+    add-result
     returns-2
-    add-at
     loop-less
     loop-again)
