@@ -256,8 +256,9 @@ fn check_says_what_the_strict_reading_refuses() {
         ),
         (
             "16-long-line",
-            "2:2049: refused 16: this line has more than 2,048 bytes, the most that CIF allows: \
-             break it before this place\n".to_string() + &long_line,
+            "2:2049: refused 16: this line has more than 2,048 bytes, the most that CIF allows: break it between \
+             two values (a long text goes into a text field of several lines, a long comment into several)\n"
+                .to_string() + &long_line,
         ),
         (
             "17-empty-name",
