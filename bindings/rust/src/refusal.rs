@@ -139,7 +139,7 @@ fn fixed_sentence(number: u64) -> &'static str {
             "a CIF file begins with `data_` and a name, and something else stands here"
         }
         number::OPEN_FRAME => {
-            "this save frame is not closed: where its items end, no `save_` stands"
+            "this save frame is not closed: where its items end, no closing `save_` stands"
         }
         number::NO_VALUE => "no value that can be read follows this tag",
         number::NO_ITEM => "a tag, a loop or a save frame is expected here",
