@@ -693,6 +693,24 @@ fn help_and_version_are_output() {
     assert!(output.lines().all(|line| line.len() <= 100));
 }
 
+/// What each page says of the strict reading's blocks, and what the command does without any.
+#[test]
+fn a_file_without_a_block_is_promised_nowhere() {
+    let pages = [
+        run(&["--help"]).1,
+        include_str!("../../../README.md").into(),
+        include_str!("../../c/chuntarek.h").into(),
+        include_str!("../src/reading.rs").into(),
+    ];
+    for page in pages {
+        assert!(page.contains("one block or more"), "{page}");
+        assert!(!page.contains("any number of blocks"), "{page}");
+    }
+    let (status, _, message) = run_with(&["check", "--strict", "-"], b"# no block\n");
+    assert_eq!(status, 1);
+    assert!(message.starts_with("<stdin>:2:1: refused 3: "), "{message}");
+}
+
 #[test]
 fn a_name_that_looks_like_an_option_is_a_file_after_two_dashes() {
     assert_eq!(
