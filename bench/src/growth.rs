@@ -2,7 +2,7 @@
 
 use chuntarek::Reading;
 
-use crate::inputs::hard::{Sort, SORTS};
+use crate::inputs::hard::{Sort, SORTS, STRICT_SORTS};
 use crate::library;
 use crate::reading::touched;
 use crate::source;
@@ -25,17 +25,27 @@ pub fn report(effort: Effort) {
         "\nsource",
     ]);
     for sort in &SORTS {
-        table.row(row(effort, sort));
+        table.row(row(effort, Reading::First, sort));
+    }
+    for sort in &STRICT_SORTS {
+        table.row(row(effort, Reading::Strict, sort));
     }
     println!("{}", table.shown());
 }
 
-fn row(effort: Effort, sort: &Sort) -> Vec<String> {
-    let texts = [1, 2, 4].map(|times| (sort.text)(times * sort.count));
-    let small = [1, 2, 4].map(|times| (sort.text)(times * sort.source_count));
-    let mut rooms = texts.each_ref().map(|text| Rooms::of(text.as_bytes()));
+fn row(effort: Effort, reading: Reading, sort: &Sort) -> Vec<String> {
+    let texts = sizes(sort, sort.count);
+    let small = sort.source_count.map(|count| sizes(sort, count));
+    let mut rooms = texts
+        .each_ref()
+        .map(|text| Rooms::of(reading, text.as_bytes()));
     let mut calls: Vec<Call> = rooms.iter_mut().flat_map(services).collect();
-    calls.extend(small.iter().map(|text| call(|| source::read(text))));
+    calls.extend(
+        small
+            .iter()
+            .flatten()
+            .map(|text| call(|| source::read(text))),
+    );
     let taken = best(effort, &mut calls);
     let (services, lexed) = taken.split_at(3 * SERVICES);
     let mut cells = vec![String::from(sort.name), texts[0].len().to_string()];
@@ -43,9 +53,19 @@ fn row(effort: Effort, sort: &Sort) -> Vec<String> {
         let times = [0, 1, 2].map(|size| services[size * SERVICES + service]);
         cells.push(growth(times));
     }
-    cells.push(small[0].len().to_string());
-    cells.push(growth([lexed[0], lexed[1], lexed[2]]));
+    cells.extend(match &small {
+        Some(small) => [
+            small[0].len().to_string(),
+            growth([lexed[0], lexed[1], lexed[2]]),
+        ],
+        None => [String::from("-"), String::from("-")],
+    });
     cells
+}
+
+/// The texts of n, 2n and 4n things.
+fn sizes(sort: &Sort, n: usize) -> [String; 3] {
+    [1, 2, 4].map(|times| (sort.text)(times * n))
 }
 
 /// Two ratios.
@@ -64,10 +84,9 @@ struct Rooms<'a> {
 }
 
 impl<'a> Rooms<'a> {
-    fn of(text: &'a [u8]) -> Self {
-        let stored = Stored::of(text).expect("each sort of text is read");
-        let outline_length =
-            chuntarek::outline(Reading::First, text, &mut []).first_length as usize;
+    fn of(reading: Reading, text: &'a [u8]) -> Self {
+        let stored = Stored::of(reading, text).expect("each sort of text is read");
+        let outline_length = chuntarek::outline(reading, text, &mut []).first_length as usize;
         Rooms {
             text,
             store: touched(stored.store.len()),
@@ -93,16 +112,17 @@ fn services<'a>(rooms: &'a mut Rooms) -> [Call<'a>; SERVICES] {
         rendering,
     } = rooms;
     let Stored {
+        reading,
         store: read,
         area: held,
     } = &*stored;
     [
-        call(|| chuntarek::read(Reading::First, text, store, area)),
-        call(|| chuntarek::outline(Reading::First, text, outline)),
-        call(|| library::sound(read, held)),
-        call(|| chuntarek::names(Reading::First, read, held)),
+        call(|| chuntarek::read(*reading, text, store, area)),
+        call(|| chuntarek::outline(*reading, text, outline)),
+        call(|| library::sound(*reading, read, held)),
+        call(|| chuntarek::names(*reading, read, held)),
         call(|| library::walk(read, held)),
-        call(|| chuntarek::render(Reading::First, read, held, rendering)),
+        call(|| chuntarek::render(*reading, read, held, rendering)),
     ]
 }
 
@@ -114,9 +134,35 @@ mod tests {
     fn library_and_source_read_each_sort() {
         for sort in &SORTS {
             let text = (sort.text)(100);
-            let stored = Stored::of(text.as_bytes());
+            let stored = Stored::of(Reading::First, text.as_bytes());
             assert!(stored.is_ok(), "{}", sort.name);
             assert!(source::reads(&text), "{}", sort.name);
         }
+    }
+
+    /// A hundred blocks have a tag and a value each. The other things are values of one loop, beside which
+    /// stand the block, the loop, its tag and its end; a full line has 1,024 of them.
+    #[test]
+    fn the_strict_reading_reads_each_of_its_sorts() {
+        let expected = [300, 4 + 100, 4 + 100, 4 + 102_400, 4 + 100];
+        for (sort, records) in STRICT_SORTS.iter().zip(expected) {
+            let text = (sort.text)(100);
+            let stored = Stored::of(Reading::Strict, text.as_bytes()).expect(sort.name);
+            assert_eq!(
+                library::walk(&stored.store, &stored.area),
+                records,
+                "{}",
+                sort.name
+            );
+        }
+    }
+
+    #[test]
+    fn full_lines_are_as_long_as_may_be() {
+        let full = STRICT_SORTS
+            .iter()
+            .find(|sort| sort.name.ends_with("full lines"));
+        let text = (full.expect("there are such lines").text)(1);
+        assert_eq!(text.lines().map(str::len).max(), Some(2_048));
     }
 }

@@ -41,12 +41,12 @@ mod c {
 }
 
 /// Whether store and area are sound: record 0 is the block's, which always has content.
-pub fn sound(store: &[u8], area: &[u8]) -> Answer {
-    let (reading, record) = (Reading::First.number(), 0);
+pub fn sound(reading: Reading, store: &[u8], area: &[u8]) -> Answer {
+    let record = 0;
     // SAFETY: the pointers and lengths are those of slices. So below.
     unsafe {
         c::chuntarek_content(
-            reading,
+            reading.number(),
             store.as_ptr(),
             store.len(),
             area.as_ptr(),
@@ -56,7 +56,7 @@ pub fn sound(store: &[u8], area: &[u8]) -> Answer {
     }
 }
 
-/// How many records a walk over the whole store meets.
+/// How many records a walk over the whole store meets. It is the same in every reading.
 pub fn walk(store: &[u8], area: &[u8]) -> usize {
     let reading = Reading::First.number();
     let (mut at, mut met) = (0, 0);

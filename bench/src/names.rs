@@ -40,13 +40,13 @@ struct Taken {
 }
 
 fn timed(effort: Effort, text: &str) -> Taken {
-    let stored = Stored::of(text.as_bytes()).expect("each of these texts is read");
+    let stored = Stored::of(Reading::First, text.as_bytes()).expect("each of these texts is read");
     let (mut store, mut area) = (stored.store.clone(), stored.area.clone());
     let taken = best(
         effort,
         &mut [
             call(|| chuntarek::read(Reading::First, text.as_bytes(), &mut store, &mut area)),
-            call(|| library::sound(&stored.store, &stored.area)),
+            call(|| library::sound(Reading::First, &stored.store, &stored.area)),
             call(|| chuntarek::names(Reading::First, &stored.store, &stored.area)),
         ],
     );

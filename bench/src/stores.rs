@@ -8,25 +8,30 @@ use crate::reading::touched;
 use crate::table::{figure, Table};
 use crate::timing::{best, call, Effort};
 
-/// A text that was read.
+/// A text that was read, and the reading that it was read in.
 pub struct Stored {
+    pub reading: Reading,
     pub store: Vec<u8>,
     pub area: Vec<u8>,
 }
 
 impl Stored {
     /// Store and area of exactly the room that they need.
-    pub fn of(text: &[u8]) -> Result<Self, Refusal> {
+    pub fn of(reading: Reading, text: &[u8]) -> Result<Self, Refusal> {
         let (store_length, area_length) =
-            chuntarek::read(Reading::First, text, &mut [], &mut []).needed()?;
+            chuntarek::read(reading, text, &mut [], &mut []).needed()?;
         let (mut store, mut area) = (touched(store_length), touched(area_length));
-        chuntarek::read(Reading::First, text, &mut store, &mut area).result()?;
-        Ok(Stored { store, area })
+        chuntarek::read(reading, text, &mut store, &mut area).result()?;
+        Ok(Stored {
+            reading,
+            store,
+            area,
+        })
     }
 
     /// Room for the rendering; none where it would be over the limit.
     pub fn rendering(&self) -> Vec<u8> {
-        let answer: Answer = chuntarek::render(Reading::First, &self.store, &self.area, &mut []);
+        let answer: Answer = chuntarek::render(self.reading, &self.store, &self.area, &mut []);
         touched(answer.needed().map_or(0, |(length, _)| length))
     }
 }
@@ -44,7 +49,7 @@ pub fn report(effort: Effort, inputs: &[Input]) {
         "\nRender",
     ]);
     for input in inputs {
-        match Stored::of(&input.text) {
+        match Stored::of(Reading::First, &input.text) {
             Ok(stored) => table.row(row(effort, input, &stored)),
             Err(refusal) => eprintln!("bench: {} is left out: {refusal}", input.name),
         }
@@ -57,10 +62,10 @@ fn row(effort: Effort, input: &Input, stored: &Stored) -> Vec<String> {
     let mut rendering = stored.rendering();
     let renders = !rendering.is_empty();
     let mut calls = vec![
-        call(|| library::sound(store, area)),
-        call(|| chuntarek::names(Reading::First, store, area)),
+        call(|| library::sound(stored.reading, store, area)),
+        call(|| chuntarek::names(stored.reading, store, area)),
         call(|| library::walk(store, area)),
-        call(|| chuntarek::render(Reading::First, store, area, &mut rendering)),
+        call(|| chuntarek::render(stored.reading, store, area, &mut rendering)),
     ];
     let taken = best(effort, &mut calls);
     let mut cells = vec![

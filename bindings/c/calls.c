@@ -492,6 +492,15 @@ static void nothing_behind_a_buffer_is_touched(void)
     }
 }
 
+/* Whether a reading may answer a short text of ASCII by this number where it gets no room. */
+static int may_answer(uint64_t reading, uint64_t number)
+{
+    if (reading != CHUNTAREK_FIRST && reading != CHUNTAREK_STRICT)
+        return number == CHUNTAREK_NO_READING;
+    int strict_alone = number >= 15 && number <= 18;
+    return (number >= 3 && number <= 10) || (reading == CHUNTAREK_STRICT && strict_alone);
+}
+
 /* Every start of a text that holds every kind of token: it ends within each of them once. */
 static void nothing_behind_a_text_is_read(void)
 {
@@ -503,7 +512,7 @@ static void nothing_behind_a_text_is_read(void)
         for (uint64_t reading = 0; reading <= 3; reading++) {
             chuntarek_answer read = chuntarek_read(reading, end - length, length, none, 0, none, 0);
             chuntarek_answer outline = chuntarek_outline(reading, end - length, length, none, 0);
-            CHECK(read.number >= 3 && (read.number <= 10 || (reading != 1 && read.number <= 24)));
+            CHECK(may_answer(reading, read.number));
             CHECK(outline.number == read.number && outline.offset == read.offset);
         }
     }

@@ -33,9 +33,9 @@ extern "C" {
 enum chuntarek_reading {
     CHUNTAREK_FIRST = 1, /* one block, as pdbtbx reads it: a quote ends at the next mark of its kind, ; opens a text field anywhere on a line,
                           * tokens need no space between them, and an item that fails inside a frame is dropped */
-    CHUNTAREK_STRICT = 2 /* CIF 1.1 itself: any number of blocks; a quote ends only before space, tab, a line end or the text's end; a text field
-                          * opens only at the start of a line; names are not empty, and loops not without values; lines and names have a
-                          * longest length; no control bytes */
+    CHUNTAREK_STRICT = 2 /* CIF 1.1 itself: one block or more; a quote ends only before space, tab, a line end or the
+                          * text's end; a text field opens only at the start of a line; names are not empty, and loops
+                          * not without values; lines and names have a longest length; no control bytes */
 };
 
 /* The numbers of answers: done, or why it is refused, and what the three place numbers then are. 15 to 18 are the strict reading's alone. */

@@ -35,6 +35,8 @@ mod source;
 mod source;
 mod stores;
 mod tokens;
+#[cfg(feature = "library")]
+mod walks;
 
 #[cfg(has_source)]
 include!(concat!(env!("OUT_DIR"), "/source_modules.rs"));

@@ -2,16 +2,17 @@
 //! over one near it: Render, Name check, Content and the walk, held to the model.
 
 use crate::alter;
-use crate::answer::{mark_bytes, Body, Decimal, Record};
+use crate::answer::{Body, Record};
 use crate::calls::{self, Called, Kept, Part, Walked};
 use crate::library::NO_READINGS;
 use crate::model::TEXT_LIMIT;
 use crate::random::Random;
 use crate::reading::Reading;
-use crate::{model_sound, model_stores, stores};
+use crate::{model_sound, model_stores, stores, walks};
 
-/// Of a longer store not every content is asked for: each question walks all of it.
-const MOST_QUESTIONS: usize = 40;
+/// Of a longer store not every content is asked for, but so many: each question walks all of it.
+const LONGEST: usize = 1000;
+const SOME: usize = 40;
 
 /// A store and its area, and the reading that they are looked at in.
 #[derive(Clone, Copy)]
@@ -26,7 +27,7 @@ impl Stored<'_> {
     /// anything.
     pub fn hold(self, records: &[Record]) -> Result<(), String> {
         let kept = self.kept();
-        walk(records, kept)?;
+        walks::over_records(records, kept)?;
         contents(records, kept)?;
         names(records, self)?;
         rendering(records, self)?;
@@ -35,7 +36,6 @@ impl Stored<'_> {
             reading: self.reading.other(),
             ..self
         };
-        walk(records, other.kept())?;
         any_store(other).map_err(|fault| format!("{fault}, in the other reading"))?;
         let seed = records.iter().map(|record| record.length as u64).sum();
         let (store, area) = alter::near(records, &mut Random::new(self.area.len() as u64, seed));
@@ -60,16 +60,22 @@ impl Stored<'_> {
     }
 }
 
-/// A store that this reading need not have written: every service refuses it by 12 exactly where the
-/// model finds it unsound.
+/// A store that this reading need not have written: every service that judges it refuses it by 12 exactly
+/// where the model finds it unsound, and the walk goes over it even so.
 fn any_store(stored: Stored) -> Result<(), String> {
+    let kept = stored.kept();
     let sound = stores::decode(stored.store, stored.area).filter(|_| stored.is_sound());
     match sound {
         Some(records) => {
+            walks::over_records(&records, kept)?;
+            contents(&records, kept)?;
             names(&records, stored)?;
             rendering(&records, stored)
         }
-        None => is_refused(stored.kept(), 12),
+        None => {
+            walks::over_bytes(stored.store, stored.area, kept)?;
+            is_refused(kept, 12)
+        }
     }
 }
 
@@ -93,7 +99,9 @@ fn no_reading(stored: Stored) -> Result<(), String> {
 /// Every service that judges a store answers by this number, and gives nothing out.
 fn is_refused(kept: Kept, number: u64) -> Result<(), String> {
     let mut out = [0xA5; 64];
-    for answer in [kept.names(), kept.render(&mut out), kept.content(0)] {
+    let judged = [kept.names(), kept.render(&mut out)];
+    let contents = RECORDS.map(|record| kept.content(record));
+    for answer in judged.into_iter().chain(contents) {
         must(
             answer == refused(number),
             &format!("not refused by {number}"),
@@ -101,12 +109,15 @@ fn is_refused(kept: Kept, number: u64) -> Result<(), String> {
     }
     must(out == [0xA5; 64], "render: a refusal wrote something")?;
     must(
-        kept.content_part(0) == Part::default(),
+        RECORDS.map(|record| kept.content_part(record)) == [Part::default(); 3],
         "content: a part where it is refused",
     )
 }
 
-fn must(holds: bool, what: &str) -> Result<(), String> {
+/// Numbers of records that are asked for where the store is refused.
+const RECORDS: [u64; 3] = [0, 1, u64::MAX];
+
+pub fn must(holds: bool, what: &str) -> Result<(), String> {
     match holds {
         true => Ok(()),
         false => Err(format!("library, {what}")),
@@ -120,77 +131,12 @@ fn refused(number: u64) -> Called {
     }
 }
 
-/// The walk meets every record, and then the end.
-fn walk(records: &[Record], kept: Kept) -> Result<(), String> {
-    let (mut at, mut start) = (0, 0);
-    for record in records {
-        let walked = kept.record_at(at);
-        at += body_length(record);
-        must(
-            walked == expected(record, start, at),
-            "walk: a record differs",
-        )?;
-        start += walked.content;
-    }
-    let end = Walked {
-        number: 14,
-        ..Walked::default()
-    };
-    must(kept.record_at(at) == end, "walk: something follows the end")
-}
-
-/// The kind and the body that document 01's table gives it.
-fn body_length(record: &Record) -> u64 {
-    1 + match record.kind {
-        7 => 0,
-        3 | 8 | 9 => 16,
-        14 => 34,
-        15 => 38,
-        _ => 20,
-    }
-}
-
-fn expected(record: &Record, start: u64, next: u64) -> Walked {
-    let walked = Walked {
-        kind: record.kind.into(),
-        offset: record.place.offset as u64,
-        length: record.length as u64,
-        line: record.place.line as u64,
-        column: record.place.column as u64,
-        next,
-        ..Walked::default()
-    };
-    match &record.body {
-        Body::Nothing => walked,
-        Body::Tags(tags) => Walked {
-            tags: (*tags).into(),
-            ..walked
-        },
-        Body::Content(_) => Walked {
-            start,
-            content: (record.length - mark_bytes(record.kind)) as u64,
-            ..walked
-        },
-        Body::Number(decimal) => with_parts(walked, decimal),
-    }
-}
-
-fn with_parts(walked: Walked, decimal: &Decimal) -> Walked {
-    Walked {
-        sign: decimal.minus.into(),
-        integer: decimal.integer.into(),
-        fraction: decimal.fraction,
-        digits: decimal.fraction_digits.into(),
-        exponent_sign: (decimal.exponent < 0).into(),
-        exponent: decimal.exponent.unsigned_abs().into(),
-        uncertainty: decimal.uncertainty.unwrap_or(0).into(),
-        ..walked
-    }
-}
-
 /// The content of each record, or of some, and of two that are not there.
 fn contents(records: &[Record], kept: Kept) -> Result<(), String> {
-    let step = records.len().div_ceil(MOST_QUESTIONS);
+    let step = match records.len() {
+        ..=LONGEST => 1,
+        longer => longer.div_ceil(SOME),
+    };
     let mut start = 0;
     for (number, record) in records.iter().enumerate() {
         let content = match &record.body {
@@ -324,4 +270,49 @@ fn read_back(records: &[Record], kept: Kept, text: &[u8]) -> Result<(), String> 
             .zip(records)
             .all(|(one, other)| one.kind == other.kind && one.body == other.body);
     must(same, "render: the records read back differ")
+}
+
+#[cfg(test)]
+mod tests {
+    use super::*;
+    use crate::model;
+
+    /// The contents of one text's records, asked of the store of another.
+    fn asked(text: &str, of: &str) -> Result<(), String> {
+        let read = |text: &str| model::read(Reading::Strict, text.as_bytes()).expect("it is read");
+        let (store, area) = stores::encode(&read(of));
+        let stored = Stored {
+            reading: Reading::Strict,
+            store: &store,
+            area: &area,
+        };
+        contents(&read(text), stored.kept())
+    }
+
+    #[test]
+    fn another_content_is_seen() {
+        let text = "data_x _a 'b' _c 1";
+        assert_eq!(asked(text, text), Ok(()));
+        for (of, fault) in [
+            ("data_xy _a 'b' _c 1", "the part"),
+            ("data_x _ab 'b' _c 1", "the part"),
+            ("data_x _a 'bc' _c 1", "the part"),
+            ("data_x _a 1 _c 1", "the answer"),
+            ("data_x _a 'b' _c d", "the answer"),
+            ("data_x _a 'b'", "the answer"),
+            ("data_x _a 'b' _c 1 data_y", "the answer"),
+        ] {
+            let expected = format!("library, content: {fault} differs");
+            assert_eq!(asked(text, of), Err(expected), "{of}");
+        }
+    }
+
+    #[test]
+    fn the_last_content_of_a_long_store_is_asked_for() {
+        // A block, a loop, its tag, a quoted value and the loop's end stand there too.
+        let values = " d".repeat(LONGEST - 5);
+        let text = |last: &str| format!("data_x loop_ _a{values} {last}");
+        assert_eq!(asked(&text("'b'"), &text("'b'")), Ok(()));
+        assert!(asked(&text("'b'"), &text("'bc'")).is_err());
+    }
 }

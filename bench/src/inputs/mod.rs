@@ -51,11 +51,12 @@ pub fn file(path: &str) -> Result<Input, String> {
 mod tests {
     use super::*;
     use crate::source;
+    use chuntarek::Reading;
 
     #[test]
     fn library_and_source_read_each_text() {
         for input in standard() {
-            let answer = chuntarek::read(&input.text, &mut [], &mut []);
+            let answer = chuntarek::read(Reading::First, &input.text, &mut [], &mut []);
             assert!(answer.needed().is_ok(), "{}: {answer:?}", input.name);
             let text = std::str::from_utf8(&input.text).expect("the library takes ASCII alone");
             assert!(source::reads(text), "{}", input.name);

@@ -15,6 +15,7 @@ mod command {
     pub mod cell;
     pub mod check;
     pub mod excerpt;
+    pub mod frame;
     pub mod help;
     pub mod hint;
     pub mod input;

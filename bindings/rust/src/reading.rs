@@ -8,7 +8,7 @@ pub enum Reading {
     /// open anywhere on a line, and tokens need no space between them.
     #[default]
     First = 1,
-    /// CIF 1.1 as the standard has it: any number of blocks, quotes that end only before space, text
+    /// CIF 1.1 as the standard has it: one block or more, quotes that end only before space, text
     /// fields that open only at the start of a line, and its limits on lines and names.
     Strict = 2,
 }

@@ -139,7 +139,7 @@ fn fixed_sentence(number: u64) -> &'static str {
             "a CIF file begins with `data_` and a name, and something else stands here"
         }
         number::OPEN_FRAME => {
-            "this save frame is not closed: where its items end, no `save_` stands"
+            "this save frame is not closed: where its items end, no closing `save_` stands"
         }
         number::NO_VALUE => "no value that can be read follows this tag",
         number::NO_ITEM => "a tag, a loop or a save frame is expected here",
@@ -150,7 +150,10 @@ fn fixed_sentence(number: u64) -> &'static str {
         }
         number::STORE_FULL => "the store has too little room",
         number::AREA_FULL => "the area, or the text to be written, has too little room",
-        number::UNSOUND => "the store is damaged, or its area is not the one written with it",
+        number::UNSOUND => {
+            "the store is damaged, its area is not the one written with it, \
+             or it was written in another reading"
+        }
         number::NAME_TWICE => "the same tag stands twice",
         number::NO_CONTENT => "there is no such record, or it holds no name or text",
         number::NO_SPACE => {
@@ -158,7 +161,8 @@ fn fixed_sentence(number: u64) -> &'static str {
              (no line of such a field may begin with `;`)"
         }
         number::LONG_LINE => {
-            "this line has more than 2,048 bytes, the most that CIF allows: break it before this place"
+            "this line has more than 2,048 bytes, the most that CIF allows: break it between two values \
+             (a long text goes into a text field of several lines, a long comment into several)"
         }
         number::NAME_LENGTH => {
             "this name is empty, or has more than the 75 bytes that CIF allows (a tag's `_` counts)"
@@ -319,6 +323,21 @@ mod tests {
             sentences.dedup();
             assert_eq!(sentences.len(), 6);
         }
+    }
+
+    /// 12 has three causes, and a long line can be broken where nothing else goes wrong.
+    #[test]
+    fn causes_and_cures_are_said() {
+        assert_eq!(
+            Refusal::bare(12, 0).to_string(),
+            "refused 12: the store is damaged, its area is not the one written with it, \
+             or it was written in another reading"
+        );
+        let long_line = Refusal::bare(16, 0).sentence();
+        let cure =
+            "break it between two values (a long text goes into a text field of several lines, \
+                    a long comment into several)";
+        assert!(long_line.ends_with(cure), "{long_line}");
     }
 
     #[test]

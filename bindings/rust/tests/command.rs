@@ -139,7 +139,7 @@ fn check_says_what_is_wrong_and_shows_where() {
         ),
         (
             "04-open-frame",
-            "2:1: refused 4: this save frame is not closed: where its items end, no `save_` stands\n    save_length\n    ^\n",
+            "2:1: refused 4: this save frame is not closed: where its items end, no closing `save_` stands\n    save_length\n    ^\n",
         ),
         (
             "05-ragged",
@@ -233,7 +233,9 @@ fn check_says_what_the_strict_reading_refuses() {
     let messages = [
         (
             "04-open-frame",
-            "2:1: refused 4: this save frame is not closed: where its items end, no `save_` stands\n    save_f\n    ^\n".into(),
+            "4:1: refused 4: `data_y` stands here, and the save frame before it is not closed: \
+             put `save_` on a line of its own before it\n    data_y\n    ^\n\
+             examples/strict/refused/04-open-frame.cif:2:1: the frame opens here\n    save_f\n    ^\n".into(),
         ),
         (
             "06-empty-loop",
@@ -256,8 +258,9 @@ fn check_says_what_the_strict_reading_refuses() {
         ),
         (
             "16-long-line",
-            "2:2049: refused 16: this line has more than 2,048 bytes, the most that CIF allows: \
-             break it before this place\n".to_string() + &long_line,
+            "2:2049: refused 16: this line has more than 2,048 bytes, the most that CIF allows: break it between \
+             two values (a long text goes into a text field of several lines, a long comment into several)\n"
+                .to_string() + &long_line,
         ),
         (
             "17-empty-name",
@@ -358,6 +361,35 @@ fn files_that_are_no_cif_get_one_line_in_the_strict_reading_too() {
         let expected = refused("", line);
         assert_eq!(run_with(&["check", "--strict", "-"], text), expected);
     }
+}
+
+/// Two messages: what is refused, and what led to it.
+#[test]
+fn a_field_in_mid_line_is_said_in_the_strict_reading() {
+    let text = b"data_x\n_a ;b\n;\n";
+    assert_eq!(run_with(&["check", "-"], text), done(""));
+    assert_eq!(
+        run_with(&["check", "--strict", "-"], text),
+        refused(
+            "",
+            "<stdin>:3:1: refused 7: a value stands here that belongs to no tag\n    ;\n    ^\n\
+             <stdin>:2:4: a text field opens only at the start of a line: put this `;` there\n    _a ;b\n       ^\n"
+        )
+    );
+}
+
+/// The outline has the place of the frame, as the library answers; the message has what stops it.
+#[test]
+fn a_frame_that_is_open_at_the_end_is_said() {
+    let (status, output, message) =
+        run_with(&["outline", "--strict", "-"], b"data_x\nsave_f\n_a 1\n");
+    assert_eq!((status, output.as_str()), (1, "refused 4 7 2 1\n"));
+    assert_eq!(
+        message,
+        "<stdin>:4:1: refused 4: the file ends here, and its last save frame is not closed: \
+         put `save_` on a line of its own here\n    \n    ^\n\
+         <stdin>:2:1: the frame opens here\n    save_f\n    ^\n"
+    );
 }
 
 /// The outline has the tag's place, as the library answers; the message has the value's.
@@ -659,6 +691,24 @@ fn help_and_version_are_output() {
         assert!(output.contains(word), "{word}");
     }
     assert!(output.lines().all(|line| line.len() <= 100));
+}
+
+/// What each page says of the strict reading's blocks, and what the command does without any.
+#[test]
+fn a_file_without_a_block_is_promised_nowhere() {
+    let pages = [
+        run(&["--help"]).1,
+        include_str!("../../../README.md").into(),
+        include_str!("../../c/chuntarek.h").into(),
+        include_str!("../src/reading.rs").into(),
+    ];
+    for page in pages {
+        assert!(page.contains("one block or more"), "{page}");
+        assert!(!page.contains("any number of blocks"), "{page}");
+    }
+    let (status, _, message) = run_with(&["check", "--strict", "-"], b"# no block\n");
+    assert_eq!(status, 1);
+    assert!(message.starts_with("<stdin>:2:1: refused 3: "), "{message}");
 }
 
 #[test]

@@ -36,6 +36,69 @@ fn is_value(word: &str, kind: Kind, text: &str) {
     assert_eq!(found, [(kind, String::from(text))], "{word:?}");
 }
 
+/// What the rules refuse: a text, then number, offset, line, column and detail.
+#[test]
+fn texts_are_refused() {
+    for (text, [number, offset, line, column, detail]) in [
+        // A quote that is not closed.
+        ("data_x _a 'b'#c", [6, 7, 1, 8, 4]),
+        ("data_x _a 'b'c", [6, 7, 1, 8, 4]),
+        ("data_x _a 'b'c\n'", [6, 7, 1, 8, 4]),
+        ("data_x _a \"b' ", [6, 7, 1, 8, 4]),
+        ("data_x loop_ _a 1 'b'c", [7, 18, 1, 19, 4]),
+        ("data_x loop_ _a _b 1 'b'c", [5, 7, 1, 8, 1]),
+        // 15 is met before anything of the next token, and so before the loop's 5.
+        ("data_x loop_ _a _b\n;b\n;c", [15, 23, 3, 2, 0]),
+        ("data_x loop_ _a _b\n;b\n;_", [15, 23, 3, 2, 0]),
+        ("data_x loop_ _a _b\n;b\n; _c 1", [5, 7, 1, 8, 1]),
+        // "Names are not empty": 17 as soon as one is met.
+        ("data_", [17, 0, 1, 1, 0]),
+        ("# c\n DATA_ _a 1", [17, 5, 2, 2, 0]),
+        ("data_x data_", [17, 7, 1, 8, 0]),
+        ("data_x save_ save_", [17, 7, 1, 8, 0]),
+        ("data_x _", [17, 7, 1, 8, 0]),
+        ("data_x _ 1", [17, 7, 1, 8, 0]),
+        ("data_x loop_ _ 1", [17, 13, 1, 14, 0]),
+        ("data_x loop_ _a _", [17, 16, 1, 17, 0]),
+        ("data_x loop_ _a 1 _", [17, 18, 1, 19, 0]),
+        ("data_x save_f _", [17, 14, 1, 15, 0]),
+        // The rows are counted before what follows them is looked at.
+        ("data_x loop_ _a _b 1 data_", [5, 7, 1, 8, 1]),
+        ("data_x loop_ _a _b 1 _", [5, 7, 1, 8, 1]),
+        ("data_x save_f loop_ _a _b 1 data_y", [5, 14, 1, 15, 1]),
+        // "A loop without values is 6 at its last tag."
+        ("data_x loop_ _a", [6, 13, 1, 14, 1]),
+        ("data_x loop_ _a _b # c\n", [6, 16, 1, 17, 1]),
+        ("data_x loop_ _a loop_ _b 1", [6, 13, 1, 14, 2]),
+        ("data_x loop_ _a data_y", [6, 13, 1, 14, 2]),
+        ("data_x loop_ _a $", [6, 13, 1, 14, 3]),
+        ("data_x loop_ _a 'b", [6, 13, 1, 14, 4]),
+        ("data_x loop_ _a\n;b", [6, 13, 1, 14, 5]),
+        ("data_x save_f loop_ _a save_", [6, 20, 1, 21, 2]),
+        ("data_x loop_", [8, 7, 1, 8, 0]),
+        ("data_x loop_ 1", [8, 7, 1, 8, 0]),
+        // "Failures inside a frame count."
+        ("data_x save_f _a", [6, 14, 1, 15, 1]),
+        ("data_x save_f _a save_", [6, 14, 1, 15, 2]),
+        ("data_x save_f _a 'b save_", [6, 14, 1, 15, 4]),
+        ("data_x save_f loop_ _a _b 1 save_", [5, 14, 1, 15, 1]),
+        ("data_x save_f loop_ save_", [8, 14, 1, 15, 0]),
+        ("data_x save_f 1 save_", [7, 14, 1, 15, 0]),
+        ("data_x save_f loop_ _a 1 [ save_", [7, 25, 1, 26, 0]),
+        // One holds here too: a 6 says why, and so does a 7 directly behind a loop of the block itself.
+        ("data_x _a", [6, 7, 1, 8, 1]),
+        ("data_x _a # c\n[", [6, 7, 1, 8, 3]),
+        ("data_x loop_ _a 1 $", [7, 18, 1, 19, 3]),
+        ("data_x loop_ _a 1 # c\n'b", [7, 22, 2, 1, 4]),
+        ("data_x loop_ _a 1 save_f save_ $", [7, 31, 1, 32, 0]),
+        ("data_x loop_ _a 1 data_y $", [7, 25, 1, 26, 0]),
+    ] {
+        refused(text, number, offset, line, column, detail);
+    }
+    let refusal = Document::read_as(STRICT, b"data_x loop_ _a 'b'c").expect_err("no row");
+    assert_eq!(refusal.reason(), Some(Reason::OpenQuote));
+}
+
 // "A quote closes only before space, tab, a line end or the text's end."
 
 #[test]
@@ -63,16 +126,6 @@ fn marks_alone_are_texts() {
     is_value("'\"'", Kind::Quoted, "\"");
     refused("data_x _a '", 6, 7, 1, 8, 4);
     refused("data_x _a ' ", 6, 7, 1, 8, 4);
-}
-
-#[test]
-fn a_quote_that_is_not_closed_is_6() {
-    refused("data_x _a 'b'#c", 6, 7, 1, 8, 4);
-    refused("data_x _a 'b'c", 6, 7, 1, 8, 4);
-    refused("data_x _a 'b'c\n'", 6, 7, 1, 8, 4);
-    refused("data_x _a \"b' ", 6, 7, 1, 8, 4);
-    refused("data_x loop_ _a 1 'b'c", 7, 18, 1, 19, 4);
-    refused("data_x loop_ _a _b 1 'b'c", 5, 7, 1, 8, 1);
 }
 
 // "Quoted values get kind 21, body as kind 10, the opening mark its first content byte, the closing one
@@ -142,14 +195,6 @@ fn behind_a_text_field_stands_space() {
     refused("data_x _a\n;b\n;;", 15, 14, 3, 2, 0);
     refused("data_x _a\n;b\n;'c'", 15, 14, 3, 2, 0);
     refused("data_x save_f _a\n;b\n;save_", 15, 21, 3, 2, 0);
-}
-
-/// 15 is met before anything of the next token, and so before the loop's 5.
-#[test]
-fn missing_space_comes_before_what_follows() {
-    refused("data_x loop_ _a _b\n;b\n;c", 15, 23, 3, 2, 0);
-    refused("data_x loop_ _a _b\n;b\n;_", 15, 23, 3, 2, 0);
-    refused("data_x loop_ _a _b\n;b\n; _c 1", 5, 7, 1, 8, 1);
 }
 
 // "A number is only what CIF 1.1 calls one; a value starting with `.` or `?` is its whole word."
@@ -246,20 +291,6 @@ fn reserved_words_are_no_values() {
 // "Names are not empty", and "tags 75 with the underscore, block and frame names 75": 17, at the token.
 
 #[test]
-fn an_empty_name_is_17_as_soon_as_it_is_met() {
-    refused("data_", 17, 0, 1, 1, 0);
-    refused("# c\n DATA_ _a 1", 17, 5, 2, 2, 0);
-    refused("data_x data_", 17, 7, 1, 8, 0);
-    refused("data_x save_ save_", 17, 7, 1, 8, 0);
-    refused("data_x _", 17, 7, 1, 8, 0);
-    refused("data_x _ 1", 17, 7, 1, 8, 0);
-    refused("data_x loop_ _ 1", 17, 13, 1, 14, 0);
-    refused("data_x loop_ _a _", 17, 16, 1, 17, 0);
-    refused("data_x loop_ _a 1 _", 17, 18, 1, 19, 0);
-    refused("data_x save_f _", 17, 14, 1, 15, 0);
-}
-
-#[test]
 fn names_have_at_most_75_bytes() {
     let (longest, long) = ("n".repeat(75), "n".repeat(76));
     let (longest_tag, long_tag) = (&longest[1..], &longest);
@@ -275,30 +306,6 @@ fn names_have_at_most_75_bytes() {
     // Where a value is wanted a tag of any length is none.
     refused("data_x _a _", 6, 7, 1, 8, 3);
     refused(&format!("data_x _a _{long_tag}"), 6, 7, 1, 8, 3);
-}
-
-/// The rows are counted before what follows them is looked at.
-#[test]
-fn left_over_values_come_before_the_next_token() {
-    refused("data_x loop_ _a _b 1 data_", 5, 7, 1, 8, 1);
-    refused("data_x loop_ _a _b 1 _", 5, 7, 1, 8, 1);
-    refused("data_x save_f loop_ _a _b 1 data_y", 5, 14, 1, 15, 1);
-}
-
-// "A loop without values is 6 at its last tag."
-
-#[test]
-fn a_loop_without_values_says_why() {
-    refused("data_x loop_ _a", 6, 13, 1, 14, 1);
-    refused("data_x loop_ _a _b # c\n", 6, 16, 1, 17, 1);
-    refused("data_x loop_ _a loop_ _b 1", 6, 13, 1, 14, 2);
-    refused("data_x loop_ _a data_y", 6, 13, 1, 14, 2);
-    refused("data_x loop_ _a $", 6, 13, 1, 14, 3);
-    refused("data_x loop_ _a 'b", 6, 13, 1, 14, 4);
-    refused("data_x loop_ _a\n;b", 6, 13, 1, 14, 5);
-    refused("data_x save_f loop_ _a save_", 6, 20, 1, 21, 2);
-    refused("data_x loop_", 8, 7, 1, 8, 0);
-    refused("data_x loop_ 1", 8, 7, 1, 8, 0);
 }
 
 // "Several blocks may follow", and several kind 1 records stand.
@@ -321,18 +328,7 @@ fn several_blocks_are_read() {
     refused("data_x _a 1 data_y 2", 7, 19, 1, 20, 0);
 }
 
-// "Failures inside a frame count, and there `data_`, a named `save_` or the end is 4."
-
-#[test]
-fn failures_inside_a_frame_count() {
-    refused("data_x save_f _a", 6, 14, 1, 15, 1);
-    refused("data_x save_f _a save_", 6, 14, 1, 15, 2);
-    refused("data_x save_f _a 'b save_", 6, 14, 1, 15, 4);
-    refused("data_x save_f loop_ _a _b 1 save_", 5, 14, 1, 15, 1);
-    refused("data_x save_f loop_ save_", 8, 14, 1, 15, 0);
-    refused("data_x save_f 1 save_", 7, 14, 1, 15, 0);
-    refused("data_x save_f loop_ _a 1 [ save_", 7, 25, 1, 26, 0);
-}
+// Inside a frame "`data_`, a named `save_` or the end is 4".
 
 #[test]
 fn a_frame_is_closed_before_the_next_thing() {
@@ -427,19 +423,6 @@ fn bytes_and_lines_are_judged_in_their_order() {
     refused("data_x _a\n;b\n;c _ 1", 15, 14, 3, 2, 0);
     refused("data_x _a 1234567890 _ 1", 9, 10, 1, 11, 0);
     refused("data_x _ 1234567890", 17, 7, 1, 8, 0);
-}
-
-/// One holds here too: a 6 always says why, and a 7 directly behind a loop of the block itself.
-#[test]
-fn reasons_are_told_in_this_reading_too() {
-    refused("data_x _a", 6, 7, 1, 8, 1);
-    refused("data_x _a # c\n[", 6, 7, 1, 8, 3);
-    refused("data_x loop_ _a 1 $", 7, 18, 1, 19, 3);
-    refused("data_x loop_ _a 1 # c\n'b", 7, 22, 2, 1, 4);
-    refused("data_x loop_ _a 1 save_f save_ $", 7, 31, 1, 32, 0);
-    refused("data_x loop_ _a 1 data_y $", 7, 25, 1, 26, 0);
-    let refusal = Document::read_as(STRICT, b"data_x loop_ _a 'b'c").expect_err("no row");
-    assert_eq!(refusal.reason(), Some(Reason::OpenQuote));
 }
 
 // "Both readings give equal records for each one-block text that the strict one accepts and that has no

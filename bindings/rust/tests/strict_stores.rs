@@ -259,7 +259,11 @@ fn each_reading_refuses_the_others_texts() {
     let second = strict(b"data_x _a 'b'");
     let (store, area) = second.clone().into_parts();
     let taken = Document::from_parts(store.clone(), area.clone());
-    assert_eq!(taken.map_err(|refusal| refusal.number), Err(12));
+    let refusal = taken.expect_err("it is of the other reading");
+    assert_eq!(refusal.number, 12);
+    assert!(refusal
+        .sentence()
+        .ends_with("or it was written in another reading"));
     assert_eq!(Document::from_parts_as(STRICT, store, area), Ok(second));
 }
 

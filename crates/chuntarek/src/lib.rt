@@ -29,7 +29,8 @@ pub extern "C" fn chuntarek_read(
     exports::numbers_of(reading::read(known, text, store, area).report())
 }
 
-// Outlines a text: kinds and places to the store. Neither digits nor contents show (outline-hides-digits, outline-hides-contents).
+// Outlines a text: kinds and places to the store. Digits don't show (outline-hides-digits), nor in the first reading
+// what stands inside quotes and text fields (outline-hides-contents).
 #[no_mangle]
 pub extern "C" fn chuntarek_outline(reading: u64, text: &[u8], store: &mut [u8]) -> Answer
     ensures answers { λ r. ⌜ r ≡ outlineGives reading (now (text .entry)) (now (store .entry)) ⌝ }

@@ -21,7 +21,7 @@ Usage:
   FILE may be -, for standard input. TAG may be written with or without its _ and in any letter
   case. After -- nothing is an option.
 
-  --strict reads by the CIF 1.1 standard itself: any number of blocks; a quote ends only before
+  --strict reads by the CIF 1.1 standard itself: one block or more; a quote ends only before
   space, so that 'O'Neill' is one value; a text field opens only at the start of a line; a line has
   at most 2,048 bytes and a name 75. Without it a file holds one block, and a quote ends at the next
   mark of its kind.

@@ -3,7 +3,7 @@
 
 use chuntarek::{number, Place, Reading, Reason, Refusal};
 
-use super::{excerpt, ragged, strict, walk};
+use super::{excerpt, frame, ragged, strict, walk};
 
 /// What is wrong, and where.
 #[derive(Debug, PartialEq, Eq)]
@@ -34,10 +34,26 @@ pub fn hints(reading: Reading, text: &[u8], refusal: &Refusal) -> Vec<Hint> {
         (number::NO_VALUE, Some(reason)) => {
             Vec::from_iter(instead_of_value(reading, text, place, reason))
         }
+        (number::OPEN_FRAME, _) if reading == Reading::Strict => frame::hints(text, place),
         _ => {
             let sentence = at_place(reading, text, place, refusal);
-            Vec::from_iter(sentence.map(|sentence| Hint { place, sentence }))
+            let first = sentence.map(|sentence| Hint { place, sentence });
+            first
+                .into_iter()
+                .chain(cause(reading, text, refusal))
+                .collect()
         }
+    }
+}
+
+/// What before the place of a 7 may have led to it, where its reason doesn't explain it.
+fn cause(reading: Reading, text: &[u8], refusal: &Refusal) -> Option<Hint> {
+    let at = usize::try_from(refusal.place?.offset).ok()?;
+    match (reading, refusal.number, refusal.reason()) {
+        (Reading::Strict, number::NO_ITEM, None | Some(Reason::OpenField)) => {
+            strict::mid_line_field(text.get(..at)?)
+        }
+        _ => None,
     }
 }
 
@@ -396,6 +412,7 @@ mod tests {
             "data_x loop_ _a 1 ",
             "data_x loop_ _a _b 1 ",
             "data_x _a\n;b\n;",
+            "data_x save_f ",
         ] {
             for pair in 0..=u16::MAX {
                 let text = [before.as_bytes(), &pair.to_be_bytes()].concat();
@@ -415,10 +432,11 @@ mod tests {
         let is_said =
             |hint: &Hint| !hint.sentence.is_empty() && hint.place.offset <= text.len() as u64;
         assert!(hints.iter().all(is_said), "{text:?}");
-        let may_be_silent = matches!(
-            refusal.number,
-            number::NO_NAMES | number::OVER_LIMIT | number::OPEN_FRAME | number::NO_SPACE
-        );
+        let may_be_silent = match refusal.number {
+            number::NO_NAMES | number::OVER_LIMIT | number::NO_SPACE => true,
+            number::OPEN_FRAME => reading == Reading::First,
+            _ => false,
+        };
         assert!(may_be_silent || !hints.is_empty(), "{text:?}");
     }
 

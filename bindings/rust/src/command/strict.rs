@@ -1,15 +1,18 @@
 //! Hints on what only the strict reading refuses, or refuses otherwise. They decide nothing.
 
-use chuntarek::{number, Document, Reading, Reason};
+use chuntarek::{number, Document, Kind, Reading, Reason, Record};
 
-use super::excerpt;
-use super::hint::{first_word, is_keyword, starts_with, OPEN_QUOTE};
+use super::hint::{first_word, is_keyword, starts_with, Hint, OPEN_QUOTE};
+use super::{excerpt, frame};
 
 /// The most bytes of a tag with its `_`, and of the name of a block or a frame.
 const LONGEST_NAME: usize = 75;
 
 /// What to do with a loop that has no values.
 const NO_ROWS: &str = "remove the loop, or give it a row of `?`";
+
+/// What to do with a `;` that was meant to open a text field.
+const MID_LINE: &str = "a text field opens only at the start of a line: put this `;` there";
 
 /// What is wrong with a name that is empty or too long, by the word that it stands in.
 pub fn name_length(word: &[u8]) -> Option<String> {
@@ -68,6 +71,27 @@ pub fn open_quote(rest: &[u8]) -> String {
         0 | 1 => String::from(OPEN_QUOTE),
         _ => format!("{OPEN_QUOTE}: the mark that closes it stands before space or the line's end"),
     }
+}
+
+/// The first word that begins with `;` among the values of the last item before a place where another
+/// item is expected: it may have been meant to open a text field, and what follows it to stand inside.
+pub fn mid_line_field(before: &[u8]) -> Option<Hint> {
+    let document = frame::read_up_to(before)?;
+    let end = before.len() as u64;
+    let is_before = |token: &Record| token.place.is_some_and(|place| place.offset < end);
+    let tokens = document.records().filter(is_before);
+    let word = tokens.fold(None, |found, token| match token.kind.is_value() {
+        true => found.or(Some(token).filter(is_semicolon_word)),
+        false => None,
+    });
+    Some(Hint {
+        place: word?.place?,
+        sentence: String::from(MID_LINE),
+    })
+}
+
+fn is_semicolon_word(record: &Record) -> bool {
+    record.kind == Kind::Bare && record.content.is_some_and(|word| word.starts_with(b";"))
 }
 
 #[cfg(test)]
@@ -187,6 +211,56 @@ mod tests {
         for value in ["'b", "'b\"", "\"b\n\"", "'"] {
             let (_, _, sentence) = hinted(&format!("data_x _a {value}"));
             assert_eq!(sentence, open, "{value}");
+        }
+    }
+
+    /// Line and column of each hint.
+    fn places(text: &str) -> Vec<(u64, u64)> {
+        let refusal = Document::read_as(Reading::Strict, text.as_bytes()).expect_err(text);
+        assert_eq!(refusal.number, 7, "{text:?}");
+        let hints = hints(Reading::Strict, text.as_bytes(), &refusal);
+        for further in hints.iter().skip(1) {
+            let only = "a text field opens only at the start of a line: put this `;` there";
+            assert_eq!(further.sentence, only, "{text:?}");
+        }
+        let places = hints.iter().map(|hint| hint.place);
+        places.map(|place| (place.line, place.column)).collect()
+    }
+
+    #[test]
+    fn a_field_that_opens_in_mid_line_is_named() {
+        for (text, found, semicolon) in [
+            ("data_x\n_a ;b\n;", (3, 1), (2, 4)),
+            ("data_x\n_a ; b c\n;", (2, 6), (2, 4)),
+            ("data_x\n_a ;b # c\n\nd\n;\n_c 1", (4, 1), (2, 4)),
+            ("data_x\n_a\n ;b\n;\ndata_y", (4, 1), (3, 2)),
+            ("data_x save_f\n_a ;b\n;\nsave_", (3, 1), (2, 4)),
+            ("data_x loop_ _a\n1 ;b\n;", (3, 1), (2, 3)),
+            ("data_x loop_ _a\n1 ;b c ;\n;\n_d 1", (3, 1), (2, 3)),
+            ("data_x save_f loop_ _a\n;b\n; ;c\n;d", (4, 1), (3, 3)),
+        ] {
+            assert_eq!(places(text), [found, semicolon], "{text:?}");
+        }
+    }
+
+    /// Where the item before has no such word, has it inside of something else, or has another fault.
+    #[test]
+    fn no_other_field_is_spoken_of() {
+        for text in [
+            "data_x _a ;b _c 1 d",
+            "data_x _a ';b' c",
+            "data_x _a\n;b\n; c",
+            "data_x _a b # ;c\nd",
+            "data_x _a b;c d",
+            "data_x ;b",
+            "data_x save_f _a ;b save_ c",
+            "data_x _a ;b loop_ _c 1 $",
+            "data_x _;b 1 c",
+            "data_x loop_ _a ;b [c]",
+            "data_x loop_ _a ;b 'c",
+            "data_x loop_ _a ;b stop_",
+        ] {
+            assert_eq!(places(text).len(), 1, "{text:?}");
         }
     }
 
