@@ -1,6 +1,6 @@
 -- Laws of what is written of one record: its length, and that of its content. Assumes nothing.
-use Prim.Native.Nat.{ℕ, suc, _+_, _-_, _≤_}
-use mathlib.Core.Path.{_≡_, refl, ap}
+use Prim.Native.Nat.{ℕ, suc, _+_, _-_, _≤_, _<_}
+use mathlib.Core.Path.{_≡_, refl, sym, ap}
 use mathlib.Core.Bool.{Bool, true, false, cond}
 use mathlib.Core.List.{List, [], _∷_}
 use native.Mathlib.Omega.{arith}
@@ -8,12 +8,13 @@ use lib.ListN.{length, drop, length-take, length-drop}
 use Rattle.kinds.specs.declared.Shape.{Shape}
 use Rattle.kinds.specs.declared.Shape.the-variants.{Empty, Place, Content, Count, Parts, PartsUncertain}
 use Rattle.kinds.specs.Kinds.{kindOf, shapeOf, shapeLength, outlineShape, bodyLength, outlineLength, marksOf, opening, hasContent}
+use Rattle.kinds.proofs.Numbering.{outline-none, outline-place}
 use Rattle.kinds.proofs.Marks.{opening-marks}
 use Rattle.records.proofs.Forms.{length-place, length-content, length-loop, length-number, length-uncertain}
 use Rattle.grammar.specs.Machine.{Rec}
 use Rattle.sizes.specs.Sizes.{contentSize, storeSize, outlineSize}
 use Rattle.putting.specs.Written.{tokenOf, decimalOf, shaped, shapeIn, recordBytes, contentOf}
-use Rattle.putting.specs.Desk.{storeLength, recordLength}
+use Rattle.putting.specs.Desk.{storeLength, shapedLength, recordLength}
 
 -- Lengths
 
@@ -26,13 +27,24 @@ shaped-length Count s a n r = length-loop (tokenOf s r) n
 shaped-length Parts s a n r = length-number (tokenOf s r) (decimalOf s r)
 shaped-length PartsUncertain s a n r = length-uncertain (tokenOf s r) (decimalOf s r)
 
-pub length-read : (full : Bool) (k : ℕ) → full ≡ true → 1 + bodyLength k ≡ recordLength full k
-unfolding recordLength shapeIn bodyLength
-length-read full k e = rw e (omega arith)
+-- in Read a record has its body; in the outline P, or nothing where the body is empty
+module _ (full : Bool) (h : Shape) where
+  pub length-read : full ≡ true → 1 + shapeLength h ≡ shapedLength full h
+  unfolding shapedLength
+  length-read e = rw e (omega arith)
 
-pub length-outlined : (full : Bool) (k : ℕ) → full ≡ false → 1 + outlineLength k ≡ recordLength full k
-unfolding recordLength shapeIn outlineLength
-length-outlined full k e = rw e (omega arith)
+  pub length-empty : full ≡ false → shapeLength h ≡ 0 → 1 ≡ shapedLength full h
+  unfolding shapedLength
+  length-empty e z = rw e (omega (arith, outline-none h z))
+
+  pub length-outlined : full ≡ false → 0 < shapeLength h → 17 ≡ shapedLength full h
+  unfolding shapedLength
+  length-outlined e z = rw e (omega (arith, outline-place h z))
+
+-- the shape of a kind's body says how long its record is
+pub shape-told : (full : Bool) (k : ℕ) (h : Shape) → shapeOf (kindOf k) ≡ h → shapedLength full h ≡ recordLength full k
+unfolding recordLength
+shape-told full k h e = sym (ap (shapedLength full) e)
 
 pub record-length : (full : Bool) (s : List ℕ) (a n : ℕ) (r : Rec) (rs : List Rec) → length (recordBytes full s a n r) + storeLength full rs ≡ storeLength full (r ∷ rs)
 unfolding recordBytes shapeIn storeLength storeSize outlineSize bodyLength outlineLength

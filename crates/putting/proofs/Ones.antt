@@ -10,7 +10,8 @@ use Rattle.places.specs.Places.{placeAt, IsPlace}
 use Rattle.places.proofs.Places.{place-offset, place-line, place-column}
 use Rattle.numbers.specs.declared.Decimal.{Decimal}
 use Rattle.records.specs.declared.Token.{Token}
-use Rattle.kinds.specs.declared.Shape.the-variants.{Place as PlaceAlone, Content, Parts, PartsUncertain}
+use Rattle.kinds.specs.declared.Kind.{Kind}
+use Rattle.kinds.specs.declared.Shape.the-variants.{Empty, Place as PlaceAlone, Content, Count, Parts, PartsUncertain}
 use Rattle.kinds.specs.Kinds.{kindOf, shapeOf, shapeLength, outlineShape, marksOf, opening, isContent, hasContent, bodyLength, outlineLength}
 use Rattle.records.specs.Put.{put}
 use Rattle.records.specs.Records.{endRecord, placeRecord}
@@ -19,8 +20,8 @@ use Rattle.sizes.specs.Sizes.{contentSize, storeSize, outlineSize, areaSize}
 use Rattle.grammar.specs.Machine.{Rec, loopEnd}
 use Rattle.putting.specs.declared.Cursor.{Cursor}
 use Rattle.putting.specs.Written.{tokenAt, tokenOf, contentBytes, loopBytes, numberBytes, contentOf, decimalOf, shapeIn, shaped, recordBytes}
-use Rattle.putting.specs.Desk.{storeLength, recordLength, Desk, desk, Going, IsToken, recAt, WroteOne}
-use Rattle.putting.proofs.Bytes.{record-length, store-none, content-length, content-inside}
+use Rattle.putting.specs.Desk.{storeLength, shapedLength, recordLength, Desk, desk, Going, IsToken, recAt, Marked, WroteOne}
+use Rattle.putting.proofs.Bytes.{shape-told, record-length, store-none, content-length, content-inside}
 use Rattle.putting.proofs.Places.{behind-place}
 use Rattle.putting.proofs.Copy.{put-none}
 
@@ -68,6 +69,13 @@ shape-uncertain : shapeOf (kindOf 15) ≡ PartsUncertain
 unfolding kindOf shapeOf
 shape-uncertain = refl
 
+-- a number's record, without and with uncertainty
+pub number-length : (full : Bool) (k : ℕ) → k ≡ 14 → shapedLength full Parts ≡ recordLength full k
+number-length full k e = shape-told full k Parts (rw e shape-number)
+
+pub uncertain-length : (full : Bool) (k : ℕ) → k ≡ 15 → shapedLength full PartsUncertain ≡ recordLength full k
+uncertain-length full k e = shape-told full k PartsUncertain (rw e shape-uncertain)
+
 -- a number's kind says whether it has an uncertainty
 pub number-bytes : (s : List ℕ) (a n o m k : ℕ) → k ≡ cond (decimalOf s (recAt k o m) .uncertain) 15 14
     → recordBytes true s a n (recAt k o m) ≡ numberBytes (tokenOf s (recAt k o m)) (decimalOf s (recAt k o m))
@@ -93,7 +101,7 @@ pub one-length : (full : Bool) (s : List ℕ) (a n : ℕ) (r : Rec) → length (
 one-length full s a n r = omega (arith, record-length full s a n r [], store-none full)
 
 pub kind-length : (full : Bool) (r : Rec) → recordLength full (r .kind) ≡ storeLength full (r ∷ [])
-unfolding recordLength shapeIn storeLength storeSize outlineSize bodyLength outlineLength
+unfolding recordLength shapedLength storeLength storeSize outlineSize bodyLength outlineLength
 kind-length true r = omega arith
 kind-length false r = omega arith
 
@@ -171,6 +179,10 @@ number-plain k n l h = by (k - 14) (omega arith)
 pub loop-here : (full : Bool) (s : List ℕ) (p : Place) (n a tags : ℕ) → IsPlace s p → loopBytes full (tokenAt p n) tags ≡ recordBytes full s a tags (recAt 5 (p .offset) n)
 loop-here full s p n a tags i = rw (token-of s p 5 n i) (sym (loop-bytes full s a tags (p .offset) n))
 
+pub loop-length : (full : Bool) → shapedLength full Count ≡ recordLength full 5
+unfolding kindOf shapeOf
+loop-length full = shape-told full 5 Count refl
+
 pub loop-plain : (n : ℕ) → contentSize 5 n ≡ 0
 unfolding kindOf shapeOf isContent
 loop-plain n = no-content 5 n refl
@@ -189,11 +201,11 @@ unfolding recordBytes shapeIn shaped loopEnd kindOf shapeOf outlineShape
 end-bytes true s a n = sym end-kind
 end-bytes false s a n = sym end-kind
 
-pub end-length : (full : Bool) → recordLength full 7 ≡ storeLength full (loopEnd ∷ [])
-unfolding loopEnd
-end-length full = kind-length full loopEnd
+pub end-length : (full : Bool) → shapedLength full Empty ≡ storeLength full (loopEnd ∷ [])
+unfolding loopEnd kindOf shapeOf
+end-length full = shape-told full 7 Empty refl ∙ kind-length full loopEnd
 
-pub end-wrote : (full : Bool) (s : List ℕ) (c e : Cursor) (l m a : List ℕ) → Going s c → e .place ≡ c .place → e .at ≡ c .at + recordLength full 7 → e .area ≡ c .area
+pub end-wrote : (full : Bool) (s : List ℕ) (c e : Cursor) (l m a : List ℕ) → Going s c → e .place ≡ c .place → e .at ≡ c .at + shapedLength full Empty → e .area ≡ c .area
     → m ≡ put (c .at) endRecord l → WroteOne full s 0 loopEnd (c .place .offset) (desk c l a) (desk e m a)
 unfolding loopEnd contentOf
 end-wrote full s c e l m a g p q b h =
@@ -225,3 +237,24 @@ text-content s k o n e = rw (has-content k n e)
 pub text-size : (k o n : ℕ) → shapeOf (kindOf k) ≡ Content → areaSize (recAt k o n ∷ []) ≡ n - marksOf (kindOf k)
 unfolding areaSize
 text-size k o n e = omega (arith, has-content k n e)
+
+-- the marks of a kind that is known: of headings, of tags
+pub block-marked : Marked 1 5 5
+unfolding kindOf marksOf opening
+block-marked = record { all = refl; first = refl }
+
+pub frame-marked : Marked 2 5 5
+unfolding kindOf marksOf opening
+frame-marked = record { all = refl; first = refl }
+
+pub tag-marked : Marked 4 1 1
+unfolding kindOf marksOf opening
+tag-marked = record { all = refl; first = refl }
+
+pub loop-tag-marked : Marked 6 1 1
+unfolding kindOf marksOf opening
+loop-tag-marked = record { all = refl; first = refl }
+
+-- and of one that is asked for them
+pub kind-marked : (k m o : ℕ) (q : Kind) → q ≡ kindOf k → m ≡ marksOf q → o ≡ opening q → Marked k m o
+kind-marked k m o q e x y = record { all = x ∙ ap marksOf e; first = y ∙ ap opening e }

@@ -9,24 +9,29 @@ use Rattle.rules.specs.declared.Reading.{Reading}
 use Rattle.text.specs.Bytes.{isEol}
 use Rattle.gaps.specs.Gaps.{gap}
 use Rattle.places.specs.Places.{placeAt, IsPlace}
+use Rattle.kinds.specs.declared.Shape.{Shape}
 use Rattle.kinds.specs.declared.Shape.the-variants.{Place as PlaceAlone, Content}
-use Rattle.kinds.specs.Kinds.{kindOf, shapeOf, shapeLength, marksOf}
+use Rattle.kinds.specs.Kinds.{kindOf, shapeOf, shapeLength, outlineShape, marksOf, opening as openingOf}
 use Rattle.records.specs.Put.{put}
 use Rattle.values.specs.declared.Found.the-variants.{Value}
 use Rattle.values.specs.Finding.{foundAt}
 use Rattle.grammar.specs.Machine.{Rec, loopEnd}
 use Rattle.sizes.specs.Sizes.{contentSize, storeSize, outlineSize, areaSize}
 use Rattle.putting.specs.declared.Cursor.{Cursor}
-use Rattle.putting.specs.Written.{shapeIn, recordBytes, contentOf}
+use Rattle.putting.specs.Written.{recordBytes, contentOf}
 
 -- the store's bytes that records take
 unfoldable pub storeLength : Bool → List Rec → ℕ
 storeLength true rs = storeSize rs
 storeLength false rs = outlineSize rs
 
--- the bytes of one record
+-- the bytes of one record: by its shape, by its kind
+unfoldable pub shapedLength : Bool → Shape → ℕ
+shapedLength true h = suc (shapeLength h)
+shapedLength false h = suc (shapeLength (outlineShape h))
+
 unfoldable pub recordLength : Bool → ℕ → ℕ
-recordLength full k = suc (shapeLength (shapeIn full k))
+recordLength full k = shapedLength full (shapeOf (kindOf k))
 
 -- where writing stands: the cursor, the store and the area
 pub record Desk : Type 0 where
@@ -88,6 +93,11 @@ pub record TextAhead (full : Bool) (s : List ℕ) (k n : ℕ) (d : Desk) : Type 
   pub token : IsToken s k (d .cursor .place .offset) n
   pub content : shapeOf (kindOf k) ≡ Content
   pub room : Room full (recAt k (d .cursor .place .offset) n ∷ []) d
+
+-- a token of kind k has so many marks, and so many of them stand before its content
+pub record Marked (k marks opening : ℕ) : Type 0 where
+  pub all : marks ≡ marksOf (kindOf k)
+  pub first : opening ≡ openingOf (kindOf k)
 
 -- the record of the token at the cursor is written, and the cursor stands behind the token
 abbrev pub WroteToken : Bool → List ℕ → ℕ → ℕ → Desk → Desk → Type 0

@@ -8,8 +8,11 @@ ghost use Rattle.places.specs.Places.{IsPlace, placeAt};
 ghost use Rattle.records.specs.Put.{put};
 ghost use Rattle.grammar.specs.Machine.{loopEnd};
 ghost use Rattle.putting.specs.Written.{tokenAt, contentBytes, loopBytes, numberBytes};
-ghost use Rattle.putting.specs.Desk.{recordLength, desk, IsToken, StoreRoom, recordHere, TextAhead, MarkAhead, NumberAhead, LoopAhead, WroteToken, WrotePlain, WroteLoop, WroteEnd};
+ghost use Rattle.putting.specs.Desk.{shapedLength, recordLength, desk, IsToken, StoreRoom, recordHere};
+ghost use Rattle.putting.specs.Desk.{TextAhead, Marked, MarkAhead, NumberAhead, LoopAhead};
+ghost use Rattle.putting.specs.Desk.{WroteToken, WrotePlain, WroteLoop, WroteEnd};
 use kinds::Kind;
+use kinds::Shape;
 use numbers::Decimal;
 use places::Place;
 use records::Token;
@@ -55,14 +58,30 @@ fn token_at(p: Place, size: usize) -> Token
     }
 }
 
-// The bytes of a record.
-fn record_length(full: bool, kind: u8) -> usize
+// The bytes of a record, by the shape of its body: whoever writes a record knows it, and need not look its kind up.
+// In the outline a body is P, but for one that is empty.
+fn record_length(full: bool, shape: Shape) -> usize
+    ensures { λ r. ⌜ r ≡ shapedLength full shape ⌝ }
+{
+    let body = shape.length();
+    if full {
+        return 1 + body;
+    }
+    if body == 0 {
+        return 1;
+    }
+    1 + Kind::PLACE
+}
+
+// The bytes of a number's record.
+fn number_length(full: bool, kind: u8) -> usize
+    requires { ⌜ (14 ≤ kind) × (kind ≤ 15) ⌝ }
     ensures { λ r. ⌜ r ≡ recordLength full kind ⌝ }
 {
-    if full {
-        return 1 + kinds::Kind::body_length(kind);
+    if kind == Kind::UNCERTAIN {
+        return record_length(full, Shape::PartsUncertain);
     }
-    1 + kinds::Kind::outline_length(kind)
+    record_length(full, Shape::Parts)
 }
 
 // The place behind a token: only a text field has line ends in it.
@@ -138,7 +157,7 @@ fn put_number(s: &[u8], full: bool, store: &mut [u8], c: Cursor, kind: u8, size:
     put_decimal(store, at, token, decimals::decimal_of(&s[offset..end]));
 }
 
-// A token that has content.
+// A token that has content. Its marks, and those of them before it, come from the caller, who mostly knows the kind.
 pub fn write_text(
     s: &[u8],
     full: bool,
@@ -147,8 +166,10 @@ pub fn write_text(
     c: Cursor,
     kind: u8,
     size: usize,
+    marks: usize,
+    opening: usize,
 ) -> Cursor
-    requires { ⌜ TextAhead full (now s) kind size (desk c (now store) (now area)) ⌝ }
+    requires { ⌜ TextAhead full (now s) kind size (desk c (now store) (now area)) × Marked kind marks opening ⌝ }
     ensures { λ r. ⌜ WroteToken full (now (s .entry)) kind size (desk c (now (store .entry)) (now (area .entry)))
         (desk r (now (store .exit)) (now (area .exit))) ⌝ }
 {
@@ -156,13 +177,12 @@ pub fn write_text(
     let offset = place.offset;
     let at = c.at;
     let from = c.area;
-    let k = Kind::of(kind);
-    let content = size - k.marks();
+    let content = size - marks;
     put_content(full, store, at, kind, token_at(place, size), from as u32);
-    copy_content(s, full, offset + k.opening(), content, area, from);
+    copy_content(s, full, offset + opening, content, area, from);
     Cursor {
         place: behind(s, place, kind, size),
-        at: at + record_length(full, kind),
+        at: at + record_length(full, Shape::Content),
         area: from + content,
     }
 }
@@ -186,7 +206,7 @@ pub fn write_mark(
     records::write_place(&mut store[at..], kind, token);
     Cursor {
         place: behind(s, place, kind, size),
-        at: at + record_length(full, kind),
+        at: at + record_length(full, Shape::Place),
         area,
     }
 }
@@ -209,7 +229,7 @@ pub fn write_number(
     put_number(s, full, store, c, kind, size);
     Cursor {
         place: behind(s, place, kind, size),
-        at: at + record_length(full, kind),
+        at: at + number_length(full, kind),
         area,
     }
 }
@@ -225,7 +245,7 @@ pub fn write_loop(s: &[u8], full: bool, store: &mut [u8], c: Cursor, tags: usize
     put_loop(full, store, at, token_at(place, KEYWORD), tags as u32);
     Cursor {
         place: behind(s, place, Kind::LOOP, KEYWORD),
-        at: at + record_length(full, Kind::LOOP),
+        at: at + record_length(full, Shape::Count),
         area,
     }
 }
@@ -241,7 +261,7 @@ pub fn write_end(full: bool, store: &mut [u8], c: Cursor) -> Cursor
     records::write_end(&mut store[at..]);
     Cursor {
         place,
-        at: at + record_length(full, Kind::LOOP_END),
+        at: at + record_length(full, Shape::Empty),
         area,
     }
 }

@@ -8,7 +8,7 @@ ghost use Rattle.places.specs.Places.{IsPlace, placeAt};
 ghost use Rattle.gaps.specs.Gaps.{gapEnd};
 ghost use Rattle.grammar.specs.Tokens.{tagAt, loopAt};
 ghost use Rattle.putting.specs.Written.{placed};
-ghost use Rattle.putting.specs.Desk.{desk, WroteToken};
+ghost use Rattle.putting.specs.Desk.{desk, TextAhead, Marked, WroteToken};
 ghost use Rattle.walking.specs.Walk.{behindGap, TokenAhead, ValueAhead, namesFrom, NamesAhead, ValuesAhead, WroteNames, WroteValues, ItemHere, WroteItem};
 use kinds::Kind;
 use places::Place;
@@ -79,7 +79,8 @@ fn write_token(
     if kind < Kind::BARE {
         return putting::write_mark(s, full, store, c, kind, size);
     }
-    putting::write_text(s, full, store, area, c, kind, size)
+    let k = Kind::of(kind);
+    putting::write_text(s, full, store, area, c, kind, size, k.marks(), k.opening())
 }
 
 // Whether a kind of value is a number's: kind 21, of the strict reading, comes behind them.
@@ -155,6 +156,24 @@ fn count_tags(reading: Reading, s: &[u8], from: usize) -> usize
     }
 }
 
+// A tag of an item or of a loop.
+fn write_tag(
+    s: &[u8],
+    full: bool,
+    store: &mut [u8],
+    area: &mut [u8],
+    c: Cursor,
+    kind: u8,
+    size: usize,
+) -> Cursor
+    requires { ⌜ TextAhead full (now s) kind size (desk c (now store) (now area)) × Marked kind 1 1 ⌝ }
+    ensures { λ r. ⌜ WroteToken full (now (s .entry)) kind size (desk c (now (store .entry)) (now (area .entry)))
+        (desk r (now (store .exit)) (now (area .exit))) ⌝ }
+{
+    let marks = Kind::TAG_MARKS;
+    putting::write_text(s, full, store, area, c, kind, size, marks, marks)
+}
+
 // The names of a loop, as far as they may stand.
 fn write_names(
     reading: Reading,
@@ -177,7 +196,7 @@ fn write_names(
         if end <= offset {
             return here;
         }
-        last = putting::write_text(s, full, store, area, here, Kind::LOOP_TAG, end - offset);
+        last = write_tag(s, full, store, area, here, Kind::LOOP_TAG, end - offset);
     }
 }
 
@@ -221,7 +240,7 @@ fn write_tag_item(
     let place = c.place;
     let offset = place.offset;
     let end = words::long_word_end(s, offset);
-    let tagged = putting::write_text(s, full, store, area, c, Kind::TAG, end - offset);
+    let tagged = write_tag(s, full, store, area, c, Kind::TAG, end - offset);
     write_values(reading, s, full, store, area, tagged)
 }
 

@@ -8,7 +8,7 @@ ghost use Rattle.records.specs.Put.{front};
 ghost use mathlib.Core.Option.{none};
 ghost use Rattle.grammar.specs.Tokens.{saveAt};
 ghost use Rattle.items.specs.Answers.{Here, itemAt};
-ghost use Rattle.putting.specs.Desk.{desk, TextAhead};
+ghost use Rattle.putting.specs.Desk.{desk, TextAhead, Marked};
 ghost use Rattle.writing.specs.Block.{Ahead, MovedOn, WroteRest, WroteHeading, CloseAhead, WroteClose, nextOf, Fits, storeBytes, areaBytes};
 use items::Item;
 use kinds::Kind;
@@ -63,11 +63,15 @@ fn write_heading(
     kind: u8,
     size: usize,
 ) -> Cursor
-    requires { ⌜ TextAhead full (now s) kind size (desk c (now store) (now area)) ⌝ }
+    requires { ⌜ TextAhead full (now s) kind size (desk c (now store) (now area)) × Marked kind 5 5 ⌝ }
     ensures { λ r. ⌜ WroteHeading full (now (s .entry)) kind size (desk c (now (store .entry)) (now (area .entry)))
         (desk r (now (store .exit)) (now (area .exit))) ⌝ }
 {
-    walking::trimmed(s, putting::write_text(s, full, store, area, c, kind, size))
+    let marks = Kind::HEADING_MARKS;
+    walking::trimmed(
+        s,
+        putting::write_text(s, full, store, area, c, kind, size, marks, marks),
+    )
 }
 
 // The `save_` that closes a frame, where its items stopped.

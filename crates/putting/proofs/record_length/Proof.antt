@@ -1,42 +1,37 @@
--- `putting::record_length`: the kind's byte and its body. Assumes nothing.
+-- `putting::record_length`: the kind's byte and the body. Assumes nothing.
 use borrow.Author.Needs.{needs}
 use Prim.Native.Nat.{_+_}
-use mathlib.Core.Path.{ap, _∙_}
+use mathlib.Core.Path.{sym, ap, _∙_}
 use native.Mathlib.Omega.{arith}
-use Rattle.kinds.proofs.Marks.{body-short, outline-short}
-use Rattle.putting.proofs.Bytes.{length-read, length-outlined}
+use Rattle.kinds.proofs.Marks.{shape-short}
+use Rattle.putting.proofs.Bytes.{length-read, length-empty, length-outlined}
 use Rattle.putting.proofs.record_length.Statement.{statement}
 use Rattle.putting.proofs.record_length.Tie as tie
 
-body-length-requires : tie.Need-body-length-requires
-body-length-requires c κs = search needs
+length-requires : tie.Need-length-requires
+length-requires c κs = search needs
 
 add-result : tie.Need-add-result
-add-result c = omega (arith, c .body-length .ensures, body-short (c .before .before .args .kind))
+add-result c = omega (arith, c .before .length .ensures, shape-short (c .before .before .args .shape))
 
 returns : tie.Need-returns
 returns c =
     let a = c .before .before .args in
-    ap (1 +_) (c .body-length .ensures) ∙ length-read (a .full) (a .kind) (c .before .if1 .taken)
-
-outline-length-requires : tie.Need-outline-length-requires
-outline-length-requires c κs = search needs
-
-add-result-2 : tie.Need-add-result-2
-add-result-2 c = omega (arith, c .outline-length .ensures, outline-short (c .before .before .args .kind))
+    ap (1 +_) (c .before .length .ensures) ∙ length-read (a .full) (a .shape) (c .if1 .taken)
 
 returns-2 : tie.Need-returns-2
 returns-2 c =
-    let a = c .before .before .args in
-    ap (1 +_) (c .outline-length .ensures) ∙ length-outlined (a .full) (a .kind) (c .before .if1 .left)
+    let a = c .before .before .before .args in
+    length-empty (a .full) (a .shape) (c .before .if1 .left) (sym (c .before .before .length .ensures) ∙ c .if2 .taken)
+
+add-result-2 : tie.Need-add-result-2
+add-result-2 c = search needs
+
+returns-3 : tie.Need-returns-3
+returns-3 c =
+    let a = c .before .before .before .args in
+    length-outlined (a .full) (a .shape) (c .before .if1 .left) (rw (← c .before .before .length .ensures) (omega arith))
 
 pub record-length-spec : {M : Type 1} → statement M
 record-length-spec =
-    tie.close
-    (tie.spec
-    body-length-requires
-    add-result
-    returns
-    outline-length-requires
-    add-result-2
-    returns-2)
+    tie.close (tie.spec length-requires add-result returns returns-2 add-result-2 returns-3)

@@ -26,8 +26,8 @@ write-end-requires c κs =
 record-length-requires : tie.Need-record-length-requires
 record-length-requires c κs = search needs
 
-add-t12 : tie.Need-add-t12
-add-t12 c =
+add-t13 : tie.Need-add-t13
+add-t13 c =
     let a = c .before .before .before .before .before .before .before .args in
     omega (arith, c .before .before .before .before .before .before .before .pre, c .record-length .ensures, end-length (a .full))
 
@@ -49,6 +49,6 @@ write-end-spec =
     part-write-end-end
     write-end-requires
     record-length-requires
-    add-t12
+    add-t13
     same-length
     returns)

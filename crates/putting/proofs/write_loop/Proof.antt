@@ -7,7 +7,7 @@ use lib.ListN.{length}
 use Rattle.records.specs.Put.{put}
 use Rattle.putting.specs.Written.{loopBytes}
 use Rattle.putting.specs.Desk.{recAt}
-use Rattle.putting.proofs.Ones.{place-small, kind-length, one-length, loop-here, loop-plain, plain-wrote}
+use Rattle.putting.proofs.Ones.{place-small, kind-length, one-length, loop-here, loop-length, loop-plain, plain-wrote}
 use Rattle.putting.proofs.write_loop.Statement.{statement}
 use Rattle.putting.proofs.write_loop.Tie as tie
 
@@ -33,10 +33,10 @@ behind-requires c κs = search needs
 record-length-requires : tie.Need-record-length-requires
 record-length-requires c κs = search needs
 
-add-t16 : tie.Need-add-t16
-add-t16 c =
+add-t17 : tie.Need-add-t17
+add-t17 c =
     let a = c .before .before .before .before .before .before .before .before .before .before .args in
-    omega (arith, c .before .before .before .before .before .before .before .before .before .before .pre .room, c .record-length .ensures, kind-length (a .full) (recAt 5 (a .c .place .offset) 5))
+    omega (arith, c .before .before .before .before .before .before .before .before .before .before .pre .room, c .record-length .ensures, loop-length (a .full), kind-length (a .full) (recAt 5 (a .c .place .offset) 5))
 
 same-length : tie.Need-same-length
 same-length c = search needs
@@ -47,7 +47,7 @@ returns c =
     let p = c .before .before .before .before .before .before .before .before .before .before .pre in
     let t = ap (λ x. loopBytes (a .full) x (a .tags)) (c .before .before .before .before .before .token-at .ensures) ∙ loop-here (a .full) (a .s .now) (a .c .place) 5 (a .c .area) (a .tags) (p .going .place) in
     λ l. plain-wrote (a .full) (a .s .now) 5 5 (a .tags) (a .c) _ (a .store .now) _ l (loop-plain 5)
-    (p .going) (p .token) (c .before .behind .ensures) (ap (λ x. a .c .at + x) (c .record-length .ensures)) refl
+    (p .going) (p .token) (c .before .behind .ensures) (ap (λ x. a .c .at + x) (c .record-length .ensures ∙ loop-length (a .full))) refl
     (c .before .before .before .before .put-loop .ensures ∙ ap (λ x. put (a .c .at) x (a .store .now)) t)
 
 pub write-loop-spec : {M : Type 1} → statement M
@@ -59,6 +59,6 @@ write-loop-spec =
     put-loop-requires
     behind-requires
     record-length-requires
-    add-t16
+    add-t17
     same-length
     returns)

@@ -9,6 +9,7 @@ use Rattle.records.specs.Records.{placeRecord}
 use Rattle.records.proofs.Putting.{part-put}
 use Rattle.putting.specs.Written.{recordBytes}
 use Rattle.putting.specs.Desk.{recAt}
+use Rattle.putting.proofs.Bytes.{shape-told}
 use Rattle.putting.proofs.Copy.{rest-room}
 use Rattle.putting.proofs.Ones.{place-small, kind-length, mark-size, mark-bytes, no-content, plain-wrote}
 use Rattle.putting.proofs.write_mark.Statement.{statement}
@@ -41,10 +42,11 @@ behind-requires c κs = search needs
 record-length-requires : tie.Need-record-length-requires
 record-length-requires c κs = search needs
 
-add-t17 : tie.Need-add-t17
-add-t17 c =
+add-t18 : tie.Need-add-t18
+add-t18 c =
     let a = c .before .before .before .before .before .before .before .before .before .before .args in
-    omega (arith, c .before .before .before .before .before .before .before .before .before .before .pre .room, c .record-length .ensures, kind-length (a .full) (recAt (a .kind) (a .c .place .offset) (a .size)))
+    let p = c .before .before .before .before .before .before .before .before .before .before .pre in
+    omega (arith, p .room, c .record-length .ensures, shape-told (a .full) (a .kind) _ (p .alone), kind-length (a .full) (recAt (a .kind) (a .c .place .offset) (a .size)))
 
 same-length : tie.Need-same-length
 same-length c = search needs
@@ -58,7 +60,7 @@ returns c =
     let b : placeRecord k (c .before .before .before .before .before .before .token-at .result) ≡ recordBytes (a .full) (a .s .now) (a .c .area) 0 (recAt k (a .c .place .offset) n) =
     ap (placeRecord k) (c .before .before .before .before .before .before .token-at .ensures) ∙ mark-bytes (a .full) (a .s .now) (a .c .place) k n (a .c .area) 0 (p .going .place) (p .alone) in
     λ l. plain-wrote (a .full) (a .s .now) k n 0 (a .c) _ (a .store .now) _ l (no-content k n (unfold isContent in rw (p .alone)))
-    (p .going) (p .token) (c .before .behind .ensures) (ap (λ x. a .c .at + x) (c .record-length .ensures)) refl
+    (p .going) (p .token) (c .before .behind .ensures) (ap (λ x. a .c .at + x) (c .record-length .ensures ∙ shape-told (a .full) k _ (p .alone))) refl
     (part-put (a .c .at) _ (a .store .now) _ (c .before .before .before .before .write-place .ensures) ∙ ap (λ x. put (a .c .at) x (a .store .now)) b)
 
 pub write-mark-spec : {M : Type 1} → statement M
@@ -72,6 +74,6 @@ write-mark-spec =
     write-place-requires
     behind-requires
     record-length-requires
-    add-t17
+    add-t18
     same-length
     returns)

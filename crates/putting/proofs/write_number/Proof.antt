@@ -19,14 +19,14 @@ behind-requires c κs =
     let t = number-token (p .reading) (a .s .now) (a .c .place .offset) (a .kind) (a .size) (p .here) (p .least) (p .most) in
     (p .going .place, t .token)
 
-record-length-requires : tie.Need-record-length-requires
-record-length-requires c κs = search needs
+number-length-requires : tie.Need-number-length-requires
+number-length-requires c κs = search needs
 
 add-t15 : tie.Need-add-t15
 add-t15 c =
     let a = c .before .before .before .before .before .before .before .before .before .args in
     let p = c .before .before .before .before .before .before .before .before .before .pre in
-    omega (arith, p .room, c .record-length .ensures, kind-length (a .full) (recAt (a .kind) (a .c .place .offset) (a .size)))
+    omega (arith, p .room, c .number-length .ensures, kind-length (a .full) (recAt (a .kind) (a .c .place .offset) (a .size)))
 
 same-length : tie.Need-same-length
 same-length c = search needs
@@ -37,7 +37,7 @@ returns c =
     let p = c .before .before .before .before .before .before .before .before .before .pre in
     let t = number-token (p .reading) (a .s .now) (a .c .place .offset) (a .kind) (a .size) (p .here) (p .least) (p .most) in
     λ l. plain-wrote (a .full) (a .s .now) (a .kind) (a .size) 0 (a .c) _ (a .store .now) _ l (number-plain (a .kind) (a .size) (p .least) (p .most))
-    (p .going) (t .token) (c .before .behind .ensures) (ap (λ x. a .c .at + x) (c .record-length .ensures)) refl (c .before .before .before .before .put-number .ensures)
+    (p .going) (t .token) (c .before .behind .ensures) (ap (λ x. a .c .at + x) (c .number-length .ensures)) refl (c .before .before .before .before .put-number .ensures)
 
 pub write-number-spec : {M : Type 1} → statement M
 write-number-spec =
@@ -45,7 +45,7 @@ write-number-spec =
     (tie.spec
     put-number-requires
     behind-requires
-    record-length-requires
+    number-length-requires
     add-t15
     same-length
     returns)

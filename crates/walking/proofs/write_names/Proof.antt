@@ -6,6 +6,7 @@ use lib.ListN.{length}
 use Rattle.kinds.specs.Kinds.{kindOf, shapeOf}
 use Rattle.gaps.proofs.Gaps.{gap-from}
 use Rattle.putting.specs.Desk.{desk}
+use Rattle.putting.proofs.Ones.{loop-tag-marked}
 use Rattle.walking.specs.Walk.{namesFrom, behindNames}
 use Rattle.walking.proofs.SoFar.{SoFar, start}
 use Rattle.walking.proofs.Lists.{name-room, name-next, name-gap, name-last, gap-again}
@@ -52,11 +53,11 @@ returns c =
     let g = gap-again (a .s .now) (l .last) (h .result) (h .ensures) in
     name-last (a .reading) (a .full) (a .s .now) d₀ d i g (rw (← c .before .name-end .ensures) (c .if1 .taken))
 
-sub-write-text : tie.Need-sub-write-text Inv-loop μ-loop
-sub-write-text c = omega (arith, c .before .before .if1 .left)
+sub-write-tag : tie.Need-sub-write-tag Inv-loop μ-loop
+sub-write-tag c = omega (arith, c .before .before .if1 .left)
 
-write-text-requires : tie.Need-write-text-requires Inv-loop μ-loop
-write-text-requires c κs =
+write-tag-requires : tie.Need-write-tag-requires Inv-loop μ-loop
+write-tag-requires c κs =
     let l = c .before .before .before .before .before .before .loop in
     let a = c .before .before .before .before .before .before .before .before .before .before .args in
     let h = c .before .before .before .before .before .trimmed in
@@ -66,7 +67,7 @@ write-text-requires c κs =
     let g = gap-again (a .s .now) (l .last) (h .result) (h .ensures) in
     let e = c .before .before .before .name-end .ensures in
     let room = name-room (a .reading) (a .full) (a .s .now) d₀ d _ i g (rw (← e) (c .before .before .if1 .left)) (ap (λ x. x - h .result .place .offset) e) in
-    record { going = i .going; token = room .0; content = unfold kindOf shapeOf in refl; room = room .1 }
+    (record { going = i .going; token = room .0; content = unfold kindOf shapeOf in refl; room = room .1 }, loop-tag-marked)
 
 loop-less : tie.Need-loop-less Inv-loop μ-loop
 loop-less c =
@@ -78,7 +79,7 @@ loop-less c =
     let i = name-gap (a .reading) (a .full) (a .s .now) d₀ (l .last) (h .result) (l .store) (l .area) (l .inv) (h .ensures) in
     let g = gap-again (a .s .now) (l .last) (h .result) (h .ensures) in
     let e = c .before .before .before .before .before .before .before .before .name-end .ensures in
-    let n = name-next (a .reading) (a .full) (a .s .now) d₀ d _ _ i g (rw (← e) (c .before .before .before .before .before .before .before .if1 .left)) (ap (λ x. x - h .result .place .offset) e) (c .before .before .before .before .write-text .ensures) in
+    let n = name-next (a .reading) (a .full) (a .s .now) d₀ d _ _ i g (rw (← e) (c .before .before .before .before .before .before .before .if1 .left)) (ap (λ x. x - h .result .place .offset) e) (c .before .before .before .before .write-tag .ensures) in
     omega (arith, n .1, n .2, trim-offset (a .s .now) (l .last) (h .result) (h .ensures), gap-from (a .s .now) (l .last .place .offset))
 
 loop-again : tie.Need-loop-again Inv-loop μ-loop
@@ -91,7 +92,7 @@ loop-again c =
     let i = name-gap (a .reading) (a .full) (a .s .now) d₀ (l .last) (h .result) (l .store) (l .area) (l .inv) (h .ensures) in
     let g = gap-again (a .s .now) (l .last) (h .result) (h .ensures) in
     let e = c .before .before .before .before .before .before .before .before .name-end .ensures in
-    name-next (a .reading) (a .full) (a .s .now) d₀ d _ _ i g (rw (← e) (c .before .before .before .before .before .before .before .if1 .left)) (ap (λ x. x - h .result .place .offset) e) (c .before .before .before .before .write-text .ensures) .0
+    name-next (a .reading) (a .full) (a .s .now) d₀ d _ _ i g (rw (← e) (c .before .before .before .before .before .before .before .if1 .left)) (ap (λ x. x - h .result .place .offset) e) (c .before .before .before .before .write-tag .ensures) .0
 
 pub write-names-spec : {M : Type 1} → statement M
 write-names-spec =
@@ -105,7 +106,7 @@ write-names-spec =
     same-length
     same-length-2
     returns
-    sub-write-text
-    write-text-requires
+    sub-write-tag
+    write-tag-requires
     loop-less
     loop-again)

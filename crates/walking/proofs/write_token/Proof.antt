@@ -1,6 +1,7 @@
 -- `walking::write_token`: by the kind. Assumes nothing.
 use borrow.Author.Needs.{needs}
 use Rattle.putting.proofs.Numbers.{mark-kind}
+use Rattle.putting.proofs.Ones.{kind-marked}
 use Rattle.walking.proofs.write_token.Statement.{statement}
 use Rattle.walking.proofs.write_token.Tie as tie
 
@@ -15,10 +16,21 @@ same-length c = search needs
 returns : tie.Need-returns
 returns c = c .before .before .write-mark .ensures (c .before .before .before .before .before .before .before .before .args .area .now)
 
+of-requires : tie.Need-of-requires
+of-requires c κs = search needs
+
+marks-requires : tie.Need-marks-requires
+marks-requires c κs = search needs
+
+opening-requires : tie.Need-opening-requires
+opening-requires c κs = search needs
+
 write-text-requires : tie.Need-write-text-requires
 write-text-requires c κs =
-    let p = c .before .before .before .before .before .before .pre in
-    record { going = p .going; token = p .token; content = p .text (c .before .before .if1 .left); room = p .room }
+    let a = c .before .before .before .before .before .before .before .before .before .args in
+    let p = c .before .before .before .before .before .before .before .before .before .pre in
+    let m = kind-marked (a .kind) _ _ _ (c .before .before .before .before .of .ensures) (c .before .marks .ensures) (c .opening .ensures) in
+    (record { going = p .going; token = p .token; content = p .text (c .before .before .before .before .before .if1 .left); room = p .room }, m)
 
 same-length-2 : tie.Need-same-length-2
 same-length-2 c = search needs
@@ -36,6 +48,9 @@ write-token-spec =
     write-mark-requires
     same-length
     returns
+    of-requires
+    marks-requires
+    opening-requires
     write-text-requires
     same-length-2
     same-length-3

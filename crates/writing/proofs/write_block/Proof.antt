@@ -7,6 +7,7 @@ use Rattle.places.proofs.Places.{is-start}
 use Rattle.words.proofs.Words.{word-from}
 use Rattle.putting.specs.declared.Cursor.{Cursor}
 use Rattle.putting.specs.Written.{placed}
+use Rattle.putting.proofs.Ones.{block-marked}
 use Rattle.writing.proofs.Block.{begun, begins, block-head, block-ahead, block-stored, block-copied}
 use Rattle.writing.proofs.write_block.Statement.{statement}
 use Rattle.writing.proofs.write_block.Tie as tie
@@ -30,7 +31,7 @@ write-heading-requires c κs =
     let h : Cursor = begun (c .before .before .before .before .trim-from .result) in
     let e = begins s (c .before .before .before .before .trim-from .result) (c .before .before .before .before .trim-from .ensures) in
     let z = ap (λ x. x - h .place .offset) (c .before .before .parse-identifier .ensures) in
-    block-head r (a .full) s (a .store .now) (a .area .now) f h e _ z
+    (block-head r (a .full) s (a .store .now) (a .area .now) f h e _ z, block-marked)
 
 write-items-requires : tie.Need-write-items-requires
 write-items-requires c κs =

@@ -7,6 +7,7 @@ use lib.ListN.{length}
 use Rattle.words.proofs.Words.{word-from}
 use Rattle.text.specs.Limits.{limit}
 use Rattle.putting.specs.Desk.{desk}
+use Rattle.putting.proofs.Ones.{frame-marked}
 use Rattle.writing.proofs.Frames.{Inside, inside-start, inside-next, frame-all, frame-ahead, frame-moved, frame-item-here, frame-item-moved, frame-closing, frame-closed}
 use Rattle.writing.proofs.write_frame.Statement.{statement}
 use Rattle.writing.proofs.write_frame.Tie as tie
@@ -34,7 +35,7 @@ write-heading-requires c κs =
     let p = c .before .before .before .before .before .before .before .pre in
     let d₀ = desk (a .c) (a .store .now) (a .area .now) in
     let q = ap (λ x. x - a .c .place .offset) (c .before .before .parse-identifier .ensures) in
-    frame-ahead r f s d₀ (p .0) _ q (p .1)
+    (frame-ahead r f s d₀ (p .0) _ q (p .1), frame-marked)
 
 loop-holds : tie.Need-loop-holds Inv-loop μ-loop
 loop-holds c =

@@ -5,6 +5,7 @@ use mathlib.Core.Path.{sym, ap, _∙_}
 use native.Mathlib.Omega.{arith}
 use Rattle.words.proofs.Words.{word-from}
 use Rattle.putting.specs.Desk.{desk}
+use Rattle.putting.proofs.Ones.{block-marked}
 use Rattle.writing.proofs.Frames.{further-ahead, further-moved, block-item-here, block-item-moved}
 use Rattle.writing.proofs.write_part.Statement.{statement}
 use Rattle.writing.proofs.write_part.Tie as tie
@@ -44,7 +45,7 @@ write-heading-requires c κs =
     let p = c .before .before .before .before .before .before .before .before .before .before .before .pre in
     let d₀ = desk (a .c) (a .store .now) (a .area .now) in
     let q = ap (λ x. x - a .c .place .offset) (c .before .before .parse-identifier .ensures) in
-    further-ahead r f s d₀ (p .0) _ q (sym (c .before .before .before .before .heads-block .ensures) ∙ c .before .before .before .if2 .taken)
+    (further-ahead r f s d₀ (p .0) _ q (sym (c .before .before .before .before .heads-block .ensures) ∙ c .before .before .before .if2 .taken), block-marked)
 
 same-length-3 : tie.Need-same-length-3
 same-length-3 c =
