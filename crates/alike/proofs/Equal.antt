@@ -45,6 +45,10 @@ no-mark-take zero s e = refl
 no-mark-take (suc n) [] e = refl
 no-mark-take (suc n) (b ∷ s) e = rw (and-l (not (isMark b)) (noMark s) e, no-mark-take n s (and-r (not (isMark b)) (noMark s) e))
 
+pub no-mark-part : (s : List ℕ) (o n : ℕ) → noMark s ≡ true → noMark (part s o n) ≡ true
+unfolding part
+no-mark-part s o n e = no-mark-take n (drop o s) (no-mark-drop o s e)
+
 -- so it starts with none: c is one
 not-first : (c b : ℕ) (w : List ℕ) → isMark c ≡ true → noMark (b ∷ w) ≡ true → is c b ≡ false
 unfolding noMark is
@@ -56,18 +60,17 @@ unfolding startsQuote isMark is
 no-mark-quote [] e = refl
 no-mark-quote (b ∷ w) e = rw (not-first 39 b w refl e, not-first 34 b w refl e)
 
-no-mark-semicolon : (w : List ℕ) → noMark w ≡ true → startsSemicolon w ≡ false
+pub no-mark-semicolon : (w : List ℕ) → noMark w ≡ true → startsSemicolon w ≡ false
 unfolding startsSemicolon isMark is
 no-mark-semicolon [] e = refl
 no-mark-semicolon (b ∷ w) e = rw (not-first 59 b w refl e)
 
 plain-alike : (s : List ℕ) (rs : List Rec) → Plain s rs → Alike s rs
-unfolding part
 plain-alike s rs p = record { one = one-at-most rs (p .one-block); calm = calm }
   where
     calm : (g h : List Rec) (r : Rec) → rs ≡ g ++ (r ∷ h) → Calm (r .kind) (part s (r .at) (r .size))
     calm g h r e =
-        let n : noMark (part s (r .at) (r .size)) ≡ true = no-mark-take (r .size) (drop (r .at) s) (no-mark-drop (r .at) s (p .no-mark)) in
+        let n = no-mark-part s (r .at) (r .size) (p .no-mark) in
         record {
           not-quoted = λ _. no-mark-quote (part s (r .at) (r .size)) n;
           no-semicolon = λ _. no-mark-semicolon (part s (r .at) (r .size)) n;

@@ -32,14 +32,13 @@ use Rattle.kinds.specs.declared.Kind.the-variants.{Number, Uncertain}
 use Rattle.kinds.specs.declared.Shape.{Shape}
 use Rattle.kinds.specs.declared.Shape.the-variants.{Empty, Place, Content, Count, Parts, PartsUncertain}
 use Rattle.records.specs.Bytes.{flag}
-use Rattle.kinds.specs.Kinds.{kindOf, numberOf, shapeOf}
+use Rattle.kinds.specs.Kinds.{kindOf, numberOf, shapeOf, isValueKind}
 use Rattle.entries.specs.Entries.{stored}
 use Rattle.values.specs.Values.{value, lexed, lexAsValue}
 use Rattle.grammar.specs.Machine.{Rec, loopEnd}
 use Rattle.walking.specs.Writing.{tagsOf}
 use Rattle.putting.specs.Written.{tokenOf, tokenText, decimalOf as readDecimal}
 use Rattle.entries.specs.Walk.{entries}
-use Rattle.nesting.specs.Nesting.{isValueKind}
 use Rattle.stores.specs.Content.{nth}
 use Rattle.record_lines.specs.Lines.{decimalOf}
 use Rattle.written.specs.Results.{storeBytes}

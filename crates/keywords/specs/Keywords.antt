@@ -41,7 +41,8 @@ keyStop = bytes "stop_"
 unfoldable pub isWord : List ℕ → List ℕ → Bool
 isWord k s = starts k s && eqb (word s) (length k)
 
--- `loop_`, `global_` or `stop_` stands at the start of s: `loop_x` is a word like any other in the strict reading
+-- the keyword k stands at the start of s; in the strict reading as a whole word, so that `loop_x` is a word like any other.
+-- Asked for `loop_`, `global_` and `stop_`, and for a `save_` that closes a frame
 abbrev pub stands : Reading → List ℕ → List ℕ → Bool
 stands First k s = starts k s
 stands Strict k s = isWord k s

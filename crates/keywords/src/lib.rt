@@ -2,7 +2,7 @@
 ghost use mathlib.Core.Path.{_≡_};
 ghost use Prim.Native.Nat.{_<_};
 ghost use lib.ListN.{drop};
-ghost use Rattle.keywords.specs.Keywords.{startsAt, keyData, keyLoop, keySave, isWord, stands, reserved, isFreeLetter};
+ghost use Rattle.keywords.specs.Keywords.{startsAt, keyData, keySave, isWord, stands, reserved, isFreeLetter};
 use rules::Reading;
 
 // Whether a keyword, written in lower case, stands at an offset in any letter case.
@@ -31,13 +31,6 @@ pub fn at_data(s: &[u8], at: usize) -> bool
     start_with(s, at, b"data_")
 }
 
-// Whether `loop_` does.
-pub fn at_loop(s: &[u8], at: usize) -> bool
-    ensures { λ r. ⌜ r ≡ startsAt keyLoop (now (s .entry)) at ⌝ }
-{
-    start_with(s, at, b"loop_")
-}
-
 // Whether `save_` does.
 pub fn at_save(s: &[u8], at: usize) -> bool
     ensures { λ r. ⌜ r ≡ startsAt keySave (now (s .entry)) at ⌝ }
@@ -55,7 +48,8 @@ fn is_word(s: &[u8], at: usize, key: &[u8]) -> bool
     words::parse_identifier(s, at) - at == key.len()
 }
 
-// Whether `loop_`, `global_` or `stop_` stands at an offset: as a prefix, or in the strict reading as a whole word.
+// Whether a keyword stands at an offset: as a prefix, or in the strict reading as a whole word. Asked for `loop_`, `global_`
+// and `stop_`, and for a `save_` that closes a frame.
 pub fn stands_at(reading: Reading, s: &[u8], at: usize, key: &[u8]) -> bool
     ensures { λ r. ⌜ r ≡ stands reading (now (key .entry)) (drop at (now (s .entry))) ⌝ }
 {

@@ -17,7 +17,7 @@ use Rattle.kinds.specs.declared.Kind.{Kind}
 use Rattle.entries.specs.declared.Fields.{Fields}
 use Rattle.entries.specs.declared.Entry.{Entry}
 use Rattle.entries.specs.declared.Entry.the-variants.{Record, Nothing}
-use Rattle.kinds.specs.Kinds.{numberOf}
+use Rattle.kinds.specs.Kinds.{numberOf, isValueKind}
 use Rattle.entries.specs.Entries.{entryAt}
 use Rattle.nesting.specs.declared.Where.{Where}
 use Rattle.nesting.specs.declared.Where.the-variants.{Start, Items, Names, Values, Wants}
@@ -26,7 +26,7 @@ use Rattle.nesting.specs.declared.Stand.the-variants.{Stands, Falls}
 use Rattle.entries.specs.Walk.{entries}
 use Rattle.entries.proofs.Walking.{rest, rest-all, rest-over, rest-none, next-at}
 use Rattle.nesting.proofs.Where.{the-type as where-type}
-use Rattle.nesting.specs.Nesting.{isValueKind, opensLoop, further, atItems, afterName, atNames, endsLoop, atValues, standing, ended, follow, nestedFrom, nested, counted}
+use Rattle.nesting.specs.Nesting.{opensLoop, further, atItems, afterName, atNames, endsLoop, atValues, standing, ended, follow, nestedFrom, nested, counted}
 
 -- a loop without tags falls, any other asks for its tags
 pub loop-none : (f : Bool) (n : ℕ) → n ≡ 0 → Falls ≡ opensLoop f n

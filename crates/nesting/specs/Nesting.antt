@@ -2,22 +2,18 @@
 -- isn't followed by kind 4. In the strict reading (document 02, Three) a further kind 1 may stand outside frames, and a loop has at least one row. A machine over
 -- kinds. Assumes nothing.
 use Prim.Native.Nat.{ℕ, zero, suc, _%_}
-use mathlib.Core.Bool.{Bool, true, false, not, cond, _&&_, _||_}
+use mathlib.Core.Bool.{Bool, true, false, not, cond}
 use mathlib.Core.List.{List, [], _∷_}
-use lib.Dec.{eqb, leb}
+use lib.Dec.{eqb}
 use Rattle.rules.specs.declared.Reading.{Reading}
 use Rattle.rules.specs.declared.Reading.the-variants.{First, Strict}
 use Rattle.entries.specs.declared.Entry.{Entry}
 use Rattle.entries.specs.declared.Entry.the-variants.{Record, Nothing}
-use Rattle.kinds.specs.Kinds.{numberOf}
+use Rattle.kinds.specs.Kinds.{numberOf, isValueKind}
 use Rattle.nesting.specs.declared.Where.{Where}
 use Rattle.nesting.specs.declared.Where.the-variants.{Start, Items, Names, Values, Wants}
 use Rattle.nesting.specs.declared.Stand.{Stand}
 use Rattle.nesting.specs.declared.Stand.the-variants.{Stands, Falls}
-
--- the kinds of values, of whatever reading
-unfoldable pub isValueKind : ℕ → Bool
-isValueKind k = (leb 8 k && leb k 15) || eqb k 21
 
 -- the tags of a loop: at least one
 unfoldable pub opensLoop : Bool → ℕ → Stand

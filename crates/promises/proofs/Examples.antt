@@ -20,7 +20,8 @@ use Rattle.walking.specs.Writing.{tagsOf, storeOf}
 use Rattle.reading.specs.Services.{readStoreBy, readStore, readAreaBy, readArea}
 use Rattle.refusals.specs.Answers.{writtenIf}
 use Rattle.entries.specs.Walk.{onward, entriesFrom, entries}
-use Rattle.nesting.specs.Nesting.{isValueKind, further, endsLoop, opensLoop, atItems, afterName, atNames, atValues, standing, ended, follow, nestedFrom, nested}
+use Rattle.kinds.specs.Kinds.{isValueKind}
+use Rattle.nesting.specs.Nesting.{further, endsLoop, opensLoop, atItems, afterName, atNames, atValues, standing, ended, follow, nestedFrom, nested}
 use Rattle.readable.specs.Tokens.{marked, lead, stands, isLed}
 use Rattle.readable.specs.Readable.{isName, isKept, readableBy, readable}
 use Rattle.contents.specs.Contents.{exponentKept, partsKept, contentLength, contentBytes, lies, isInside, isReadable}

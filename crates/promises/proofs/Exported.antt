@@ -6,11 +6,14 @@
 -- what chuntarek_read writes is sound by the reading that the call names (read-gives-sound), and chuntarek_render answers to it by the rendering's length alone: done, 1
 -- or 11, never 12 (read-is-rendered);
 -- by either reading chuntarek_render of a sound store, and chuntarek_read of that text, are done, and what is read back has the lengths of the store and
--- its area and says the same (read-back).
+-- its area and says the same (read-back);
+-- to a plain text (crates/alike) chuntarek_read and chuntarek_outline answer by the one reading as by the other, and leave the
+-- same bytes in store and area (plain-read-alike); so they do to a text of the class that asks nothing of bytes
+-- (unquoted-read-alike).
 -- Assumes nothing.
 use Prim.Native.Nat.{ℕ}
 use mathlib.Core.Bool.{true}
-use mathlib.Core.Path.{_≡_, refl, ap}
+use mathlib.Core.Path.{_≡_, refl, sym, ap, _∙_}
 use mathlib.Core.List.{List}
 use lib.ListN.{length}
 use Rattle.rules.specs.declared.Reading.{Reading}
@@ -28,10 +31,14 @@ use Rattle.hidden.specs.Differences.{DigitsDiffer, ContentsDiffer}
 use Rattle.written.specs.Results.{storeBytes, areaBytes}
 use Rattle.sound.specs.Claims.{IsRead}
 use Rattle.round_trip.specs.Claims.{renderedBytes, Renderable}
-use Rattle.promises.specs.Exported.{textGiven, storeGiven, areaGiven, OutlinedAlike, ReadBack}
+use Rattle.reading.specs.Services.{readAnswer, readStore, readArea}
+use Rattle.outlining.specs.Outlining.{outlineAnswer, outlineStore}
+use Rattle.alike.specs.Plain.{Plain, Unquoted}
+use Rattle.promises.specs.Exported.{textGiven, storeGiven, areaGiven, OutlinedAlike, ReadAlike, ReadBack}
 use Rattle.hidden.proofs.Outlined.{digits-unseen, contents-unseen}
 use Rattle.sound.proofs.ReadIsSound.{read-is-sound}
 use Rattle.round_trip.proofs.RoundTrip.{round-trip}
+use Rattle.alike.proofs.Equal.{equal-records, unquoted-records}
 
 pub outline-hides-digits : (n : ℕ) (s t store : List ℕ) → DigitsDiffer s t → OutlinedAlike n s t store
 unfolding outlineGives outlineLeft outlineBy outlinedBy
@@ -75,3 +82,14 @@ read-back First st ar text store area h =
 read-back Strict st ar text store area h =
     let trip = round-trip Strict st ar text store area h in
     record { rendered = ap exported (trip .rendered); read = ap exported (trip .read); same = trip .same }
+
+-- whatever the services answer and write goes through the text's records alone
+one-answer : (s store area : List ℕ) → outline First s ≡ outline Strict s → ReadAlike 1 2 s store area
+unfolding readGives readBy storeLeft storeBy areaLeft areaBy outlineGives outlineBy outlineLeft outlinedBy named readAnswer readStore readArea outlineAnswer outlineStore
+one-answer s store area e = record { answers = rw e; stores = rw e; areas = rw e; outlines = rw e; outlined = rw e }
+
+pub plain-read-alike : (s store area : List ℕ) (rs : List Rec) → Plain s rs → ReadAlike 1 2 s store area
+plain-read-alike s store area rs p = one-answer s store area (equal-records s rs p ∙ sym (p .accepted))
+
+pub unquoted-read-alike : (s store area : List ℕ) (rs : List Rec) → Unquoted s rs → ReadAlike 1 2 s store area
+unquoted-read-alike s store area rs p = one-answer s store area (unquoted-records s rs p ∙ sym (p .accepted))

@@ -1,3 +1,4 @@
 pub mod Examples
 pub mod OneOutcome
 pub mod Exported
+pub mod Classes

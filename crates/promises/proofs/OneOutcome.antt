@@ -19,6 +19,9 @@ use Rattle.rendering.specs.declared.Rendered.the-variants.{Done as DoneText, No
 use Rattle.rendering.specs.Rendering.{renderedReport}
 use Rattle.refusals.specs.declared.Refusal.{Refusal}
 use Rattle.refusals.specs.declared.Refusal.the-variants.{TooLong, At}
+use Rattle.judging.specs.declared.Judged.{Judged}
+use Rattle.judging.specs.declared.Judged.the-variants.{Fits as FitsText, Declines}
+use Rattle.judging.specs.Judging.{Judgement, judgedAs}
 use Rattle.reading.specs.declared.Stored.{Stored}
 use Rattle.reading.specs.declared.Stored.the-variants.{Done, Refused, StoreFull, AreaFull}
 use Rattle.outlining.specs.declared.Outlined.{Outlined}
@@ -138,3 +141,14 @@ decision-back (RefusedText c o) = rw (cause-back c)
 
 pub one-decision : (a b : Decision) → told a ≡ told b → a ≡ b
 one-decision a b e = sym (decision-back a) ∙ ap decisionIn e ∙ decision-back b
+
+unfoldable judgedIn : Judgement → Judged
+judgedIn j = cond (j .isRead) (FitsText (j .sizes)) (Declines (refusalIn (j .report)))
+
+judged-back : (j : Judged) → judgedIn (judgedAs j) ≡ j
+unfolding judgedIn judgedAs
+judged-back (FitsText z) = refl
+judged-back (Declines r) = ap Declines (refusal-back r)
+
+pub one-judged : (a b : Judged) → judgedAs a ≡ judgedAs b → a ≡ b
+one-judged a b e = sym (judged-back a) ∙ ap judgedIn e ∙ judged-back b

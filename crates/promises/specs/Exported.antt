@@ -1,5 +1,6 @@
--- What C and Rust meet: the bytes that the answers of the exported functions count in the lent buffers, and what demand 3 and the
--- round trip say of those answers, whole: number, place, detail and both lengths. n is the number that a call names its reading by.
+-- What C and Rust meet: the bytes that the answers of the exported functions count in the lent buffers, and what demand 3, the
+-- equal records and the round trip say of those answers, whole: number, place, detail and both lengths. n is the number that a
+-- call names its reading by.
 -- Assumes nothing.
 use Prim.Native.Nat.{ℕ}
 use mathlib.Core.Path.{_≡_}
@@ -28,6 +29,15 @@ areaGiven n s store area = take (readGives n s store area .second) (areaLeft n s
 pub record OutlinedAlike (n : ℕ) (s t store : List ℕ) : Type 0 where
   pub answers : outlineGives n s store ≡ outlineGives n t store
   pub stores : outlineLeft n s store ≡ outlineLeft n t store
+
+-- chuntarek_read and chuntarek_outline give for s by the reading m what they give by the reading n: the answers, and the lent
+-- buffers afterwards
+pub record ReadAlike (m n : ℕ) (s store area : List ℕ) : Type 0 where
+  pub answers : readGives m s store area ≡ readGives n s store area
+  pub stores : storeLeft m s store area ≡ storeLeft n s store area
+  pub areas : areaLeft m s store area ≡ areaLeft n s store area
+  pub outlines : outlineGives m s store ≡ outlineGives n s store
+  pub outlined : outlineLeft m s store ≡ outlineLeft n s store
 
 -- chuntarek_render to the lent text, then chuntarek_read of what it wrote, to the lent store and area
 pub record ReadBack (r : Reading) (st ar text store area : List ℕ) : Type 0 where

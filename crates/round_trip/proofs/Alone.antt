@@ -28,14 +28,13 @@ use Rattle.kinds.specs.declared.Kind.the-variants.{NoKind, Block, FrameOpen, Fr
 use Rattle.entries.specs.declared.Parts.{Parts}
 use Rattle.kinds.specs.declared.Shape.{Shape}
 use Rattle.kinds.specs.declared.Shape.the-variants.{Empty, Place, Content, Count, Parts as PartsShape, PartsUncertain}
-use Rattle.kinds.specs.Kinds.{numberOf, shapeOf, isContent}
+use Rattle.kinds.specs.Kinds.{numberOf, shapeOf, isContent, isValueKind}
 use Rattle.entries.specs.Entries.{noParts, isKind as isKindOf}
 use Rattle.values.specs.Values.{Class, block, loop, save, tag, value, lexed, numberOr, wordOr, aloneOr, lexValue, lexAsValue}
 use Rattle.values.proofs.Laws.{value-lies}
 use Rattle.values.proofs.Alone.{alone-token, alone-none}
 use Rattle.grammar.specs.Tokens.{Mode, inBlock, inFrame, saveSize, saveLength, lexIn, lex, tagFirst}
 use Rattle.grammar.proofs.Lexes.{lex-tag, lex-loop, lex-save, lex-data}
-use Rattle.nesting.specs.Nesting.{isValueKind}
 use Rattle.readable.specs.Tokens.{mark, marked, isBareField, lead, stands as stands-behind}
 use Rattle.readable.specs.Readable.{isName, readableBy, readable, keepsLines, isKept}
 use Rattle.contents.specs.Contents.{exponentKept, partsKept, contentLength, contentBytes, ownRule}

@@ -23,7 +23,7 @@ use Rattle.kinds.specs.declared.Kind.{Kind}
 use Rattle.kinds.specs.declared.Kind.the-variants.{NoKind, Block, FrameOpen, FrameClose, Tag, Loop, LoopTag, LoopEnd, Inapplicable, Unknown, Bare, SingleQuoted, DoubleQuoted, Multiline, Number, Uncertain, Quoted}
 use Rattle.kinds.specs.declared.Shape.{Shape}
 use Rattle.kinds.specs.declared.Shape.the-variants.{Empty, Place, Content, Count, Parts as PartsShape, PartsUncertain}
-use Rattle.kinds.specs.Kinds.{kindOf, numberOf, shapeOf, shapeLength, bodyLength, isContent}
+use Rattle.kinds.specs.Kinds.{kindOf, numberOf, shapeOf, shapeLength, bodyLength, isContent, isValueKind}
 use Rattle.entries.specs.Entries.{de32, partsOf, plainFields, partsFields, fieldsOf, isKind, entryOf, entryAt}
 use Rattle.values.specs.Values.{loop, value}
 use Rattle.entries.specs.Walk.{onward, entriesFrom}
@@ -31,7 +31,7 @@ use Rattle.nesting.specs.declared.Stand.{Stand}
 use Rattle.nesting.specs.declared.Stand.the-variants.{Stands, Falls}
 use Rattle.nesting.specs.declared.Where.{Where}
 use Rattle.nesting.specs.declared.Where.the-variants.{Items, Names, Values, Wants}
-use Rattle.nesting.specs.Nesting.{isValueKind, opensLoop, further as another, atItems, afterName, atNames, endsLoop, atValues, standing, ended, follow, nestedFrom}
+use Rattle.nesting.specs.Nesting.{opensLoop, further as another, atItems, afterName, atNames, endsLoop, atValues, standing, ended, follow, nestedFrom}
 use Rattle.readable.specs.Tokens.{isBareField, isLed, lead}
 use Rattle.readable.specs.Readable.{isName, readableBy}
 use Rattle.contents.specs.Contents.{contentBytes}

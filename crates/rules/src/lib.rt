@@ -1,7 +1,7 @@
 // Whose rules a text is read by. Where they differ a definition, or a function, goes by cases on the reading; all else
 // is said once.
 ghost use mathlib.Core.Path.{_≡_};
-ghost use Rattle.rules.specs.Rules.{readingNumber, named};
+ghost use Rattle.rules.specs.Rules.{named};
 
 // The reading that a call names: document 01's own, or the standard's (document 02, Three).
 pub enum Reading {
@@ -16,16 +16,6 @@ pub enum Named {
 }
 
 impl Reading {
-    // The number that names it.
-    pub fn number(self) -> usize
-        ensures { λ r. ⌜ r ≡ readingNumber self ⌝ }
-    {
-        match self {
-            Reading::First => 1,
-            Reading::Strict => 2,
-        }
-    }
-
     // The reading that a number names.
     pub fn of(number: u64) -> Named
         ensures { λ r. ⌜ r ≡ named number ⌝ }

@@ -9,7 +9,7 @@ use borrow.Author.Tests.{eqb-true, ne-eqb}
 use lib.Dec.{eqb}
 use Rattle.rules.specs.declared.Reading.{Reading}
 use Rattle.rules.specs.declared.Reading.the-variants.{First, Strict}
-use Rattle.kinds.specs.Kinds.{kindOf, shapeOf, isValueKind as isValueOf}
+use Rattle.kinds.specs.Kinds.{kindOf, shapeOf, isValueKind}
 use Rattle.values.specs.Values.{value}
 use Rattle.values.proofs.Laws.{found-lies, found-value}
 use Rattle.grammar.specs.Machine.{Rec, loopEnd}
@@ -19,7 +19,7 @@ use Rattle.nesting.specs.declared.Stand.{Stand}
 use Rattle.nesting.specs.declared.Stand.the-variants.{Stands, Falls}
 use Rattle.nesting.specs.declared.Where.{Where}
 use Rattle.nesting.specs.declared.Where.the-variants.{Start, Items, Names, Values, Wants}
-use Rattle.nesting.specs.Nesting.{isValueKind, opensLoop, atItems, afterName, atNames, atValues, standing, ended, follow, nestedFrom, nested}
+use Rattle.nesting.specs.Nesting.{opensLoop, atItems, afterName, atNames, atValues, standing, ended, follow, nestedFrom, nested}
 use Rattle.written.proofs.Lexing.{modeOf, never}
 use Rattle.written.proofs.Taken.{Took, Tags, opens, named, Rows, first, next, Taken, heading, single, rows, no-rows, opened, further, shut, Outline}
 use Rattle.written.proofs.Sources.{Each, none, also, each-map, sources, value-reads, value-found, Facts, facts}
@@ -74,7 +74,7 @@ Among : ℕ → Type 0
 Among k = (8 ≤ k) × (isValueKind k ≡ true)
 
 value-kind : (g : Reading) (s : List ℕ) (f : Bool) (r : Rec) (k : ℕ) → Took g s (modeOf f) (value k) k r → Among k
-unfolding Among isValueKind isValueOf
+unfolding Among
 value-kind g s f r k t =
     let v = value-found g s (r .at) k (r .size) (value-reads f k t) in
     (found-lies g s (r .at) k (r .size) v .low, found-value g s (r .at) k (r .size) v)

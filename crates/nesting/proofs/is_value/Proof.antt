@@ -1,7 +1,7 @@
 -- `nesting::is_value`: each `return` goes by the tests that led there. Assumes nothing.
 use native.Mathlib.Omega.{arith}
 use borrow.Author.Tests.{ne-eqb, le-leb, lt-leb}
-use Rattle.nesting.specs.Nesting.{isValueKind}
+use Rattle.kinds.specs.Kinds.{isValueKind}
 use Rattle.nesting.proofs.is_value.Statement.{statement}
 use Rattle.nesting.proofs.is_value.Tie as tie
 
