@@ -183,10 +183,14 @@ pub control-go : (b : ℕ) → isControl b ≡ false → noControl b ≡ true
 unfolding noControl
 control-go b e = rw e
 
--- a byte that may stand in a text is no control byte
+-- a byte that may stand in a text is no control byte, and ASCII
 pub plain-control : (b : ℕ) → isPlain b ≡ true → noControl b ≡ true
 unfolding isPlain
 plain-control b e = and-r (isAscii b) (noControl b) e
+
+pub plain-ascii : (b : ℕ) → isPlain b ≡ true → isAscii b ≡ true
+unfolding isPlain
+plain-ascii b e = and-l (isAscii b) (noControl b) e
 
 -- a class within another: its runs are runs of the other
 pub span-wider : (p q : ℕ → Bool) → ((b : ℕ) → p b ≡ true → q b ≡ true) → (s : List ℕ) → span p s ≤ span q s
@@ -458,6 +462,14 @@ short-le c (b ∷ s) = by (isLong c b) (short-le (column c b) s)
     by : (t : Bool) → short (column c b) s ≤ length s → cond t 0 (suc (short (column c b) s)) ≤ suc (length s)
     by true h = omega arith
     by false h = omega arith
+
+-- where no control byte stands, the scan for long lines alone tells what is found
+module _ (s : List ℕ) (long : ℕ) (q : long ≡ short 0 s) (p : length s ≤ span noControl s) where
+  pub plain-long : long < length s → screened s ≡ LongLine long
+  plain-long l = sym (screen-long s long (span noControl s) q refl (omega arith) l)
+
+  pub plain-fine : length s ≤ long → screened s ≡ Fine
+  plain-fine l = sym (screen-fine s long (span noControl s) q refl (omega (arith, q, short-le 0 s)) l)
 
 -- by both scans
 module _ (c : ℕ) (s : List ℕ) (long control : ℕ) (q : long ≡ short c s) (r : control ≡ span noControl s) where
