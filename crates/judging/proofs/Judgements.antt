@@ -1,12 +1,17 @@
 -- What a judgement says: what a decision's numbers come to is what the answer comes to, and a text is read or refused by it. Assumes nothing.
-use Prim.Native.Nat.{ℕ}
+use Prim.Native.Nat.{ℕ, _≤_}
 use mathlib.Core.Path.{_≡_, refl, sym, ap, _∙_}
 use mathlib.Core.Bool.{true≢false, false≢true}
 use mathlib.Core.List.{List}
 use Rattle.rules.specs.declared.Reading.{Reading}
 use Rattle.rules.specs.declared.Reading.the-variants.{Strict}
 use Rattle.lines.specs.declared.Screen.the-variants.{Fine, LongLine, Control}
-use Rattle.lines.specs.Lines.{screened}
+use native.Mathlib.Omega.{arith}
+use lib.ListN.{length}
+use Rattle.text.specs.Bytes.{isAscii}
+use Rattle.text.specs.Runs.{span}
+use Rattle.lines.specs.Lines.{noControl, isPlain, screened}
+use Rattle.lines.proofs.Lines.{span-wider, plain-ascii, plain-control}
 use Rattle.grammar.specs.declared.Cause.the-variants.{LongLine as LongLineCause, ControlByte}
 use Rattle.deciding.specs.declared.Decision.the-variants.{Refused as RefusedText}
 use Rattle.sizes.specs.declared.Sizes.{Sizes}
@@ -63,3 +68,10 @@ module _ (s : List ℕ) where
   pub screens-control : (o : ℕ) → screened s ≡ Control o → told (RefusedText ControlByte o) ≡ tells (checked Strict s (decided Strict s))
   unfolding told
   screens-control o e = sym (ap tells (checked-control s (decided Strict s) o e) ∙ tells-refused 18 o 0)
+
+  -- bytes that may all stand in a strict text are ASCII, and no control bytes
+  pub plain-all : length s ≤ span isPlain s → length s ≤ span isAscii s
+  plain-all h = omega (arith, span-wider isPlain isAscii plain-ascii s)
+
+  pub plain-none : length s ≤ span isPlain s → length s ≤ span noControl s
+  plain-none h = omega (arith, span-wider isPlain noControl plain-control s)

@@ -4,6 +4,8 @@ ghost use Prim.Native.Nat.{_≤_};
 ghost use lib.ListN.{length};
 ghost use Rattle.rules.specs.declared.Reading.the-variants.{Strict};
 ghost use Rattle.text.specs.Limits.{limit};
+ghost use Rattle.text.specs.Runs.{span};
+ghost use Rattle.lines.specs.Lines.{noControl};
 ghost use Rattle.grammar.specs.Reading.{decided, checked, outline as outlineOf};
 ghost use Rattle.deciding.specs.Decisions.{told, tells};
 ghost use Rattle.judging.specs.Judging.{judgement, judgedAs, declined};
@@ -57,6 +59,22 @@ fn decide_screened(s: &[u8]) -> Decision
     }
 }
 
+// The same of a text whose bytes are all ASCII and no control bytes: only long lines are left to look for.
+fn decide_plain(s: &[u8]) -> Decision
+    requires { ⌜ length (now s) ≤ limit ⌝ }
+    requires { ⌜ length (now s) ≤ span noControl (now s) ⌝ }
+    ensures { λ r. ⌜ told r ≡ tells (checked Strict (now (s .entry)) (decided Strict (now (s .entry)))) ⌝ }
+{
+    let long = lines::short_end(s, 0);
+    if long < s.len() {
+        return Decision::Refused {
+            cause: Cause::LongLine,
+            at: long,
+        };
+    }
+    deciding::lex_cif(Reading::Strict, s)
+}
+
 // What a text within the limits comes to.
 fn decide(reading: Reading, s: &[u8]) -> Decision
     requires { ⌜ length (now s) ≤ limit ⌝ }
@@ -76,6 +94,12 @@ pub fn judge(reading: Reading, s: &[u8]) -> Judged
         return Judged::Declines {
             refusal: Refusal::TooLong,
         };
+    }
+    // one pass for ASCII and control bytes, which most strict texts need no second look at
+    if let Reading::Strict = reading {
+        if s.len() <= lines::plain_end(s) {
+            return placed(s, decide_plain(s));
+        }
     }
     let ascii = text::ascii_end(s);
     if ascii < s.len() {

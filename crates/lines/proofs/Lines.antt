@@ -7,17 +7,20 @@ use mathlib.Core.List.{List, [], _∷_, _++_}
 use native.Mathlib.Nat.{zero-add}
 use native.Mathlib.Numerals.{add-one}
 use native.Mathlib.Omega.{arith}
-use borrow.Author.Tests.{eq-eqb, ne-eqb, eqb-true, eqb-false, ltb-true, ltb-false, lt-ltb, le-ltb}
-use lib.Dec.{eqb, ltb}
+use borrow.Author.Tests.{eq-eqb, ne-eqb, eqb-true, eqb-false, ltb-true, ltb-false, lt-ltb, le-ltb, leb-true, leb-false, lt-leb, le-leb}
+use lib.Dec.{eqb, ltb, leb}
 use lib.ListN.{length, drop, getD, drop-of-length-le}
 use lib.Seq.{drop-cons}
-use Rattle.text.specs.Bytes.{isEol}
+use Rattle.text.specs.Bytes.{is, isAscii, isEol}
 use Rattle.text.specs.Runs.{span, spanEnd, runs}
+use Rattle.text.specs.Blocks.{clear}
+use Rattle.text.proofs.Bools.{and-l, and-r}
+use Rattle.text.proofs.Blocks.{clear-least, block-keeps}
 use Rattle.text.proofs.Runs.{span-le, span-end, runs-met}
 use Rattle.lines.specs.declared.Screen.{Screen}
 use Rattle.lines.specs.declared.Screen.the-variants.{Fine, LongLine, Control}
 use Rattle.lines.specs.Ends.{behindLast}
-use Rattle.lines.specs.Lines.{isControl, noControl, column, isLong, short, screenFrom, screened, isFine, fits}
+use Rattle.lines.specs.Lines.{isControl, noControl, isPlain, isLined, column, isLong, short, screenFrom, screened, isFine, fits}
 
 -- Lines
 
@@ -92,6 +95,23 @@ pub last-none : (s : List ℕ) (o : ℕ) → behindLast s o 0 ≡ o
 unfolding behindLast
 last-none s o = refl
 
+-- a byte of at least 14 ends no line, so that a block of such bytes at the end may be skipped
+high-no-eol : (b : ℕ) → 14 ≤ b → isEol b ≡ false
+unfolding isEol
+high-no-eol b h = rw (ne-eqb b 10 (λ e. omega arith), ne-eqb b 13 (λ e. omega arith))
+
+pub last-block : (s : List ℕ) (o n at : ℕ) → 16 ≤ n → at ≡ o + n - 16 → runs (clear 14 0) 16 s at ≡ true
+    → behindLast s o n ≡ behindLast s o (n - 16)
+last-block s o n at h z e =
+    let back : (k : ℕ) → at ≤ k → k < length s → clear 14 0 (getD s k 0) ≡ true → behindLast s o (k - o) ≡ behindLast s o (k + 1 - o) =
+    λ k l u t.
+    let here : o + (k - o) ≡ k = omega arith in
+    sym (last-back s o (k + 1 - o) (k - o) (omega arith) (rw here (high-no-eol (getD s k 0) (clear-least 14 0 (getD s k 0) t)))) in
+    let from : at - o ≡ n - 16 = omega arith in
+    let to : at + 16 - o ≡ n = omega arith in
+    let kept = block-keeps (λ k. behindLast s o (k - o)) (clear 14 0) s at back 16 e in
+    sym (rw (from, to) at kept)
+
 last-le : (s : List ℕ) (o n : ℕ) → behindLast s o n ≤ o + n
 last-le s o zero = omega (arith, last-none s o)
 last-le s o (suc n) = by (isEol (getD s (o + n) 0)) refl (last-le s o n)
@@ -163,13 +183,39 @@ pub control-go : (b : ℕ) → isControl b ≡ false → noControl b ≡ true
 unfolding noControl
 control-go b e = rw e
 
--- as the scan of a block tests a byte: a control byte below space, or 127
+-- a byte that may stand in a text is no control byte, and ASCII
+pub plain-control : (b : ℕ) → isPlain b ≡ true → noControl b ≡ true
+unfolding isPlain
+plain-control b e = and-r (isAscii b) (noControl b) e
+
+pub plain-ascii : (b : ℕ) → isPlain b ≡ true → isAscii b ≡ true
+unfolding isPlain
+plain-ascii b e = and-l (isAscii b) (noControl b) e
+
+-- a class within another: its runs are runs of the other
+pub span-wider : (p q : ℕ → Bool) → ((b : ℕ) → p b ≡ true → q b ≡ true) → (s : List ℕ) → span p s ≤ span q s
+unfolding span
+span-wider p q f [] = omega arith
+span-wider p q f (b ∷ s) = by (p b) refl (span-wider p q f s)
+  where
+    by : (t : Bool) → p b ≡ t → span p s ≤ span q s → cond t (suc (span p s)) 0 ≤ cond (q b) (suc (span q s)) 0
+    by true e h = rw (f b e) (omega arith)
+    by false e h = omega arith
+
+pub runs-wider : (p q : ℕ → Bool) → ((b : ℕ) → p b ≡ true → q b ≡ true) → (n : ℕ) (s : List ℕ) (o : ℕ)
+    → runs p n s o ≡ true → runs q n s o ≡ true
+unfolding runs
+runs-wider p q f n s o e =
+    let h : n ≤ span p (drop o s) = leb-true n (span p (drop o s)) e in
+    le-leb n (span q (drop o s)) (omega (arith, span-wider p q f (drop o s)))
+
+-- as the scan of a block tests a byte: one below space that may not stand in a text, or none below 127
 unfoldable pub isLow : ℕ → Bool
 isLow b = ((ltb b 32 && not (eqb b 9)) && not (eqb b 10)) && not (eqb b 13)
 
-control-byte : (b : ℕ) → (isLow b || eqb b 127) ≡ not (noControl b)
-unfolding isLow noControl isControl
-control-byte b = by (eqb b 127) refl
+plain-byte : (b : ℕ) → (isLow b || leb 127 b) ≡ not (isPlain b)
+unfolding isLow isPlain isAscii noControl isControl
+plain-byte b = by (leb 127 b) refl
   where
     other : (t u v w : Bool)
         → ((((t && not u) && not v) && not w) || false) ≡ not (not (not (u || (v || w)) && (t || false)))
@@ -179,18 +225,81 @@ control-byte b = by (eqb b 127) refl
     other true false false true = refl
     other true false false false = refl
 
-    by : (t : Bool) → eqb b 127 ≡ t
-        → (isLow b || t) ≡ not (not (not (eqb b 9 || (eqb b 10 || eqb b 13)) && (ltb b 32 || t)))
-    by true e = rw (eqb-true b 127 e)
-    by false e = other (ltb b 32) (eqb b 9) (eqb b 10) (eqb b 13)
+    high : 127 ≤ b → (t : Bool) → eqb b 127 ≡ t
+        → (isLow b || true) ≡ not (ltb b 128 && not (not (eqb b 9 || (eqb b 10 || eqb b 13)) && (ltb b 32 || t)))
+    high h true e = rw (eqb-true b 127 e)
+    high h false e =
+        let d : b ≡ 127 → ⊥ = eqb-false b 127 e in
+        rw (le-ltb b 128 (omega arith), le-ltb b 32 (omega arith))
 
--- and as it keeps it: has a control byte been met
-pub control-met : (s : List ℕ) (o n : ℕ) → o + n < length s
-    → ((not (runs noControl n s o) || isLow (getD s (o + n) 0)) || eqb (getD s (o + n) 0) 127)
-    ≡ not (runs noControl (n + 1) s o)
-control-met s o n h =
+    by : (t : Bool) → leb 127 b ≡ t
+        → (isLow b || t) ≡ not (ltb b 128 && not (not (eqb b 9 || (eqb b 10 || eqb b 13)) && (ltb b 32 || eqb b 127)))
+    by true e = high (leb-true 127 b e) (eqb b 127) refl
+    by false e =
+        let h : b < 127 = leb-false 127 b e in
+        rw (lt-ltb b 128 (omega arith), ne-eqb b 127 (λ q. omega arith)) (other (ltb b 32) (eqb b 9) (eqb b 10) (eqb b 13))
+
+-- and as it keeps it: has such a byte been met
+pub plain-met : (s : List ℕ) (o n : ℕ) → o + n < length s
+    → ((not (runs isPlain n s o) || isLow (getD s (o + n) 0)) || leb 127 (getD s (o + n) 0))
+    ≡ not (runs isPlain (n + 1) s o)
+plain-met s o n h =
     let b = getD s (o + n) 0 in
-    or-assoc (not (runs noControl n s o)) (isLow b) (eqb b 127) ∙ runs-met noControl s o n _ h (control-byte b)
+    or-assoc (not (runs isPlain n s o)) (isLow b) (leb 127 b) ∙ runs-met isPlain s o n _ h (plain-byte b)
+
+-- where LF is the only one below space
+lined-byte : (b : ℕ) → ((ltb b 32 && not (eqb b 10)) || leb 127 b) ≡ not (isLined b)
+unfolding isLined is
+lined-byte b = by (eqb b 10) refl (ltb b 32) refl (leb 127 b) refl
+  where
+    by : (t : Bool) → eqb b 10 ≡ t → (u : Bool) → ltb b 32 ≡ u → (v : Bool) → leb 127 b ≡ v
+        → ((u && not t) || v) ≡ not (t || (leb 32 b && ltb b 127))
+    by true e u f v g = let z : b ≡ 10 = eqb-true b 10 e in rw (← g, z, and-false u)
+    by false e true f v g = let h : b < 32 = ltb-true b 32 f in rw (lt-leb 32 b (omega arith))
+    by false e false f true g =
+        let h : 127 ≤ b = leb-true 127 b g in
+        rw (le-ltb b 127 h, and-false (leb 32 b))
+    by false e false f false g =
+        let h : 32 ≤ b = ltb-false b 32 f in
+        let l : b < 127 = leb-false 127 b g in
+        rw (le-leb 32 b h, lt-ltb b 127 l)
+
+pub lined-met : (s : List ℕ) (o n : ℕ) → o + n < length s
+    → ((not (runs isLined n s o) || (ltb (getD s (o + n) 0) 32 && not (eqb (getD s (o + n) 0) 10))) || leb 127 (getD s (o + n) 0))
+    ≡ not (runs isLined (n + 1) s o)
+lined-met s o n h =
+    let b = getD s (o + n) 0 in
+    or-assoc (not (runs isLined n s o)) (ltb b 32 && not (eqb b 10)) (leb 127 b) ∙ runs-met isLined s o n _ h (lined-byte b)
+
+-- such bytes may stand in a text
+pub lined-plain : (b : ℕ) → isLined b ≡ true → isPlain b ≡ true
+unfolding isLined isPlain isAscii noControl isControl is
+lined-plain b e = by (eqb b 10) refl e
+  where
+    by : (t : Bool) → eqb b 10 ≡ t → (t || (leb 32 b && ltb b 127)) ≡ true
+        → (ltb b 128 && not (not (eqb b 9 || (eqb b 10 || eqb b 13)) && (ltb b 32 || eqb b 127))) ≡ true
+    by true q h = rw (eqb-true b 10 q)
+    by false q h =
+        let l : 32 ≤ b = leb-true 32 b (and-l (leb 32 b) (ltb b 127) h) in
+        let u : b < 127 = ltb-true b 127 (and-r (leb 32 b) (ltb b 127) h) in
+        rw (lt-ltb b 128 (omega arith), le-ltb b 32 l, ne-eqb b 127 (λ z. omega arith), and-false (not (eqb b 9 || (eqb b 10 || eqb b 13))))
+
+-- byte by byte
+pub plain-start : (s : List ℕ) → span isPlain s ≡ spanEnd isPlain s 0
+plain-start s = sym (span-end isPlain s 0 ∙ omega arith)
+
+module _ (b : ℕ) where
+  pub plain-stop : isControl b ≡ true → isPlain b ≡ false
+  unfolding isPlain
+  plain-stop e = rw (control-stop b e) (and-false (isAscii b))
+
+  pub plain-high : 128 ≤ b → isPlain b ≡ false
+  unfolding isPlain isAscii
+  plain-high h = rw (le-ltb b 128 h)
+
+  pub plain-go : isControl b ≡ false → b < 128 → isPlain b ≡ true
+  unfolding isPlain isAscii
+  plain-go e h = rw (lt-ltb b 128 h) (control-go b e)
 
 -- The earlier of the two, the line first at one byte
 
@@ -353,6 +462,14 @@ short-le c (b ∷ s) = by (isLong c b) (short-le (column c b) s)
     by : (t : Bool) → short (column c b) s ≤ length s → cond t 0 (suc (short (column c b) s)) ≤ suc (length s)
     by true h = omega arith
     by false h = omega arith
+
+-- where no control byte stands, the scan for long lines alone tells what is found
+module _ (s : List ℕ) (long : ℕ) (q : long ≡ short 0 s) (p : length s ≤ span noControl s) where
+  pub plain-long : long < length s → screened s ≡ LongLine long
+  plain-long l = sym (screen-long s long (span noControl s) q refl (omega arith) l)
+
+  pub plain-fine : length s ≤ long → screened s ≡ Fine
+  plain-fine l = sym (screen-fine s long (span noControl s) q refl (omega (arith, q, short-le 0 s)) l)
 
 -- by both scans
 module _ (c : ℕ) (s : List ℕ) (long control : ℕ) (q : long ≡ short c s) (r : control ≡ span noControl s) where

@@ -3,8 +3,8 @@
 use Prim.Native.Nat.{ℕ, suc}
 use mathlib.Core.Bool.{Bool, true, false, not, cond, _&&_, _||_}
 use mathlib.Core.List.{List, [], _∷_}
-use lib.Dec.{ltb, eqb}
-use Rattle.text.specs.Bytes.{isEol, tab, lineFeed, carriageReturn, space}
+use lib.Dec.{leb, ltb, eqb}
+use Rattle.text.specs.Bytes.{is, isAscii, isEol, tab, lineFeed, carriageReturn, space}
 use Rattle.lines.specs.declared.Screen.{Screen}
 use Rattle.lines.specs.declared.Screen.the-variants.{Fine, LongLine, Control}
 
@@ -18,6 +18,14 @@ isControl b = not (eqb b tab || (eqb b lineFeed || eqb b carriageReturn)) && (lt
 
 unfoldable pub noControl : ℕ → Bool
 noControl b = not (isControl b)
+
+-- a byte that may stand in a strict text
+unfoldable pub isPlain : ℕ → Bool
+isPlain b = isAscii b && noControl b
+
+-- such a byte, and LF the only one below space
+unfoldable pub isLined : ℕ → Bool
+isLined b = is lineFeed b || (leb space b && ltb b 127)
 
 -- the bytes of the line so far, where c stood before b
 unfoldable pub column : ℕ → ℕ → ℕ

@@ -4,7 +4,7 @@ ghost use Prim.Native.Nat.{_+_, _≤_, _<_};
 ghost use lib.ListN.{length};
 ghost use Rattle.text.specs.Runs.{span, runs};
 ghost use Rattle.lines.specs.Ends.{behindLast};
-ghost use Rattle.lines.specs.Lines.{isControl, noControl, short, screened, fits as fitsBehind};
+ghost use Rattle.lines.specs.Lines.{isControl, noControl, isPlain, isLined, short, screened, fits as fitsBehind};
 
 // The most bytes of a line before its end.
 pub const LONGEST: usize = 2048;
@@ -38,10 +38,10 @@ fn is_control(b: u8) -> bool
     b == DELETE
 }
 
-// Whether 32 bytes stand at an offset, none of them a control byte that may not stand in a text. Every byte is looked
-// at, so that they are compared many at once.
-fn is_plain_block(s: &[u8], at: usize) -> bool
-    ensures { λ r. ⌜ r ≡ runs noControl 32 (now (s .entry)) at ⌝ }
+// Whether 32 bytes stand at an offset that may stand in a text, none of them below space but LF: few comparisons for a
+// byte, and most blocks are such. Every byte is looked at, so that they are compared many at once.
+fn is_lined_block(s: &[u8], at: usize) -> bool
+    ensures { λ r. ⌜ r ≡ runs isLined 32 (now (s .entry)) at ⌝ }
 {
     if s.len() < 32 {
         return false;
@@ -53,10 +53,62 @@ fn is_plain_block(s: &[u8], at: usize) -> bool
     let mut i = 0;
     while i < 32 {
         let b = s[at + i];
-        met = met | ((b < b' ') & (b != b'\t') & (b != b'\n') & (b != b'\r')) | (b == DELETE);
+        met = met | ((b < b' ') & (b != b'\n')) | (DELETE <= b);
         i += 1;
     }
     !met
+}
+
+// Whether 32 bytes stand at an offset that may stand in a text: tab and CR as well.
+fn is_spaced_block(s: &[u8], at: usize) -> bool
+    ensures { λ r. ⌜ r ≡ runs isPlain 32 (now (s .entry)) at ⌝ }
+{
+    if s.len() < 32 {
+        return false;
+    }
+    if s.len() - 32 < at {
+        return false;
+    }
+    let mut met = false;
+    let mut i = 0;
+    while i < 32 {
+        let b = s[at + i];
+        met = met | ((b < b' ') & (b != b'\t') & (b != b'\n') & (b != b'\r')) | (DELETE <= b);
+        i += 1;
+    }
+    !met
+}
+
+// The same: by the fewer comparisons first.
+fn is_plain_block(s: &[u8], at: usize) -> bool
+    ensures { λ r. ⌜ r ≡ runs isPlain 32 (now (s .entry)) at ⌝ }
+{
+    if is_lined_block(s, at) {
+        return true;
+    }
+    is_spaced_block(s, at)
+}
+
+// How many bytes stand before the first that is no ASCII, or a control byte that may not stand in a text: both in one
+// pass, by blocks first.
+pub fn plain_end(s: &[u8]) -> usize
+    ensures { λ r. ⌜ r ≡ span isPlain (now (s .entry)) ⌝ }
+{
+    let mut at = 0;
+    while is_plain_block(s, at) {
+        at += 32;
+    }
+    while at < s.len() {
+        let b = s[at];
+        if is_control(b) {
+            return at;
+        }
+        if 128 <= b {
+            return at;
+        }
+        at += 1;
+    }
+    at
 }
 
 // How many bytes stand before the first control byte that may not stand in a text: by blocks first.
@@ -76,12 +128,19 @@ fn control_end(s: &[u8]) -> usize
     at
 }
 
-// Behind the last line end of so many bytes at an offset, or the offset where they have none: from their end back.
+// Behind the last line end of so many bytes at an offset, or the offset where they have none: from their end back, by
+// blocks first, as most bytes end no line.
 fn behind_last(s: &[u8], from: usize, count: usize) -> usize
     requires { ⌜ from + count ≤ length (now s) ⌝ }
     ensures { λ r. ⌜ r ≡ behindLast (now (s .entry)) from count ⌝ }
 {
     let mut n = count;
+    while 16 <= n {
+        if !text::is_clear(s, from + n - 16, 16, text::ABOVE_LINE_ENDS, 0) {
+            break;
+        }
+        n -= 16;
+    }
     while 0 < n {
         n -= 1;
         if text::is_eol(s[from + n]) {
@@ -94,7 +153,7 @@ fn behind_last(s: &[u8], from: usize, count: usize) -> usize
 // How many bytes stand before the first that is one too many on its line; so many of the first line stand before them.
 // Only the bytes behind the last line end in reach are looked at. None of them ends a line, so that the next line end
 // stands behind them: no byte is looked at twice, but for those of a line that is too long.
-fn short_end(s: &[u8], column: usize) -> usize
+pub fn short_end(s: &[u8], column: usize) -> usize
     requires { ⌜ column ≤ 2048 ⌝ }
     ensures { λ r. ⌜ r ≡ short column (now (s .entry)) ⌝ }
 {

@@ -5,8 +5,8 @@ use native.Mathlib.Omega.{arith}
 use lib.ListN.{length}
 use Rattle.text.specs.Runs.{span, spanEnd}
 use Rattle.text.proofs.Runs.{span-go, span-stop, span-over, span-block, runs-fits}
-use Rattle.lines.specs.Lines.{noControl}
-use Rattle.lines.proofs.Lines.{control-start, control-stop, control-go}
+use Rattle.lines.specs.Lines.{noControl, isPlain}
+use Rattle.lines.proofs.Lines.{control-start, control-stop, control-go, plain-control, runs-wider}
 use Rattle.lines.proofs.control_end.Statement.{statement}
 use Rattle.lines.proofs.control_end.Tie as tie
 
@@ -37,7 +37,8 @@ loop-less c = omega (arith, runs-fits _ _ _ 32 (sym (c .before .is-plain-block .
 
 loop-again : tie.Need-loop-again Inv-loop μ-loop Inv-loop2 μ-loop2
 loop-again c =
-    c .before .before .loop .inv ∙ span-block _ _ _ 32 (sym (c .before .is-plain-block .ensures) ∙ c .if1 .taken)
+    let plain = sym (c .before .is-plain-block .ensures) ∙ c .if1 .taken in
+    c .before .before .loop .inv ∙ span-block _ _ _ 32 (runs-wider isPlain noControl plain-control 32 _ _ plain)
 
 loop2-holds : tie.Need-loop2-holds Inv-loop μ-loop Inv-loop2 μ-loop2
 loop2-holds c = c .before .before .loop .inv

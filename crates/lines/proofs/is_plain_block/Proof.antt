@@ -1,72 +1,22 @@
--- `lines::is_plain_block`: whether a control byte was met among the first i. Assumes nothing.
-use Prim.Native.Nat.{_+_, _-_, _≤_}
-use mathlib.Core.Path.{_≡_, sym}
-use mathlib.Core.Bool.{not}
-use native.Mathlib.Omega.{arith}
-use lib.ListN.{length}
-use Rattle.text.specs.Runs.{runs}
-use Rattle.text.proofs.Bools.{not-not}
-use Rattle.text.proofs.Runs.{runs-none, runs-short}
-use Rattle.lines.specs.Lines.{noControl}
-use Rattle.lines.proofs.Lines.{isLow, control-met}
+-- `lines::is_plain_block`: by either test. Assumes nothing.
+use mathlib.Core.Path.{sym, _∙_}
+use borrow.Author.Needs.{needs}
+use Rattle.lines.specs.Lines.{isPlain, isLined}
+use Rattle.lines.proofs.Lines.{lined-plain, runs-wider}
 use Rattle.lines.proofs.is_plain_block.Statement.{statement}
 use Rattle.lines.proofs.is_plain_block.Tie as tie
 
-abbrev Inv-loop : tie.InvT-loop
-Inv-loop s at met₀ i₀ met i = (at + 32 ≤ length s) × (i ≤ 32) × (met ≡ not (runs noControl i s at))
+is-lined-block-requires : tie.Need-is-lined-block-requires
+is-lined-block-requires c κs = search needs
 
-abbrev μ-loop : tie.MeasureT-loop
-μ-loop s at met₀ i₀ met i = 32 - i
+returns : tie.Need-returns
+returns c = sym (runs-wider isLined isPlain lined-plain 32 _ _ (sym (c .before .is-lined-block .ensures) ∙ c .if1 .taken))
 
-returns : tie.Need-returns Inv-loop μ-loop
-returns c = sym (runs-short noControl _ _ 32 (omega arith) (omega arith))
+is-spaced-block-requires : tie.Need-is-spaced-block-requires
+is-spaced-block-requires c κs = search needs
 
-sub-if2 : tie.Need-sub-if2 Inv-loop μ-loop
-sub-if2 c = omega arith
-
-returns-2 : tie.Need-returns-2 Inv-loop μ-loop
-returns-2 c = sym (runs-short noControl _ _ 32 (omega arith) (omega arith))
-
-loop-holds : tie.Need-loop-holds Inv-loop μ-loop
-loop-holds c = (omega arith, omega arith, rw (runs-none noControl _ _))
-
-add-b : tie.Need-add-b Inv-loop μ-loop
-add-b c = omega arith
-
-shared-slice-read-b : tie.Need-shared-slice-read-b Inv-loop μ-loop
-shared-slice-read-b c = omega arith
-
-add-i : tie.Need-add-i Inv-loop μ-loop
-add-i c = omega arith
-
-loop-less : tie.Need-loop-less Inv-loop μ-loop
-loop-less c = omega arith
-
-loop-again : tie.Need-loop-again Inv-loop μ-loop
-unfolding isLow
-loop-again c =
-    let l = c .before .before .loop in
-    let a = c .before .before .before .before .before .args in
-    (l .inv .0, omega arith, rw (l .inv .2) (control-met (a .s .now) (a .at) (l .i) (omega arith)))
-
-returns-3 : tie.Need-returns-3 Inv-loop μ-loop
-returns-3 c =
-    let all : c .before .loop .i ≡ 32 = omega arith in
-    rw (c .before .loop .inv .2, not-not, all)
+returns-2 : tie.Need-returns-2
+returns-2 c = c .is-spaced-block .ensures
 
 pub is-plain-block-spec : {M : Type 1} → statement M
-is-plain-block-spec =
-    tie.close
-    (tie.spec
-    Inv-loop
-    μ-loop
-    returns
-    sub-if2
-    returns-2
-    loop-holds
-    add-b
-    shared-slice-read-b
-    add-i
-    loop-less
-    loop-again
-    returns-3)
+is-plain-block-spec = tie.close (tie.spec is-lined-block-requires returns is-spaced-block-requires returns-2)
