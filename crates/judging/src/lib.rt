@@ -67,10 +67,8 @@ fn decide_plain(s: &[u8]) -> Decision
 {
     let long = lines::short_end(s, 0);
     if long < s.len() {
-        return Decision::Refused {
-            cause: Cause::LongLine,
-            at: long,
-        };
+        let cause = Cause::LongLine;
+        return Decision::Refused { cause, at: long };
     }
     deciding::lex_cif(Reading::Strict, s)
 }
