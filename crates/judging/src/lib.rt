@@ -66,11 +66,13 @@ fn decide_plain(s: &[u8]) -> Decision
     ensures { λ r. ⌜ told r ≡ tells (checked Strict (now (s .entry)) (decided Strict (now (s .entry)))) ⌝ }
 {
     let long = lines::short_end(s, 0);
-    if long < s.len() {
-        let cause = Cause::LongLine;
-        return Decision::Refused { cause, at: long };
+    if s.len() <= long {
+        return deciding::lex_cif(Reading::Strict, s);
     }
-    deciding::lex_cif(Reading::Strict, s)
+    Decision::Refused {
+        cause: Cause::LongLine,
+        at: long,
+    }
 }
 
 // What a text within the limits comes to.
