@@ -1,1 +1,4 @@
+pub mod Fresh
+pub mod Leads
 pub mod Selves
+pub mod Soles

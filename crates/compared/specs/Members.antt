@@ -7,9 +7,9 @@ use Rattle.cells.specs.Cells.{Cell, cells}
 use Rattle.partners.specs.Partners.{meets}
 
 -- x stands in a list
-pub data In (x : Cell) : List Cell → Type 0 where
-  here : {y : Cell} {ys : List Cell} → y ≡ x → In x (y ∷ ys)
-  there : {y : Cell} {ys : List Cell} → In x ys → In x (y ∷ ys)
+pub data In {A : Type 0} (x : A) : List A → Type 0 where
+  here : {y : A} {ys : List A} → y ≡ x → In x (y ∷ ys)
+  there : {y : A} {ys : List A} → In x ys → In x (y ∷ ys)
 
 -- no two values of a store have the same scope, name and row
 unfoldable pub Sole : List ℕ → List ℕ → Type 0
