@@ -2,3 +2,4 @@ pub mod Fresh
 pub mod Leads
 pub mod Selves
 pub mod Soles
+pub mod Itself
