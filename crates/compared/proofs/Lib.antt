@@ -3,3 +3,4 @@ pub mod Leads
 pub mod Selves
 pub mod Soles
 pub mod Itself
+pub mod Turned
