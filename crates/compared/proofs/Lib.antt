@@ -4,3 +4,4 @@ pub mod Selves
 pub mod Soles
 pub mod Itself
 pub mod Turned
+pub mod Swapped
