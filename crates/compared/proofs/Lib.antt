@@ -5,3 +5,4 @@ pub mod Soles
 pub mod Itself
 pub mod Turned
 pub mod Swapped
+pub mod Twins

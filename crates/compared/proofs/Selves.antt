@@ -35,14 +35,14 @@ parts-self p =
     rw (eq-eqb (p .sign) (p .sign) refl, eq-eqb (p .integer) (p .integer) refl, eq-eqb (p .fraction) (p .fraction) refl, eq-eqb (p .places) (p .places) refl, eq-eqb (p .exponent) (p .exponent) refl)
     (eq-eqb (p .uncertainty) (p .uncertainty) refl)
 
-numbers-self : (k : ℕ) (p : Parts) → numbersCase k k p p ≡ 0
+pub numbers-self : (k : ℕ) (p : Parts) → numbersCase k k p p ≡ 0
 numbers-self k p = sym (same-none k k p p (ap₂ (λ (a b : Bool). a && b) (eq-eqb k k refl) (parts-self p)))
 
 either : (t : Bool) → cond t true true ≡ true
 either true = refl
 either false = refl
 
-others-self : (k : ℕ) (c : List ℕ) → othersCase k k c c ≡ 0
+pub others-self : (k : ℕ) (c : List ℕ) → othersCase k k c c ≡ 0
 unfolding othersCase
 others-self k c = rw (bytes-same (unmarked k c), eq-eqb k k refl, either (isText k && isText k))
 

@@ -119,7 +119,7 @@ module _ (st ar st′ ar′ : List ℕ) (x : Cell) where
           let f = again e in
           record { among = there (f .among); meet = f .meet }
 
-  partner-is : (ys : List Cell) (y : Cell) → In y ys → meets st ar st′ ar′ x y ≡ true → ((z : Cell) → In z ys → meets st ar st′ ar′ x z ≡ true → y ≡ z) → partnerIn st ar st′ ar′ ys x ≡ some y
+  pub partner-is : (ys : List Cell) (y : Cell) → In y ys → meets st ar st′ ar′ x y ≡ true → ((z : Cell) → In z ys → meets st ar st′ ar′ x z ≡ true → y ≡ z) → partnerIn st ar st′ ar′ ys x ≡ some y
   unfolding partnerIn
   partner-is (z ∷ ys) y m e only = by (meets st ar st′ ar′ x z) refl m (λ q. partner-is ys y q e (λ w p s. only w (there p) s))
     where
