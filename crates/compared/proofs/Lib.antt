@@ -6,3 +6,4 @@ pub mod Itself
 pub mod Turned
 pub mod Swapped
 pub mod Twins
+pub mod ByKinds
