@@ -27,11 +27,11 @@ use Rattle.compared.proofs.Soles.{sole}
 use Rattle.compared.proofs.Selves.{self-empty}
 
 -- what a store that is not refused keeps
-record Kept (r : Reading) (st ar : List ℕ) : Type 0 where
-  whole : nested r (entries st) ≡ true
-  single : blocksIn (entries st) ≡ 1
-  tags : firstRepeat (names st ar) ≡ fresh
-  opens : firstRepeat (frames st ar) ≡ fresh
+pub record Kept (r : Reading) (st ar : List ℕ) : Type 0 where
+  pub whole : nested r (entries st) ≡ true
+  pub single : blocksIn (entries st) ≡ 1
+  pub tags : firstRepeat (names st ar) ≡ fresh
+  pub opens : firstRepeat (frames st ar) ≡ fresh
 
 both-fresh : (a b : Repeat) → namingOf (earlier a b) ≡ Distinct → (a ≡ fresh) × (b ≡ fresh)
 unfolding earlier namingOf
@@ -52,7 +52,7 @@ both-fresh (repeats i j) (repeats k l) e = by (ltb l j) e
         let z : _≡_ {A = ℕ} 0 1 = cc in
         absurd (omega arith)
 
-kept : (r : Reading) (st ar : List ℕ) → judged r st ar ≡ Distinct → Kept r st ar
+pub kept : (r : Reading) (st ar : List ℕ) → judged r st ar ≡ Distinct → Kept r st ar
 unfolding judged sound isSingle firstTwice
 kept r st ar e = by (sound r st ar && isSingle st) refl e
   where

@@ -7,3 +7,4 @@ pub mod Turned
 pub mod Swapped
 pub mod Twins
 pub mod ByKinds
+pub mod Said

@@ -38,7 +38,7 @@ use Rattle.compared.proofs.Fresh.{fresh-sole}
 use Rattle.compared.proofs.Leads.{Leads, block, tag, loop, frame, close, name, last, value, end, single, leads}
 
 -- what stands behind record number n
-underAt : List Entry → ℕ → Under → ℕ → Under
+unfoldable pub underAt : List Entry → ℕ → Under → ℕ → Under
 underAt [] i u n = u
 underAt (Nothing ∷ es) i u n = u
 underAt (Record k f m ∷ es) i u n = let more = underAt es (suc i) (under (numberOf k) (f .number) i u) n in cond (eqb n i) (under (numberOf k) (f .number) i u) more
@@ -82,24 +82,24 @@ scope-under k n i u d = rw (ne-eqb k 1 d) (by (eqb k 2) (eqb k 3) (eqb k 4) (eqb
     by false false false false false = refl
 
 module _ (st ar : List ℕ) where
-  nm : ℕ → ℕ → Name
+  unfoldable pub nm : ℕ → ℕ → Name
   nm n s = record { number = n; scope = s; bytes = nameOf st ar n }
 
-  headerAt : ℕ → ℕ
+  unfoldable pub headerAt : ℕ → ℕ
   headerAt n = underAt (entries st) 0 outset n .header
 
-  tagsAt : ℕ → ℕ
+  unfoldable pub tagsAt : ℕ → ℕ
   tagsAt n = underAt (entries st) 0 outset n .tags
 
   -- the record that a tag and a row lead to
-  placeOf : ℕ → ℕ → ℕ
+  unfoldable pub placeOf : ℕ → ℕ → ℕ
   placeOf n row = headerAt n + tagsAt n + (row * tagsAt n + (n - headerAt n))
 
   -- what is to be shown of each value
-  record Told (y : Cell) : Type 0 where
-    tagged : In (nm (y .tag) (y .frame)) (names st ar)
-    framed : (y .frame ≡ 0 → ⊥) → In (nm (y .frame) 0) (frames st ar)
-    placed : y .number ≡ placeOf (y .tag) (y .row)
+  pub record Told (y : Cell) : Type 0 where
+    pub tagged : In (nm (y .tag) (y .frame)) (names st ar)
+    pub framed : (y .frame ≡ 0 → ⊥) → In (nm (y .frame) 0) (frames st ar)
+    pub placed : y .number ≡ placeOf (y .tag) (y .row)
 
   -- what the rest of a store has to do with the whole
   record Common (es : List Entry) (i : ℕ) (u : Under) : Type 0 where
@@ -330,7 +330,7 @@ module _ (st ar : List ℕ) where
       let among : In y (cellsFrom es 1 outset) = rw one at p in
       walked r es g′ w′ 1 outset n none (common-first k f m es e one) (first .1) y among
 
-  told-all : (r : Reading) → nested r (entries st) ≡ true → blocksIn (entries st) ≡ 1 → (y : Cell) → In y (cells st) → Told y
+  pub told-all : (r : Reading) → nested r (entries st) ≡ true → blocksIn (entries st) ≡ 1 → (y : Cell) → In y (cells st) → Told y
   unfolding nested cells nestedFrom ended
   told-all r n b y p = by (entries st) refl n b p
     where
