@@ -8,3 +8,4 @@ pub mod Swapped
 pub mod Twins
 pub mod ByKinds
 pub mod Said
+pub mod Rendered
