@@ -151,8 +151,8 @@ fn behind_last(s: &[u8], from: usize, count: usize) -> usize
 }
 
 // How many bytes stand before the first that is one too many on its line; so many of the first line stand before them.
-// Only the bytes behind the last line end in reach are looked at. None of them ends a line, so that the next line end
-// stands behind them: no byte is looked at twice, but for those of a line that is too long.
+// Only the bytes behind the last line end in reach are looked at, and its block. They end no line, so that the next one
+// found stands behind them: a byte is looked at a few times at most, and most are not looked at.
 pub fn short_end(s: &[u8], column: usize) -> usize
     requires { ⌜ column ≤ 2048 ⌝ }
     ensures { λ r. ⌜ r ≡ short column (now (s .entry)) ⌝ }
