@@ -240,16 +240,16 @@ fn parse_tag(reading: Reading, s: &[u8], at: usize) -> Item
     failed(reading, cause, at, stop, why)
 }
 
-// The item at an offset where no space or comment stands.
+// The item at an offset where no space or comment stands; most are tags.
 pub fn parse_data_item(reading: Reading, s: &[u8], at: usize) -> Item
     requires { ⌜ Here (now s) at ⌝ }
     ensures { λ r. ⌜ r ≡ itemAt reading (now (s .entry)) at ⌝ }
 {
-    if openings::at_loop(reading, s, at) {
-        return parse_loop(reading, s, at);
-    }
     if openings::at_tag(reading, s, at) {
         return parse_tag(reading, s, at);
+    }
+    if openings::at_loop(reading, s, at) {
+        return parse_loop(reading, s, at);
     }
     Item::Absent { at }
 }

@@ -32,10 +32,6 @@ contentOf s r = take (contentSize (r .kind) (r .size)) (drop (r .at + opening (k
 unfoldable pub decimalOf : List ℕ → Rec → Decimal
 decimalOf s r = meaning (parts (tokenText s r))
 
--- a place, by its three numbers
-unfoldable pub placed : ℕ → ℕ → ℕ → Place
-placed o l k = record { offset = o; line = l; column = k }
-
 -- P of a token of n bytes at a place
 unfoldable pub tokenAt : Place → ℕ → Token
 tokenAt p n = record { offset = p .offset; length = n; line = p .line; column = p .column }

@@ -404,9 +404,9 @@ module _ (r : Reading) (full : Bool) (s : List ℕ) (d : Desk) (h : ItemHere r f
         let all = partly-many full s records d e f value-recs [] _ (tag-written e x) (unfold tagsOf in refl) b in
         (all .onward, onward-wrote full s records _ d f (all .onward) (b .going) (b .place))
 
--- where no loop starts, an item that is read is a tag and its value
-pub tag-here : (r : Reading) (s : List ℕ) (o : ℕ) → gap (drop o s) ≡ 0 → loopAt r s o ≡ false → isTaken (itemOf r s o) ≡ true → tagAt r s o ≡ true
-tag-here r s o g e x = by (tagAt r s o) refl
+-- an item that is read is a loop, or a tag and its value
+no-other : (r : Reading) (s : List ℕ) (o : ℕ) → gap (drop o s) ≡ 0 → loopAt r s o ≡ false → tagAt r s o ≡ false → isTaken (itemOf r s o) ≡ true → ⊥
+no-other r s o g e t x = read (itemOf r s o) x (unfold itemAt in item-none r s o g e t)
   where
     read : (i : Item) → isTaken i ≡ true → itemAnswer i ≡ Absent o → ⊥
     read (taken true rs rest) x e = let z : _≡_ {A = ℕ} 0 1 = unfold itemAnswer in cc in omega arith
@@ -415,6 +415,17 @@ tag-here r s o g e x = by (tagAt r s o) refl
     read (absent rest) x e = unfold isTaken in absurd (false≢true x)
     read (broken n a d) x e = unfold isTaken in absurd (false≢true x)
 
-    by : (t : Bool) → tagAt r s o ≡ t → t ≡ true
-    by true t = refl
-    by false t = absurd (read (itemOf r s o) x (unfold itemAt in item-none r s o g e t))
+module _ (r : Reading) (s : List ℕ) (o : ℕ) (g : gap (drop o s) ≡ 0) where
+  pub tag-here : loopAt r s o ≡ false → isTaken (itemOf r s o) ≡ true → tagAt r s o ≡ true
+  tag-here e x = by (tagAt r s o) refl
+    where
+      by : (t : Bool) → tagAt r s o ≡ t → t ≡ true
+      by true t = refl
+      by false t = absurd (no-other r s o g e t x)
+
+  pub loop-here : tagAt r s o ≡ false → isTaken (itemOf r s o) ≡ true → loopAt r s o ≡ true
+  loop-here e x = by (loopAt r s o) refl
+    where
+      by : (t : Bool) → loopAt r s o ≡ t → t ≡ true
+      by true t = refl
+      by false t = absurd (no-other r s o g t e x)

@@ -178,7 +178,7 @@ pub fn write_block(reading: Reading, s: &[u8], full: bool, store: &mut [u8], are
     ensures { λ r. ⌜ now (area .exit) ≡ front (areaBytes reading full (now (s .entry))) (now (area .entry)) ⌝ }
 {
     let here = Cursor {
-        place: walking::trim_from(s, 0, 1, 1),
+        place: trimming::trim_from(s, 0, 1, 1),
         at: 0,
         area: 0,
     };

@@ -6,7 +6,7 @@ use native.Mathlib.Omega.{arith}
 use Rattle.places.proofs.Places.{is-start}
 use Rattle.words.proofs.Words.{word-from}
 use Rattle.putting.specs.declared.Cursor.{Cursor}
-use Rattle.putting.specs.Written.{placed}
+use Rattle.trimming.specs.Placed.{placed}
 use Rattle.putting.proofs.Ones.{block-marked}
 use Rattle.writing.proofs.Block.{begun, begins, block-head, block-ahead, block-stored, block-copied}
 use Rattle.writing.proofs.write_block.Statement.{statement}

@@ -1,4 +1,4 @@
--- `walking::trim_from` meets its contract: a walk of its MIR, by hand. The place is made in memory and lent for a lifetime that the walk makes, `text::skip_on` is called on it, of which the proof knows only that it meets its contract, and the place is taken back at the last value that the callee names.
+-- `trimming::trim_from` meets its contract: a walk of its MIR, by hand. The place is made in memory and lent for a lifetime that the walk makes, `gaps::skip_on` is called on it, of which the proof knows only that it meets its contract, and the place is taken back at the last value that the callee names.
 -- Assumes nothing.
 use mathlib.Core.Path.{_≡_, refl, sym, ap, subst}
 use Prim.Native.Nat.{ℕ, _<_, _^_}
@@ -52,11 +52,11 @@ use Rattle.gaps.proofs.skip_on as skip-on
 use Rattle.gaps.proofs.skip_on.Symbol as skip-on-def
 use Rattle.gaps.proofs.skip_on.Symbol.{name as #gaps·skip-on}
 use Rattle.gaps.proofs.skip_on.Met as skip-on-thm
-use Rattle.putting.specs.Written.{placed}
-use Rattle.walking.proofs.trim_from.Key.{name as #writing·trim-from}
-use Rattle.walking.proofs.trim_from as trim-from
-use Rattle.walking.proofs.trim_from.Statement as stated
-use Rattle.walking.proofs.trim_from.Code as code
+use Rattle.trimming.specs.Placed.{placed}
+use Rattle.trimming.proofs.trim_from.Key.{name as #trimming·trim-from}
+use Rattle.trimming.proofs.trim_from as trim-from
+use Rattle.trimming.proofs.trim_from.Statement as stated
+use Rattle.trimming.proofs.trim_from.Code as code
 
 abbrev stayed : Stays (trim-from.ended .signature .params) (trim-from.ended .kept)
 stayed = (stay-none-slice (0 ∷ []) tt (plain (λ _. u8)) yes, (stay-none (λ _. usize) yes, (stay-none (λ _. usize) yes, (stay-none (λ _. usize) yes, tt))))
@@ -195,6 +195,6 @@ pub trim-from-spec : {M : Type 1} → stated.statement M
 unfolding code.routine tablesOf
 trim-from-spec 𝓤 H 𝓜 𝓖 𝓡 =
     entered 𝓤 H (tripleOf 𝓤 H (𝓖 .A) trim-from.signature (trim-from.spec 𝓤 H (𝓖 .A) (𝓜 .mem) (𝓡 .run)))
-    (tables 𝓤 H 𝓜 𝓡 code.env .C) (tables 𝓤 H 𝓜 𝓡 code.env .Λ) #writing·trim-from code.function (code.unfolded 𝓤 H 𝓜 𝓡)
+    (tables 𝓤 H 𝓜 𝓡 code.env .C) (tables 𝓤 H 𝓜 𝓡 code.env .Λ) #trimming·trim-from code.function (code.unfolded 𝓤 H 𝓜 𝓡)
     (trim-from-meets 𝓤 H (𝓖 .A) (givenOf 𝓤 H 𝓜 𝓖) (𝓜 .mem) (𝓡 .run) (tablesOf 𝓤 H 𝓜 (tables 𝓤 H 𝓜 𝓡 code.env))
     (cited 𝓤 H (Skip 𝓤 H (𝓖 .A) (𝓜 .mem) (𝓡 .run)) 𝓜 𝓡 code.env #gaps·skip-on skip-on-def.routine code.calls-gaps·skip-on (skip-on-thm.met 𝓤 H 𝓜 𝓖 𝓡)))
