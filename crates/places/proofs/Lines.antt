@@ -13,7 +13,7 @@ use Rattle.text.specs.Blocks.{clear}
 use Rattle.places.specs.Lines.{inLine, lineEnd}
 use Rattle.text.proofs.Bools.{not-not}
 use Rattle.text.proofs.Blocks.{clear-least, block-keeps}
-use Rattle.text.proofs.Runs.{span-go, span-stop, span-over, span-from, span-within, span-all, span-ends}
+use Rattle.text.proofs.Runs.{span-go, span-stop, span-over, span-from, span-within, span-all}
 
 pub line-byte : (b : ℕ) → isEol b ≡ not (inLine b)
 unfolding inLine
@@ -60,8 +60,3 @@ line-go s o h e = rw (line-run s o, line-run s (o + 1)) (span-go inLine s o h (i
 pub line-plain : (s : List ℕ) (o k : ℕ) → o ≤ k → k < lineEnd s o → isEol (getD s k 0) ≡ false
 unfolding inLine
 line-plain s o k h l = not-true (isEol (getD s k 0)) (span-all inLine s o k h (rw (line-run s o) at l))
-
--- where it ends within the text, a line end stands
-pub line-stops : (s : List ℕ) (o : ℕ) → lineEnd s o < length s → isEol (getD s (lineEnd s o) 0) ≡ true
-unfolding inLine
-line-stops s o h = line-byte (getD s (lineEnd s o) 0) ∙ rw (line-run s o) (rw (span-ends inLine s o (rw (line-run s o) at h)))
