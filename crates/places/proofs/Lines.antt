@@ -1,7 +1,7 @@
 -- Laws of lines. Assumes nothing.
 use Prim.Native.Nat.{ℕ, _+_, _≤_, _<_}
-use mathlib.Core.Path.{_≡_, refl, sym, _∙_}
-use mathlib.Core.Bool.{Bool, true, false, not}
+use mathlib.Core.Path.{_≡_, refl}
+use mathlib.Core.Bool.{true, false}
 use mathlib.Core.List.{List}
 use native.Mathlib.Omega.{arith}
 use borrow.Author.Tests.{not-true, ne-eqb}
@@ -11,13 +11,8 @@ use Rattle.text.specs.Bytes.{isEol}
 use Rattle.text.specs.Runs.{spanEnd, runs}
 use Rattle.text.specs.Blocks.{clear}
 use Rattle.places.specs.Lines.{inLine, lineEnd}
-use Rattle.text.proofs.Bools.{not-not}
 use Rattle.text.proofs.Blocks.{clear-least, block-keeps}
-use Rattle.text.proofs.Runs.{span-go, span-stop, span-over, span-from, span-within, span-all}
-
-pub line-byte : (b : ℕ) → isEol b ≡ not (inLine b)
-unfolding inLine
-line-byte b = sym (not-not (isEol b))
+use Rattle.text.proofs.Runs.{span-go, span-over, span-from, span-within, span-all}
 
 pub in-line : (b : ℕ) → isEol b ≡ false → inLine b ≡ true
 unfolding inLine
