@@ -7,14 +7,14 @@ ghost use lib.ListN.{length};
 ghost use Rattle.places.specs.Places.{IsPlace, placeAt};
 ghost use Rattle.gaps.specs.Gaps.{gapEnd};
 ghost use Rattle.grammar.specs.Tokens.{tagAt, loopAt};
-ghost use Rattle.putting.specs.Written.{placed};
-ghost use Rattle.putting.specs.Desk.{desk, TextAhead, Marked, WroteToken};
+ghost use Rattle.desk.specs.Written.{placed};
+ghost use Rattle.desk.specs.Desk.{desk, TextAhead, Marked, WroteToken};
 ghost use Rattle.walking.specs.Walk.{behindGap, TokenAhead, ValueAhead, namesFrom, NamesAhead, ValuesAhead, WroteNames, WroteValues, ItemHere, WroteItem};
+use desk::Cursor;
+use found::Found;
 use kinds::Kind;
 use places::Place;
-use putting::Cursor;
 use rules::Reading;
-use values::Found;
 
 // The place behind space and comments: one made of three numbers and lent, which the step moves on.
 pub fn trim_from(s: &[u8], offset: usize, line: usize, column: usize) -> Place
@@ -80,7 +80,7 @@ fn write_token(
         return putting::write_mark(s, full, store, c, kind, size);
     }
     let k = Kind::of(kind);
-    putting::write_text(s, full, store, area, c, kind, size, k.marks(), k.opening())
+    copying::write_text(s, full, store, area, c, kind, size, k.marks(), k.opening())
 }
 
 // Whether a kind of value is a number's: kind 21, of the strict reading, comes behind them.
@@ -171,7 +171,7 @@ fn write_tag(
         (desk r (now (store .exit)) (now (area .exit))) ⌝ }
 {
     let marks = Kind::TAG_MARKS;
-    putting::write_text(s, full, store, area, c, kind, size, marks, marks)
+    copying::write_text(s, full, store, area, c, kind, size, marks, marks)
 }
 
 // The names of a loop, as far as they may stand.

@@ -52,7 +52,7 @@ use Rattle.gaps.proofs.skip_on as skip-on
 use Rattle.gaps.proofs.skip_on.Symbol as skip-on-def
 use Rattle.gaps.proofs.skip_on.Symbol.{name as #gaps·skip-on}
 use Rattle.gaps.proofs.skip_on.Met as skip-on-thm
-use Rattle.putting.specs.Written.{placed}
+use Rattle.desk.specs.Written.{placed}
 use Rattle.walking.proofs.trim_from.Key.{name as #writing·trim-from}
 use Rattle.walking.proofs.trim_from as trim-from
 use Rattle.walking.proofs.trim_from.Statement as stated

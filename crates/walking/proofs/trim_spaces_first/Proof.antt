@@ -7,7 +7,7 @@ use Rattle.places.specs.Places.{placeAt}
 use Rattle.text.proofs.Runs.{span-from, span-within}
 use Rattle.gaps.proofs.Gaps.{gap-spaces, gap-shown}
 use Rattle.places.proofs.Places.{place-column, is-spaces-end}
-use Rattle.putting.specs.Written.{placed}
+use Rattle.desk.specs.Written.{placed}
 use Rattle.walking.proofs.trim_spaces_first.Statement.{statement}
 use Rattle.walking.proofs.trim_spaces_first.Tie as tie
 
