@@ -20,8 +20,8 @@ use Rattle.words.proofs.Words.{word-end}
 use Rattle.values.specs.Values.{Class, block, loop, save, tag, value, overLimit, nothing, lexed}
 use Rattle.kinds.specs.Kinds.{kindOf, marksOf, isValueKind}
 use Rattle.kinds.proofs.Marks.{each-value}
-use Rattle.values.specs.declared.Found.{Found}
-use Rattle.values.specs.declared.Found.the-variants.{Value, Over, Missing}
+use Rattle.found.specs.declared.Found.{Found}
+use Rattle.found.specs.declared.Found.the-variants.{Value, Over, Missing}
 use Rattle.grammar.specs.Tokens.{inBlock, lexIn, after, Tok, tok, tokensAt, headAt, headWhy, tagAt, loopAt}
 use Rattle.grammar.specs.Machine.{Rec, rec, loopEnd, lacksValues, lastAt}
 use Rattle.grammar.specs.Descent.{nameRecs, afterNames, valueRecs, afterValues, Item, taken, failed, absent, broken, isOver, headTag, headJoined, failedBy, rows, loopBy, loopValued, loopItem, single, tagValued, tagItem, itemBy, item}
@@ -35,14 +35,15 @@ use Rattle.grammar.proofs.Descent.{IsName, NoName, name-or-not, names-more, nam
 use Rattle.grammar.proofs.Offsets.{tokens-gap, Met, met-loop, met-tag, first-in, both, both-spot}
 use Rattle.items.proofs.Items.{head-at, item-none}
 use Rattle.items.proofs.Lists.{met-value}
-use Rattle.values.specs.Answers.{wanted, numberOfWhy}
+use Rattle.values.specs.Answers.{wanted}
+use Rattle.found.specs.Packing.{numberOfWhy}
 use Rattle.items.proofs.Wanted.{found-wanted}
 use Rattle.items.proofs.Passes.{names-alike}
 use Rattle.walking.specs.Writing.{tagsOf}
 use Rattle.walking.specs.Walk.{Wrote, Onward, itemRecs, itemRest, isTaken, itemOf, ItemHere, WroteItem}
-use Rattle.putting.specs.Desk.{Desk, Room, IsToken, recAt, WroteOne}
+use Rattle.desk.specs.Desk.{Desk, Room, IsToken, recAt, WroteOne}
 use Rattle.walking.proofs.Appends.{area-size-append, store-length-append}
-use Rattle.putting.proofs.Lines.{part-token}
+use Rattle.desk.proofs.Lines.{part-token}
 use Rattle.walking.specs.Walk.{namesFrom, behindNames, valuesFrom, behindValues}
 use Rattle.walking.proofs.Onward.{onward-here, onward-then, room-onward, wrote-onward, one-onward, onward-wrote}
 use Rattle.walking.proofs.SoFar.{room-first}

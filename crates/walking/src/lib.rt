@@ -6,12 +6,12 @@ ghost use Prim.Native.Nat.{_+_, _≤_, _<_};
 ghost use lib.ListN.{length};
 ghost use Rattle.places.specs.Places.{IsPlace};
 ghost use Rattle.grammar.specs.Tokens.{tagAt, loopAt};
-ghost use Rattle.putting.specs.Desk.{desk, TextAhead, Marked, WroteToken};
+ghost use Rattle.desk.specs.Desk.{desk, TextAhead, Marked, WroteToken};
 ghost use Rattle.walking.specs.Walk.{behindGap, TokenAhead, ValueAhead, namesFrom, NamesAhead, ValuesAhead, WroteNames, WroteValues, ItemHere, WroteItem};
+use desk::Cursor;
+use found::Found;
 use kinds::Kind;
-use putting::Cursor;
 use rules::Reading;
-use values::Found;
 
 // The cursor behind space and comments.
 pub fn trimmed(s: &[u8], c: Cursor) -> Cursor
@@ -46,7 +46,7 @@ fn write_token(
         return putting::write_mark(s, full, store, c, kind, size);
     }
     let k = Kind::of(kind);
-    putting::write_text(s, full, store, area, c, kind, size, k.marks(), k.opening())
+    copying::write_text(s, full, store, area, c, kind, size, k.marks(), k.opening())
 }
 
 // Whether a kind of value is a number's: kind 21, of the strict reading, comes behind them.
@@ -137,7 +137,7 @@ fn write_tag(
         (desk r (now (store .exit)) (now (area .exit))) ⌝ }
 {
     let marks = Kind::TAG_MARKS;
-    putting::write_text(s, full, store, area, c, kind, size, marks, marks)
+    copying::write_text(s, full, store, area, c, kind, size, marks, marks)
 }
 
 // The names of a loop, as far as they may stand.
