@@ -33,7 +33,7 @@ fn the_readme_shows_what_the_command_prints() {
         assert!(printed.starts_with(&(output + &message)), "{line}");
         shown += 1;
     }
-    assert_eq!(shown, 4);
+    assert_eq!(shown, 5);
 }
 
 #[test]
