@@ -79,11 +79,12 @@ pub itself-empty : (r : Reading) (st ar : List ℕ) → judged r st ar ≡ Disti
 unfolding bytesOf changesBytes
 itself-empty r st ar e = rw (self-empty st ar (judged-sole r st ar e))
 
--- the answer, and the lent list, which stays as it was
-pub itself-compared : (r : Reading) (st ar : List ℕ) (room : ℕ) → judged r st ar ≡ Distinct → comparing r st ar st ar room ≡ Compared 0
-unfolding comparing refusalOf answered fitted
-itself-compared r st ar room e = rw (e, itself-empty r st ar e, le-leb 0 room (omega arith))
+-- where the list of two stores that may be compared is empty, any room will do, and the lent list stays as it was
+module _ (r : Reading) (st ar st′ ar′ : List ℕ) (e : judged r st ar ≡ Distinct) (e′ : judged r st′ ar′ ≡ Distinct) (none : bytesOf st ar st′ ar′ ≡ []) where
+  pub empty-compared : (room : ℕ) → comparing r st ar st′ ar′ room ≡ Compared 0
+  unfolding comparing refusalOf answered fitted
+  empty-compared room = rw (e, e′, none, le-leb 0 room (omega arith))
 
-pub itself-kept : (r : Reading) (st ar l : List ℕ) → judged r st ar ≡ Distinct → listAfter (comparing r st ar st ar (length l)) (bytesOf st ar st ar) l ≡ l
-unfolding listAfter front
-itself-kept r st ar l e = rw (itself-compared r st ar (length l) e, itself-empty r st ar e)
+  pub empty-kept : (l : List ℕ) → listAfter (comparing r st ar st′ ar′ (length l)) (bytesOf st ar st′ ar′) l ≡ l
+  unfolding listAfter front
+  empty-kept l = rw (empty-compared (length l), none)

@@ -39,12 +39,12 @@ use Rattle.compared.proofs.Twins.{twins-empty, case-twin}
 use Rattle.compared.proofs.ByKinds.{kindsOf, same-cells}
 
 -- kinds as they are said
-kindsSaid : List Saying → List ℕ
+unfoldable pub kindsSaid : List Saying → List ℕ
 kindsSaid [] = []
 kindsSaid (nothing ∷ l) = []
 kindsSaid (says k c p ∷ l) = numberOf k ∷ kindsSaid l
 
-kinds-said : (ar : List ℕ) (es : List Entry) → kindsSaid (map (saying ar) es) ≡ kindsOf es
+pub kinds-said : (ar : List ℕ) (es : List Entry) → kindsSaid (map (saying ar) es) ≡ kindsOf es
 unfolding kindsSaid saying kindsOf
 kinds-said ar [] = refl
 kinds-said ar (Nothing ∷ es) = refl
@@ -70,14 +70,14 @@ nth-said ar ar′ (x ∷ es) (y ∷ es′) e (suc n) = nth-said ar ar′ es es�
     behind e = cc
 
 -- what two records that say the same have in common
-record Alike (ar ar′ : List ℕ) (k : Kind) (f : Fields) (e : Entry) : Type 0 where
-  fields : Fields
-  end : ℕ
-  is : e ≡ Record k fields end
-  parts : f .parts ≡ fields .parts
-  content : contentIn ar k f ≡ contentIn ar′ k fields
+pub record Alike (ar ar′ : List ℕ) (k : Kind) (f : Fields) (e : Entry) : Type 0 where
+  pub fields : Fields
+  pub end : ℕ
+  pub is : e ≡ Record k fields end
+  pub parts : f .parts ≡ fields .parts
+  pub content : contentIn ar k f ≡ contentIn ar′ k fields
 
-alike : (ar ar′ : List ℕ) (k : Kind) (f : Fields) (n : ℕ) (e : Entry) → saying ar (Record k f n) ≡ saying ar′ e → Alike ar ar′ k f e
+pub alike : (ar ar′ : List ℕ) (k : Kind) (f : Fields) (n : ℕ) (e : Entry) → saying ar (Record k f n) ≡ saying ar′ e → Alike ar ar′ k f e
 unfolding saying
 alike ar ar′ k f n Nothing q =
     let z : _≡_ {A = ℕ} 0 1 = cc in
@@ -88,7 +88,7 @@ alike ar ar′ k f n (Record j g m) q =
     let c : contentIn ar k f ≡ contentIn ar′ j g = cc in
     record { fields = g; end = m; is = ap (λ (z : Kind). Record z g m) (sym a); parts = b; content = c ∙ ap (λ (z : Kind). contentIn ar′ z g) (sym a) }
 
-shown : (ar ar′ : List ℕ) (k : Kind) (f g : Fields) → isContent (shapeOf k) ≡ true → contentIn ar k f ≡ contentIn ar′ k g → contentBytes ar k f ≡ contentBytes ar′ k g
+pub shown : (ar ar′ : List ℕ) (k : Kind) (f g : Fields) → isContent (shapeOf k) ≡ true → contentIn ar k f ≡ contentIn ar′ k g → contentBytes ar k f ≡ contentBytes ar′ k g
 unfolding contentIn
 shown ar ar′ k f g t e = rw t at e
 
@@ -128,7 +128,7 @@ name-same ar ar′ (Record k f n) e′ (has t) q =
     let a = alike ar ar′ k f n e′ q in
     shown ar ar′ k f (a .fields) t (a .content) ∙ sym (ap (heldBy ar′) (a .is))
 
-name-shape : (k : Kind) → (eqb (numberOf k) 4 || eqb (numberOf k) 6) ≡ true → isContent (shapeOf k) ≡ true
+pub name-shape : (k : Kind) → (eqb (numberOf k) 4 || eqb (numberOf k) 6) ≡ true → isContent (shapeOf k) ≡ true
 unfolding isContent shapeOf
 name-shape NoKind e = absurd (true≢false (sym e))
 name-shape Block e = refl
@@ -148,7 +148,7 @@ name-shape Number e = absurd (true≢false (sym e))
 name-shape Uncertain e = absurd (true≢false (sym e))
 name-shape Quoted e = refl
 
-frame-shape : (k : Kind) → eqb (numberOf k) 2 ≡ true → isContent (shapeOf k) ≡ true
+pub frame-shape : (k : Kind) → eqb (numberOf k) 2 ≡ true → isContent (shapeOf k) ≡ true
 unfolding isContent shapeOf
 frame-shape NoKind e = absurd (true≢false (sym e))
 frame-shape Block e = refl
