@@ -47,7 +47,8 @@ pub fn label(entry: &Entry) -> String {
     }
 }
 
-fn escaped(text: &str) -> String {
+/// A name or a text that stays on its line.
+pub fn escaped(text: &str) -> String {
     let mut escaped = String::new();
     cell::append(text, &mut escaped);
     escaped

@@ -13,6 +13,9 @@ const WIDEST_LABEL: usize = 16;
 /// The most characters of a text that widens a column of numbers.
 const SHORT_TEXT: usize = 12;
 
+/// Columns of names grow to their widest cell, but no further.
+const WIDEST_NAME: usize = 48;
+
 /// How much of two long texts is shown before their first difference.
 const BEFORE: usize = 8;
 
@@ -70,13 +73,13 @@ enum ValueCell {
 
 impl Line {
     fn of(entry: &Entry) -> Line {
-        let frame = change::frame(entry).map(|name| format!("save_{name}"));
+        let frame = change::frame(entry).map(|name| format!("save_{}", change::escaped(name)));
         let row = change::row(entry).map(|row| format!("row {row}"));
         let label = change::label(entry);
         Line {
             names: [
                 frame.unwrap_or_default(),
-                format!("_{}", change::tag(entry)),
+                format!("_{}", change::escaped(change::tag(entry))),
                 row.unwrap_or_default(),
                 clipped(&label, 0, WIDEST_LABEL),
             ],
@@ -190,7 +193,7 @@ impl ValueWidth {
 impl Widths {
     fn measure(&mut self, line: &Line) {
         for (width, name) in self.names.iter_mut().zip(&line.names) {
-            *width = name.len().max(*width);
+            *width = name.len().min(WIDEST_NAME).max(*width);
         }
         for (width, value) in self.values.iter_mut().zip(&line.values) {
             width.measure(value);
@@ -272,6 +275,26 @@ save_f  _a             1  2   larger
         _l  row 3  N1     N1  only in NEW
         _x  row 3  N1     .   only in NEW
 "
+        );
+    }
+
+    /// The first reading takes any bytes that end no word, and as many as there are.
+    #[test]
+    fn names_stay_on_their_line_and_move_no_other() {
+        let long = "n".repeat(60);
+        let text = |value: u64| {
+            format!("data_x _a {value} _\x1b[2J {value} _{long} {value} save_\x07 _a {value} save_")
+        };
+        let (gap, frame) = (" ".repeat(46), " ".repeat(9));
+        assert_eq!(
+            written(&text(1), &text(2), false),
+            format!(
+                "{frame}  _a{gap}  1  2  larger\n\
+                 {frame}  _\\x1b[2J{}  1  2  larger\n\
+                 {frame}  _{long}  1  2  larger\n\
+                 save_\\x07  _a{gap}  1  2  larger\n",
+                " ".repeat(40)
+            )
         );
     }
 
