@@ -1,6 +1,7 @@
 //! What changed from one document to another, entry by entry.
 
 use std::iter::FusedIterator;
+use std::sync::Arc;
 
 use crate::case::Case;
 use crate::document::Document;
@@ -24,9 +25,16 @@ pub struct Entry<'a> {
 /// new document alone in its own.
 #[derive(Debug, Clone)]
 pub struct Entries<'a> {
-    list: Vec<u8>,
+    /// Shared by all who go over these entries, so that going over them again takes no room.
+    listed: Arc<Listed<'a>>,
     /// How many bytes of the list have passed.
     at: usize,
+}
+
+/// The library's list, and where its values stand.
+#[derive(Debug)]
+struct Listed<'a> {
+    list: Vec<u8>,
     old: Spots<'a>,
     new: Spots<'a>,
 }
@@ -38,17 +46,17 @@ impl<'a> Entries<'a> {
             return Err(Incomparable::OtherReading);
         }
         let list = list(old, new)?;
-        let raw: Vec<Raw> = list
-            .chunks_exact(ENTRY_LENGTH)
-            .filter_map(Raw::of)
-            .collect();
-        let spots = |document, number: fn(&Raw) -> Option<u64>| {
-            Spots::find(document, raw.iter().filter_map(number).collect())
+        let spots = |document, number: fn(Raw) -> Option<u64>| {
+            let raw = list.chunks_exact(ENTRY_LENGTH).filter_map(Raw::of);
+            Spots::find(document, raw.filter_map(number).collect())
         };
-        Ok(Entries {
+        let listed = Listed {
             old: spots(old, |raw| raw.old),
             new: spots(new, |raw| raw.new),
             list,
+        };
+        Ok(Entries {
+            listed: Arc::new(listed),
             at: 0,
         })
     }
@@ -96,17 +104,18 @@ impl<'a> Iterator for Entries<'a> {
 
     fn next(&mut self) -> Option<Entry<'a>> {
         let end = self.at + ENTRY_LENGTH;
-        let raw = Raw::of(self.list.get(self.at..end)?)?;
+        let Listed { list, old, new } = &*self.listed;
+        let raw = Raw::of(list.get(self.at..end)?)?;
         self.at = end;
         Some(Entry {
             case: raw.case,
-            old: raw.old.and_then(|number| self.old.value(number)),
-            new: raw.new.and_then(|number| self.new.value(number)),
+            old: raw.old.and_then(|number| old.value(number)),
+            new: raw.new.and_then(|number| new.value(number)),
         })
     }
 
     fn size_hint(&self) -> (usize, Option<usize>) {
-        let left = (self.list.len() - self.at) / ENTRY_LENGTH;
+        let left = (self.listed.list.len() - self.at) / ENTRY_LENGTH;
         (left, Some(left))
     }
 }

@@ -54,7 +54,7 @@ fn record(document: &Document, at: usize) -> Option<Record<'_>> {
 }
 
 /// The spots of some values of a document, found in one walk.
-#[derive(Debug, Clone)]
+#[derive(Debug)]
 pub(crate) struct Spots<'a> {
     document: &'a Document,
     /// By their numbers.
