@@ -373,7 +373,7 @@ mod tests {
     fn the_laws_hold_of_random_pairs() {
         let mut seen = [0; 8];
         for reading in READINGS {
-            for number in 0..20_000 {
+            for number in 0..8_000 {
                 let [old, new] = pairs::pair(reading, &mut Random::new(23, number));
                 let (Some(one), Some(other)) = (stored(reading, &old), stored(reading, &new))
                 else {
@@ -399,7 +399,7 @@ mod tests {
                     .for_each(|entry| seen[usize::from(entry.case)] += 1);
             }
         }
-        assert!(seen[1..].iter().all(|count| *count > 200), "{seen:?}");
+        assert!(seen[1..].iter().all(|count| *count > 100), "{seen:?}");
     }
 
     fn swapped(list: &[Change]) -> Vec<(usize, usize, u8)> {

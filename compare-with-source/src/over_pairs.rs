@@ -183,12 +183,12 @@ mod tests {
     #[test]
     fn the_library_compares_random_pairs_as_the_model_does() {
         for reading in [Reading::First, Reading::Strict] {
-            let met = hold(reading, 29, 3000).unwrap_or_else(|fault| panic!("{fault}"));
+            let met = hold(reading, 29, 1500).unwrap_or_else(|fault| panic!("{fault}"));
             for number in [0, 12, 13] {
-                assert!(met.refused[number] > 100, "{number}: {:?}", met.refused);
+                assert!(met.refused[number] > 50, "{number}: {:?}", met.refused);
             }
             assert!(
-                met.cases[1..].iter().all(|count| *count > 50),
+                met.cases[1..].iter().all(|count| *count > 20),
                 "{:?}",
                 met.cases
             );
