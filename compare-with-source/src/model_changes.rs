@@ -367,6 +367,88 @@ mod tests {
         );
     }
 
+    /// The vectors that the library's own test program runs, with answers worked out by hand.
+    #[test]
+    fn the_model_answers_the_vectors() {
+        const VECTORS: &str = include_str!("../../crates/check_compare/stdout");
+        let mut made = Made::default();
+        let mut held = 0;
+        for line in VECTORS.lines().filter(|line| !line.starts_with('#')) {
+            let (asked, answer) = line.split_once(" -> ").unwrap_or((line, ""));
+            let (letter, rest) = asked.split_once(' ').unwrap_or((asked, ""));
+            if let Some(compared) = made.asked(letter, rest) {
+                let room = rest.parse().expect("a room is a number");
+                assert_eq!(told(&compared, room), answer, "{line}");
+                held += 1;
+            }
+        }
+        assert!(held > 40, "{held}");
+    }
+
+    /// What the vectors have made so far: a reading, and two stores with their areas.
+    #[derive(Default)]
+    struct Made {
+        strict: bool,
+        old: (Vec<u8>, Vec<u8>),
+        new: (Vec<u8>, Vec<u8>),
+    }
+
+    impl Made {
+        /// Does what a line asks for: `g` sets the reading, `o` and `n` the stores, the others compare.
+        fn asked(&mut self, letter: &str, rest: &str) -> Option<Compared> {
+            let reading = READINGS[usize::from(self.strict)];
+            let read = || stored(reading, &unfolded(rest)).unwrap_or_default();
+            let (old, new) = match letter {
+                "c" => (&self.old, &self.new),
+                "b" => (&self.new, &self.old),
+                "s" => (&self.old, &self.old),
+                _ => {
+                    match letter {
+                        "g" => self.strict = rest == "2",
+                        "o" => self.old = read(),
+                        "n" => self.new = read(),
+                        _ => {}
+                    }
+                    return None;
+                }
+            };
+            Some(compare(reading, (&old.0, &old.1), (&new.0, &new.1)))
+        }
+    }
+
+    /// The bytes of a text in which `\\` and two hexadecimal digits stand for one.
+    fn unfolded(text: &str) -> Vec<u8> {
+        let mut parts = text.split('\\');
+        let mut bytes = parts.next().unwrap_or_default().as_bytes().to_vec();
+        for part in parts {
+            let (digits, rest) = part.split_at(2);
+            bytes.push(u8::from_str_radix(digits, 16).expect("two digits"));
+            bytes.extend(rest.bytes());
+        }
+        bytes
+    }
+
+    /// An answer as the test program writes it: its seven numbers, and each entry.
+    fn told(compared: &Compared, room: usize) -> String {
+        match compared {
+            Compared::Refused(number, first, second) => {
+                format!("{number} {first} {second} 0 0 0 0")
+            }
+            Compared::Changes(list) if 17 * list.len() > room => {
+                format!("10 0 0 0 0 {} 0", 17 * list.len())
+            }
+            Compared::Changes(list) => {
+                let entry =
+                    |change: &Change| format!(", {} {} {}", change.case, change.old, change.new);
+                format!(
+                    "0 0 0 0 0 {} 0{}",
+                    17 * list.len(),
+                    list.iter().map(entry).collect::<String>()
+                )
+            }
+        }
+    }
+
     /// What is claimed of every pair: nothing differs from itself or from what its rendering reads as, and
     /// old and new may be swapped.
     #[test]
