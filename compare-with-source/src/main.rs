@@ -85,7 +85,7 @@ fn main() -> ExitCode {
 /// Holds the library's comparisons of pairs to the model's.
 #[cfg(feature = "library")]
 fn pairs_held(options: &Options, pairs: u64) -> Result<String, String> {
-    let met = over_pairs::hold(options.reading, options.seed, pairs)?;
+    let met = over_pairs::hold(options.reading, options.seed, pairs, options.size)?;
     let [done, unsound, twice] = [0, 12, 13].map(|number| met.refused[number]);
     let cases: Vec<String> = (1..8)
         .map(|case| format!("{case}: {}", met.cases[case]))

@@ -456,7 +456,11 @@ mod tests {
         let mut seen = [0; 8];
         for reading in READINGS {
             for number in 0..8_000 {
-                let [old, new] = pairs::pair(reading, &mut Random::new(23, number));
+                let mut random = Random::new(23, number);
+                let [old, new] = match number % 100 {
+                    0 => pairs::large(reading, 300, &mut random),
+                    _ => pairs::pair(reading, &mut random),
+                };
                 let (Some(one), Some(other)) = (stored(reading, &old), stored(reading, &new))
                 else {
                     continue;

@@ -18,14 +18,17 @@ pub struct Met {
     pub cases: [u64; 8],
 }
 
-/// Holds the library to the model on so many pairs of texts that are read; what was met, or the first pair
-/// that breaks, and how.
-pub fn hold(reading: Reading, seed: u64, pairs: u64) -> Result<Met, String> {
+/// Holds the library to the model on so many pairs of texts that are read, small ones or, where a size is
+/// given, those of some so many values; what was met, or the first pair that breaks, and how.
+pub fn hold(reading: Reading, seed: u64, pairs: u64, size: Option<usize>) -> Result<Met, String> {
     let mut met = Met::default();
     let (mut number, mut held) = (0, 0);
     while held < pairs {
         let mut random = Random::new(seed, number);
-        let texts = pairs::pair(reading, &mut random);
+        let texts = match size {
+            None => pairs::pair(reading, &mut random),
+            Some(size) => pairs::large(reading, size, &mut random),
+        };
         number += 1;
         let [Ok(old), Ok(new)] = texts.each_ref().map(|text| model::read(reading, text)) else {
             continue;
@@ -181,9 +184,17 @@ mod tests {
     use super::*;
 
     #[test]
+    fn the_library_compares_large_pairs_as_the_model_does() {
+        for reading in [Reading::First, Reading::Strict] {
+            let met = hold(reading, 31, 20, Some(100)).unwrap_or_else(|fault| panic!("{fault}"));
+            assert!(met.refused[0] > 40, "{:?}", met.refused);
+        }
+    }
+
+    #[test]
     fn the_library_compares_random_pairs_as_the_model_does() {
         for reading in [Reading::First, Reading::Strict] {
-            let met = hold(reading, 29, 1500).unwrap_or_else(|fault| panic!("{fault}"));
+            let met = hold(reading, 29, 1500, None).unwrap_or_else(|fault| panic!("{fault}"));
             for number in [0, 12, 13] {
                 assert!(met.refused[number] > 50, "{number}: {:?}", met.refused);
             }

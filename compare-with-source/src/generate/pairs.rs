@@ -1,6 +1,8 @@
 //! Random pairs of texts that have most of their values in common: items, rows and columns in another
 //! order, values respelt or changed, names in another letter case, and now and then a name twice.
 
+use std::collections::HashSet;
+
 use crate::random::Random;
 use crate::reading::Reading;
 
@@ -17,10 +19,68 @@ pub fn pair(reading: Reading, random: &mut Random) -> [Vec<u8>; 2] {
     [text(&old, random), text(&new, random)]
 }
 
+/// An old text and a new one of some so many values: single tags, wide loops and long ones, loops of one
+/// column, or frames.
+pub fn large(reading: Reading, size: usize, random: &mut Random) -> [Vec<u8>; 2] {
+    let old = large_scopes(reading, size, random);
+    let mut new = old.clone();
+    for _ in 0..random.below(4) {
+        change(reading, &mut new, random);
+    }
+    if random.once_in(2) {
+        shuffle(&mut new, random);
+    }
+    let values = new.iter_mut().flat_map(|scope| &mut scope.items);
+    let values = values.flat_map(|item| item.rows.iter_mut().flatten());
+    for word in values {
+        if random.once_in(20) {
+            *word = value(reading, random);
+        }
+    }
+    [text(&old, random), text(&new, random)]
+}
+
+fn large_scopes(reading: Reading, size: usize, random: &mut Random) -> Vec<Scope> {
+    let in_block = |items: Vec<Item>| vec![Scope { frame: None, items }];
+    let name = |number: usize| format!("t{number}");
+    match random.below(5) {
+        0 => in_block(
+            (0..size)
+                .map(|number| filled(reading, false, vec![name(number)], 1, random))
+                .collect(),
+        ),
+        1 => in_block(
+            (0..size / 10 + 1)
+                .map(|number| filled(reading, true, vec![name(number)], 10, random))
+                .collect(),
+        ),
+        2 => {
+            let frame = |number: usize| Scope {
+                frame: Some(name(number)),
+                items: (0..4)
+                    .map(|tag| filled(reading, false, vec![name(tag)], 1, random))
+                    .collect(),
+            };
+            (0..size / 4 + 1).map(frame).collect()
+        }
+        _ => {
+            let columns = 1 + random.below(size);
+            let tags = (0..columns).map(name).collect();
+            in_block(vec![filled(
+                reading,
+                true,
+                tags,
+                size / columns + 1,
+                random,
+            )])
+        }
+    }
+}
+
 /// A frame, or a part of the block's own items.
 #[derive(Clone)]
 struct Scope {
-    frame: Option<&'static str>,
+    frame: Option<String>,
     items: Vec<Item>,
 }
 
@@ -28,7 +88,7 @@ struct Scope {
 #[derive(Clone)]
 struct Item {
     is_loop: bool,
-    tags: Vec<&'static str>,
+    tags: Vec<String>,
     rows: Vec<Vec<String>>,
 }
 
@@ -50,12 +110,13 @@ const FRAMES: [&str; 6] = ["f", "F", "g", "a", "A", "h1"];
 
 fn scopes(reading: Reading, random: &mut Random) -> Vec<Scope> {
     let mut scopes = vec![scope(reading, None, random)];
+    let mut frames = HashSet::new();
     for _ in 0..random.below(4) {
-        let frame = (!random.once_in(3)).then(|| random.pick(&FRAMES));
-        let is_there = scopes
-            .iter()
-            .any(|scope| scope.frame.is_some() && same(scope.frame, frame));
-        if !is_there || random.once_in(30) {
+        let frame = (!random.once_in(3)).then(|| String::from(random.pick(&FRAMES)));
+        let is_new = frame
+            .as_ref()
+            .is_none_or(|frame| frames.insert(frame.to_ascii_lowercase()));
+        if is_new || random.once_in(30) {
             scopes.push(scope(reading, frame, random));
         }
     }
@@ -63,11 +124,7 @@ fn scopes(reading: Reading, random: &mut Random) -> Vec<Scope> {
     scopes
 }
 
-fn same(one: Option<&str>, other: Option<&str>) -> bool {
-    one.map(str::to_ascii_lowercase) == other.map(str::to_ascii_lowercase)
-}
-
-fn scope(reading: Reading, frame: Option<&'static str>, random: &mut Random) -> Scope {
+fn scope(reading: Reading, frame: Option<String>, random: &mut Random) -> Scope {
     let items = (0..random.below(4))
         .map(|_| item(reading, random))
         .collect();
@@ -80,28 +137,41 @@ fn item(reading: Reading, random: &mut Random) -> Item {
         true => (1 + random.below(4), 1 + random.below(4)),
         false => (1, 1),
     };
-    let row = |random: &mut Random| (0..columns).map(|_| value(reading, random)).collect();
+    let tags = (0..columns)
+        .map(|_| String::from(random.pick(&NAMES)))
+        .collect();
+    filled(reading, is_loop, tags, rows, random)
+}
+
+/// An item with so many rows of values.
+fn filled(
+    reading: Reading,
+    is_loop: bool,
+    tags: Vec<String>,
+    rows: usize,
+    random: &mut Random,
+) -> Item {
+    let row = |random: &mut Random| tags.iter().map(|_| value(reading, random)).collect();
     Item {
         is_loop,
-        tags: (0..columns).map(|_| random.pick(&NAMES)).collect(),
         rows: (0..rows).map(|_| row(random)).collect(),
+        tags,
     }
 }
 
 /// Takes out most of the names that stand twice in a scope, with their columns.
 fn mend(scopes: &mut [Scope], random: &mut Random) {
-    let mut met: Vec<(Option<&str>, String)> = Vec::new();
+    let mut met = HashSet::new();
     for scope in scopes {
-        let frame = scope.frame;
+        let frame = scope.frame.clone();
         for item in &mut scope.items {
             let mut column = 0;
             while column < item.tags.len() {
-                let name = (frame, item.tags[column].to_ascii_lowercase());
-                if met.contains(&name) && !random.once_in(60) {
-                    item.drop_column(column);
-                } else {
-                    met.push(name);
+                let is_new = met.insert((frame.clone(), item.tags[column].to_ascii_lowercase()));
+                if is_new || random.once_in(60) {
                     column += 1;
+                } else {
+                    item.drop_column(column);
                 }
             }
         }
@@ -146,19 +216,15 @@ fn shuffle<T>(things: &mut [T], random: &mut Random) {
     }
 }
 
-/// The same names in the letter case of others that are the same.
+/// The same names in another letter case.
 fn respell_names(scope: &mut Scope, random: &mut Random) {
-    let respelt = |name: &'static str, names: &[&'static str], random: &mut Random| {
-        let other = random.pick(names);
-        if name.eq_ignore_ascii_case(other) {
-            other
-        } else {
-            name
+    let tags = scope.items.iter_mut().flat_map(|item| &mut item.tags);
+    for name in scope.frame.iter_mut().chain(tags) {
+        match random.below(4) {
+            0 => name.make_ascii_uppercase(),
+            1 => name.make_ascii_lowercase(),
+            _ => {}
         }
-    };
-    scope.frame = scope.frame.map(|frame| respelt(frame, &FRAMES, random));
-    for tag in scope.items.iter_mut().flat_map(|item| &mut item.tags) {
-        *tag = respelt(tag, &NAMES, random);
     }
 }
 
@@ -168,7 +234,7 @@ fn take_apart(items: &mut Vec<Item>, random: &mut Random) {
         let columns = item.tags.iter().enumerate();
         columns.map(|(column, tag)| Item {
             is_loop: item.rows.len() > 1,
-            tags: vec![*tag],
+            tags: vec![tag.clone()],
             rows: item
                 .rows
                 .iter()
@@ -307,7 +373,7 @@ fn digits(most: usize, random: &mut Random) -> String {
 fn text(scopes: &[Scope], random: &mut Random) -> Vec<u8> {
     let mut text = format!("data_{}", random.pick(&["x", "X", "other"]));
     for scope in scopes {
-        if let Some(frame) = scope.frame {
+        if let Some(frame) = &scope.frame {
             text += &format!("\nsave_{frame}");
         }
         for item in &scope.items {
