@@ -3,6 +3,7 @@ ghost use Prim.Native.Nat.{_≤_};
 ghost use lib.ListN.{length};
 use entries::Entry;
 use entries::Parts;
+use found::Why;
 use harness::say;
 use kinds::Kind;
 use kinds::Shape;
@@ -13,7 +14,6 @@ use quotes::Closing;
 use records::Token;
 use rules::Reading;
 use values::Value;
-use values::Why;
 
 // Of the first byte: is it a digit, of a line end, space, the end of a word, ordinary.
 pub fn classes(s: &[u8]) {

@@ -1,8 +1,8 @@
 // The functions that C and Rust call. Each hands its slices to the service of its name, in the reading that the first number names,
 // and its answer on as numbers; where that number names no reading, the answer is 24 and nothing is written.
 ghost use mathlib.Core.Path.{_≡_};
-ghost use Rattle.chuntarek.specs.Answers.{readGives, storeLeft, areaLeft, outlineGives, outlineLeft, renderGives, renderLeft};
-ghost use Rattle.chuntarek.specs.Answers.{namesGive, compareGives, listLeft, contentGives, partGiven, recordGiven};
+ghost use Rattle.answers.specs.Answers.{readGives, storeLeft, areaLeft, outlineGives, outlineLeft, renderGives, renderLeft};
+ghost use Rattle.answers.specs.Answers.{namesGive, compareGives, listLeft, contentGives, partGiven, recordGiven};
 use exports::Answer;
 use exports::Part;
 use exports::Record;

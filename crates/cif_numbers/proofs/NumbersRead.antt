@@ -37,7 +37,7 @@ use Rattle.entries.specs.Entries.{stored}
 use Rattle.values.specs.Values.{value, lexed, lexAsValue}
 use Rattle.grammar.specs.Machine.{Rec, loopEnd}
 use Rattle.walking.specs.Writing.{tagsOf}
-use Rattle.putting.specs.Written.{tokenOf, tokenText, decimalOf as readDecimal}
+use Rattle.desk.specs.Written.{tokenOf, tokenText, decimalOf as readDecimal}
 use Rattle.entries.specs.Walk.{entries}
 use Rattle.stores.specs.Content.{nth}
 use Rattle.record_lines.specs.Lines.{decimalOf}

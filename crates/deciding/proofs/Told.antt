@@ -18,7 +18,7 @@ use Rattle.grammar.specs.Machine.{Rec, Answer, refused, done}
 use Rattle.grammar.specs.Reading.{decided, screens, checked, outline}
 use Rattle.text.specs.Limits.{limit}
 use Rattle.sizes.specs.Sizes.{storeSize, outlineSize, areaSize, sizesOf}
-use Rattle.deciding.specs.Decisions.{Told, refusal, room, tells}
+use Rattle.decisions.specs.Decisions.{refusal, room, tells}
 
 -- a refusal tells its number, its offset and its detail
 pub tells-refused : (n o d : ℕ) → tells (refused n o d) ≡ refusal n o d

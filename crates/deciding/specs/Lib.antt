@@ -1,2 +1,1 @@
-pub mod Decisions
-pub mod Frames
+pub mod Blocks

@@ -211,6 +211,22 @@ gap-shown s o e = by (leb (length s) o) refl e
         let above : 35 < getD s o 0 = ltb-true 35 (getD s o 0) e in
         gap-other s o h (above-hash (getD s o 0) above) (omega arith)
 
+-- where it does not, a byte stands there
+pub gap-inside : (s : List ℕ) (o : ℕ) → showsNoGap s o ≡ false → o < length s
+unfolding showsNoGap
+gap-inside s o e = by (leb (length s) o) refl e
+  where
+    by : (t : Bool) → leb (length s) o ≡ t → (t || ltb 35 (getD s o 0)) ≡ false → o < length s
+    by true q e = absurd (true≢false e)
+    by false q e = leb-false (length s) o q
+
+-- an LF and space bytes, and one look shows that no more stands behind them
+pub gap-line : (s : List ℕ) (o : ℕ) → o < length s → getD s o 0 ≡ 10 → (e : ℕ) → e ≡ spanEnd (is 32) s (o + 1) → showsNoGap s e ≡ true
+    → e ≡ gapEnd s o
+gap-line s o h z e w shown =
+    let first : gapEnd s o ≡ gapEnd s (o + 1) = gap-space s o h (unfold isSpace in rw z) in
+    sym (first ∙ sym (gap-spaces s (o + 1)) ∙ ap (gapEnd s) (sym w) ∙ gap-shown s e shown)
+
 -- no line end is parted behind space and comments, so that a place there is one to go on from
 pub gap-whole : (s : List ℕ) (o : ℕ) → Whole s (gapEnd s o)
 gap-whole s o = whole-before s (gapEnd s o) (gap-stops s o)

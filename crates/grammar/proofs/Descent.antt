@@ -16,7 +16,8 @@ use Rattle.rules.specs.declared.Reading.{Reading}
 use Rattle.rules.specs.declared.Reading.the-variants.{First, Strict}
 use Rattle.words.specs.Names.{tagFits, headingFits}
 use Rattle.values.specs.Values.{Class, Reason, block, loop, save, tag, value, overLimit, nothing, atEnd, reservedWord, noStart, openQuote, openField, joined}
-use Rattle.values.specs.Answers.{numberOfWhy, whyNot}
+use Rattle.found.specs.Packing.{numberOfWhy}
+use Rattle.values.specs.Answers.{whyNot}
 use Rattle.grammar.specs.Tokens.{Tok, headAt, headWhy}
 use Rattle.grammar.specs.Machine.{Rec, Answer, refused, done, items, names, values, wants, config, rec, loopEnd, follow, run, move, atItem, atName, atValue, atWant, noMoreNames, loopEnds, fails, closes, heads, shuts, named, go, stop, reason, inBlockOnly, isJoined, lacksValues, lastAt}
 use Rattle.grammar.specs.Descent.{nameThen, nameRest, nameRecs, afterNames, valueThen, valueRest, valueRecs, afterValues, Item, taken, failed, absent, broken, isOver, isTag, headTag, headJoined, failedBy, rows, loopBy, loopValued, loopItem, single, tagValued, tagItem, itemBy, item}

@@ -9,7 +9,8 @@ use Rattle.rules.specs.declared.Reading.{Reading}
 use Rattle.rules.specs.declared.Reading.the-variants.{First, Strict}
 use Rattle.words.specs.Names.{tagFits, headingFits}
 use Rattle.values.specs.Values.{Class, Reason, block, loop, save, tag, value, overLimit, nothing, atEnd, reservedWord, noStart, openQuote, openField, joined}
-use Rattle.values.specs.Answers.{whyNot, numberOfWhy}
+use Rattle.values.specs.Answers.{whyNot}
+use Rattle.found.specs.Packing.{numberOfWhy}
 use Rattle.grammar.specs.Tokens.{Tok}
 
 -- a record of the outline

@@ -11,8 +11,8 @@ use Rattle.columns.specs.Before.{byteBefore, isParted}
 use Rattle.gaps.specs.Gaps.{gap}
 use Rattle.words.specs.Words.{word}
 use Rattle.keywords.specs.Keywords.{starts, keyData, keyGlobal, keyLoop, keySave, keyStop, stands}
-use Rattle.values.specs.declared.Why.{Why}
-use Rattle.values.specs.declared.Why.the-variants.{AtEnd}
+use Rattle.found.specs.declared.Why.{Why}
+use Rattle.found.specs.declared.Why.the-variants.{AtEnd}
 use Rattle.values.specs.Answers.{whyNot}
 use Rattle.values.specs.Values.{Reason, atEnd, reservedWord, noStart, Class, block, loop, save, tag, value, overLimit, nothing, Lexed, lexed, parted, lexValue}
 

@@ -15,7 +15,7 @@ use Rattle.kinds.specs.Kinds.{kindOf, shapeOf, outlineShape}
 use Rattle.grammar.specs.Machine.{Rec, Answer, refused, done}
 use Rattle.sizes.specs.Sizes.{contentSize}
 use Rattle.grammar.specs.Reading.{outline}
-use Rattle.putting.specs.Written.{tokenOf, shaped, shapeIn, recordBytes}
+use Rattle.desk.specs.Written.{tokenOf, shaped, shapeIn, recordBytes}
 use Rattle.walking.specs.Writing.{tagsOf, storeOf}
 use Rattle.refusals.specs.Answers.{refusal}
 use Rattle.outlining.specs.Outlining.{outlineBy, outlineAnswer, outlineStoreBy, outlineStore}

@@ -19,16 +19,16 @@ use Rattle.values.specs.Values.{Class, block, loop, save, tag, value, overLimit
 use Rattle.sizes.specs.declared.Sizes.{Sizes}
 use Rattle.items.specs.declared.Names.{Names}
 use Rattle.items.specs.declared.Values.{Values}
-use Rattle.values.specs.declared.Found.{Found}
-use Rattle.values.specs.declared.Found.the-variants.{Value}
+use Rattle.found.specs.declared.Found.{Found}
+use Rattle.found.specs.declared.Found.the-variants.{Value}
 use Rattle.items.specs.declared.Item.{Item as Answered}
 use Rattle.items.specs.declared.Item.the-variants.{Loop, Single, Failed, Absent, Broken}
 use types.Run.{OneOf}
 use denote.Enum.Declared.{tagOf}
 use mathlib.Core.Logic.{inl, inr}
-use Rattle.values.specs.declared.Why.{Why}
-use Rattle.values.specs.declared.Why.the-variants.{AtEnd, Reserved, NoStart, OpenQuote, OpenField, Joined}
-use Rattle.values.proofs.Why.{the-type as why-type}
+use Rattle.found.specs.declared.Why.{Why}
+use Rattle.found.specs.declared.Why.the-variants.{AtEnd, Reserved, NoStart, OpenQuote, OpenField, Joined}
+use Rattle.found.proofs.Why.{the-type as why-type}
 use Rattle.grammar.specs.declared.Cause.{Cause}
 use Rattle.grammar.specs.declared.Cause.the-variants.{Ragged, NoValue, NoNames, OverLimit, NotParted, BadName}
 use Rattle.grammar.specs.Causes.{causeOf}
@@ -37,9 +37,10 @@ use Rattle.grammar.specs.Machine.{Rec, rec, loopEnd, reason, isJoined, lacksVal
 use Rattle.sizes.specs.Sizes.{sizesOf, noSizes, added, joined, Upto}
 use Rattle.grammar.specs.Descent.{nameRecs, afterNames, valueRecs, afterValues, Item, taken, failed, absent, broken, isOver, isTag, headTag, headJoined, failedBy, rows, loopBy, loopValued, loopItem, single, tagValued, tagItem, itemBy, item}
 use Rattle.items.specs.Answers.{namesOf, namesAt, headOver, valuesOf, valuesAt, isJoinedWhy, failedAs, rowsOf, itemAnswer, itemAt}
-use Rattle.values.specs.Answers.{whyOf, whyNot, numberOfWhy, wanted}
-use Rattle.values.specs.Finding.{foundAt, isOverFound, whyFound}
-use Rattle.values.proofs.Choices.{wanted-why}
+use Rattle.values.specs.Answers.{whyOf, whyNot, wanted}
+use Rattle.found.specs.Packing.{numberOfWhy, isOverFound, whyFound}
+use Rattle.values.specs.Finding.{foundAt}
+use Rattle.values.proofs.Laws.{wanted-why}
 use Rattle.grammar.proofs.Descent.{Ends, names-ends, values-ends}
 use Rattle.grammar.proofs.Lexes.{lex-other, lex-tag, no-tag, startsItem}
 use Rattle.items.proofs.Lists.{met-value, value-step}

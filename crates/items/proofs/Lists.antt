@@ -17,20 +17,21 @@ use Rattle.words.specs.Words.{word, wordEnd}
 use Rattle.words.specs.Names.{tagFits}
 use Rattle.words.proofs.Words.{word-end, word-size}
 use Rattle.values.specs.Values.{Class, block, loop, save, tag, value, overLimit, nothing, lexed}
-use Rattle.values.specs.declared.Why.{Why}
+use Rattle.found.specs.declared.Why.{Why}
 use Rattle.sizes.specs.declared.Sizes.{Sizes}
 use Rattle.items.specs.declared.Names.{Names}
 use Rattle.items.specs.declared.Values.{Values}
-use Rattle.values.specs.declared.Found.{Found}
-use Rattle.values.specs.declared.Found.the-variants.{Value}
+use Rattle.found.specs.declared.Found.{Found}
+use Rattle.found.specs.declared.Found.the-variants.{Value}
 use Rattle.grammar.specs.Tokens.{inBlock, lexIn, after, Tok, tok, tokensAt, headAt, headWhy, tagFirst, tagAt}
 use Rattle.grammar.specs.Machine.{Rec, rec, lastAt}
 use Rattle.sizes.specs.Sizes.{sizesOf, noSizes, added, joined, Upto}
 use Rattle.grammar.specs.Descent.{nameRecs, valueRecs, isOver, isTag}
 use Rattle.values.specs.Answers.{whyNot, wanted}
-use Rattle.values.proofs.Choices.{wanted-why}
+use Rattle.values.proofs.Laws.{wanted-why}
 use Rattle.items.specs.Answers.{namesOf, namesAt, headOver, valuesOf, valuesAt}
-use Rattle.values.specs.Finding.{foundAt, isOverFound, whyFound}
+use Rattle.values.specs.Finding.{foundAt}
+use Rattle.found.specs.Packing.{isOverFound, whyFound}
 use Rattle.grammar.proofs.Descent.{IsName, NoName, name-or-not, NoValue, value-or-not, names-more, names-none, values-more, values-none}
 use Rattle.grammar.proofs.Fits.{isValue, lexIn-pos}
 use Rattle.grammar.proofs.Lexes.{lex-tag, no-tag}

@@ -11,7 +11,8 @@ use lib.ListN.{length}
 use Rattle.rules.specs.declared.Reading.{Reading}
 use Rattle.rules.specs.declared.Reading.the-variants.{First, Strict}
 use Rattle.words.specs.Names.{tagFits}
-use Rattle.values.specs.Answers.{whyNot, numberOfWhy}
+use Rattle.values.specs.Answers.{whyNot}
+use Rattle.found.specs.Packing.{numberOfWhy}
 use Rattle.values.specs.Values.{Class, Reason, block, loop, save, tag, value, overLimit, nothing}
 use Rattle.grammar.specs.Tokens.{Tok, headAt, headWhy}
 use Rattle.grammar.specs.Machine.{Rec, rec, loopEnd, reason, isJoined, lacksValues, lastAt}

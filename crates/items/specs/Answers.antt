@@ -7,9 +7,9 @@ use lib.Dec.{eqb}
 use lib.ListN.{length, drop}
 use Rattle.rules.specs.declared.Reading.{Reading}
 use Rattle.rules.specs.declared.Reading.the-variants.{First, Strict}
-use Rattle.values.specs.declared.Why.{Why}
-use Rattle.values.specs.declared.Why.the-variants.{AtEnd, Reserved, NoStart, OpenQuote, OpenField, Joined}
-use Rattle.values.specs.Answers.{numberOfWhy}
+use Rattle.found.specs.declared.Why.{Why}
+use Rattle.found.specs.declared.Why.the-variants.{AtEnd, Reserved, NoStart, OpenQuote, OpenField, Joined}
+use Rattle.found.specs.Packing.{numberOfWhy}
 use Rattle.gaps.specs.Gaps.{gap}
 use Rattle.items.specs.declared.Names.{Names}
 use Rattle.items.specs.declared.Values.{Values}

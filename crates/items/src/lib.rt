@@ -8,12 +8,12 @@ ghost use Rattle.text.specs.Limits.{limit};
 ghost use Rattle.items.specs.Answers.{Ready, Here, namesAt, valuesAt, failedAs, rowsOf, itemAt};
 ghost use Rattle.grammar.specs.Machine.{lacksValues as lacksSome};
 ghost use Rattle.grammar.specs.Tokens.{tagAt, loopAt};
+use found::Found;
+use found::Why;
 use grammar::Cause;
 use kinds::Kind;
 use rules::Reading;
 use sizes::Sizes;
-use values::Found;
-use values::Why;
 
 // What reading an item comes to: read, with the offset behind it and the space and comments there, a loop with why its list of
 // values ended; failed by 5 or 6 in the first reading, with the offset where it stopped; absent, where none starts; or broken,
@@ -240,16 +240,16 @@ fn parse_tag(reading: Reading, s: &[u8], at: usize) -> Item
     failed(reading, cause, at, stop, why)
 }
 
-// The item at an offset where no space or comment stands.
+// The item at an offset where no space or comment stands; most are tags.
 pub fn parse_data_item(reading: Reading, s: &[u8], at: usize) -> Item
     requires { ⌜ Here (now s) at ⌝ }
     ensures { λ r. ⌜ r ≡ itemAt reading (now (s .entry)) at ⌝ }
 {
-    if openings::at_loop(reading, s, at) {
-        return parse_loop(reading, s, at);
-    }
     if openings::at_tag(reading, s, at) {
         return parse_tag(reading, s, at);
+    }
+    if openings::at_loop(reading, s, at) {
+        return parse_loop(reading, s, at);
     }
     Item::Absent { at }
 }

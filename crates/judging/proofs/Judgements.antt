@@ -13,10 +13,10 @@ use Rattle.text.specs.Runs.{span}
 use Rattle.lines.specs.Lines.{noControl, isPlain, screened}
 use Rattle.lines.proofs.Lines.{span-wider, plain-ascii, plain-control}
 use Rattle.grammar.specs.declared.Cause.the-variants.{LongLine as LongLineCause, ControlByte}
-use Rattle.deciding.specs.declared.Decision.the-variants.{Refused as RefusedText}
+use Rattle.decisions.specs.declared.Decision.the-variants.{Refused as RefusedText}
 use Rattle.sizes.specs.declared.Sizes.{Sizes}
 use Rattle.grammar.specs.Machine.{Answer, refused, done}
-use Rattle.deciding.specs.Decisions.{told, tells, refusal as toldRefusal, room}
+use Rattle.decisions.specs.Decisions.{told, tells, refusal as toldRefusal, room}
 use Rattle.grammar.specs.Reading.{decided, checked, outline}
 use Rattle.deciding.proofs.Told.{tells-refused, tells-done, sizes-of, checked-fine, checked-long, checked-control}
 use Rattle.refusals.specs.declared.Refusal.{Refusal}

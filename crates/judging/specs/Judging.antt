@@ -7,7 +7,7 @@ use Rattle.rules.specs.declared.Reading.{Reading}
 use Rattle.places.specs.declared.Report.{Report}
 use Rattle.places.specs.Reports.{success}
 use Rattle.grammar.specs.Machine.{Rec, Answer, refused, done}
-use Rattle.deciding.specs.Decisions.{Told}
+use Rattle.decisions.specs.Decisions.{Told}
 use Rattle.grammar.specs.Reading.{outline}
 use Rattle.sizes.specs.Sizes.{sizesOf}
 use Rattle.sizes.specs.declared.Sizes.{Sizes}

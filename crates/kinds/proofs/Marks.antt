@@ -9,7 +9,7 @@ use Rattle.kinds.specs.declared.Kind.{Kind}
 use Rattle.kinds.specs.declared.Kind.the-variants.{NoKind, Block, FrameOpen, FrameClose, Tag, Loop, LoopTag, LoopEnd, Inapplicable, Unknown, Bare, SingleQuoted, DoubleQuoted, Multiline, Number, Uncertain, Quoted}
 use Rattle.kinds.specs.declared.Shape.{Shape}
 use Rattle.kinds.specs.declared.Shape.the-variants.{Empty, Place, Content, Count, Parts, PartsUncertain}
-use Rattle.kinds.specs.Kinds.{kindOf, shapeOf, shapeLength, outlineShape, bodyLength, outlineLength, marksOf, opening, isValueKind}
+use Rattle.kinds.specs.Kinds.{kindOf, shapeLength, marksOf, opening, isValueKind}
 
 -- a body is short
 pub shape-short : (h : Shape) → shapeLength h ≤ 38
@@ -20,15 +20,6 @@ shape-short Content = omega arith
 shape-short Count = omega arith
 shape-short Parts = omega arith
 shape-short PartsUncertain = omega arith
-
--- by the kind's number, in a store and in the outline's
-pub body-short : (k : ℕ) → bodyLength k ≤ 38
-unfolding bodyLength
-body-short k = shape-short (shapeOf (kindOf k))
-
-pub outline-short : (k : ℕ) → outlineLength k ≤ 38
-unfolding outlineLength
-outline-short k = shape-short (outlineShape (shapeOf (kindOf k)))
 
 -- the marks before a content are among the token's marks
 pub opening-marks : (k : Kind) → opening k ≤ marksOf k

@@ -2,7 +2,7 @@
 -- earlier of two scans. Assumes nothing.
 use Prim.Native.Nat.{ℕ, zero, suc, _+_, _-_, _≤_, _<_}
 use mathlib.Core.Path.{_≡_, refl, sym, ap, _∙_}
-use mathlib.Core.Bool.{Bool, true, false, not, cond, _&&_, _||_, and-false, or-assoc}
+use mathlib.Core.Bool.{Bool, true, false, not, cond, _&&_, _||_, and-false, or-true}
 use mathlib.Core.List.{List, [], _∷_, _++_}
 use native.Mathlib.Nat.{zero-add}
 use native.Mathlib.Numerals.{add-one}
@@ -16,11 +16,11 @@ use Rattle.text.specs.Runs.{span, spanEnd, runs}
 use Rattle.text.specs.Blocks.{clear}
 use Rattle.text.proofs.Bools.{and-l, and-r}
 use Rattle.text.proofs.Blocks.{clear-least, block-keeps}
-use Rattle.text.proofs.Runs.{span-le, span-end, runs-met}
+use Rattle.text.proofs.Runs.{span-le, span-end, span-block, runs-met}
 use Rattle.lines.specs.declared.Screen.{Screen}
 use Rattle.lines.specs.declared.Screen.the-variants.{Fine, LongLine, Control}
 use Rattle.lines.specs.Ends.{behindLast}
-use Rattle.lines.specs.Lines.{isControl, noControl, isPlain, isLined, column, isLong, short, screenFrom, screened, isFine, fits}
+use Rattle.lines.specs.Lines.{isControl, noControl, isPlain, isPrinted, column, isLong, short, screenFrom, screened, isFine, fits}
 
 -- Lines
 
@@ -172,7 +172,7 @@ module _ (c : ℕ) (s : List ℕ) (o room : ℕ) (z : c + room ≡ 2048) where
 
 -- Control bytes
 
-pub control-start : (s : List ℕ) → span noControl s ≡ spanEnd noControl s 0
+control-start : (s : List ℕ) → span noControl s ≡ spanEnd noControl s 0
 control-start s = sym (span-end noControl s 0 ∙ omega arith)
 
 pub control-stop : (b : ℕ) → isControl b ≡ true → noControl b ≡ false
@@ -209,80 +209,90 @@ runs-wider p q f n s o e =
     let h : n ≤ span p (drop o s) = leb-true n (span p (drop o s)) e in
     le-leb n (span q (drop o s)) (omega (arith, span-wider p q f (drop o s)))
 
--- as the scan of a block tests a byte: one below space that may not stand in a text, or none below 127
-unfoldable pub isLow : ℕ → Bool
-isLow b = ((ltb b 32 && not (eqb b 9)) && not (eqb b 10)) && not (eqb b 13)
+pub runs-same : (p q : ℕ → Bool) → ((b : ℕ) → p b ≡ q b) → (n : ℕ) (s : List ℕ) (o : ℕ) → runs p n s o ≡ runs q n s o
+unfolding runs
+runs-same p q f n s o =
+    let z : span p (drop o s) ≡ span q (drop o s) =
+    omega (arith, span-wider p q (λ b e. sym (f b) ∙ e) (drop o s), span-wider q p (λ b e. f b ∙ e) (drop o s)) in
+    rw z
 
-plain-byte : (b : ℕ) → (isLow b || leb 127 b) ≡ not (isPlain b)
-unfolding isLow isPlain isAscii noControl isControl
-plain-byte b = by (leb 127 b) refl
+-- the run of bytes that may stand in a text is passed over at once
+pub control-skip : (s : List ℕ) (at : ℕ) → at ≡ span isPlain s → span noControl s ≡ spanEnd noControl s at
+control-skip s at q =
+    let all : runs isPlain at s 0 ≡ true = (unfold runs in le-leb at (span isPlain s) (omega (arith, q))) in
+    control-start s ∙ rw (zero-add at) at (span-block noControl s 0 at (runs-wider isPlain noControl plain-control at s 0 all))
+
+-- as the scan of a block tests a byte
+printed-byte : (x y b : ℕ)
+    → ((((ltb b 32 || leb 127 b) && not (eqb b 10)) && not (eqb b x)) && not (eqb b y)) ≡ not (isPrinted x y b)
+unfolding isPrinted is
+printed-byte x y b =
+    ends (ltb b 32) refl (leb 127 b) refl
+    ∙ parted (leb 32 b && ltb b 127) (eqb b 10) (eqb b x) (eqb b y)
   where
-    other : (t u v w : Bool)
-        → ((((t && not u) && not v) && not w) || false) ≡ not (not (not (u || (v || w)) && (t || false)))
-    other false u v w = rw (and-false (not (u || (v || w))))
-    other true true v w = refl
-    other true false true w = refl
-    other true false false true = refl
-    other true false false false = refl
+    parted : (t u v w : Bool) → (((not t && not u) && not v) && not w) ≡ not ((u || (v || w)) || t)
+    parted t true v w = rw (and-false (not t))
+    parted t false true w = rw (and-false (not t && true))
+    parted t false false true = rw (and-false ((not t && true) && true))
+    parted true false false false = refl
+    parted false false false false = refl
 
-    high : 127 ≤ b → (t : Bool) → eqb b 127 ≡ t
-        → (isLow b || true) ≡ not (ltb b 128 && not (not (eqb b 9 || (eqb b 10 || eqb b 13)) && (ltb b 32 || t)))
-    high h true e = rw (eqb-true b 127 e)
-    high h false e =
-        let d : b ≡ 127 → ⊥ = eqb-false b 127 e in
-        rw (le-ltb b 128 (omega arith), le-ltb b 32 (omega arith))
-
-    by : (t : Bool) → leb 127 b ≡ t
-        → (isLow b || t) ≡ not (ltb b 128 && not (not (eqb b 9 || (eqb b 10 || eqb b 13)) && (ltb b 32 || eqb b 127)))
-    by true e = high (leb-true 127 b e) (eqb b 127) refl
-    by false e =
-        let h : b < 127 = leb-false 127 b e in
-        rw (lt-ltb b 128 (omega arith), ne-eqb b 127 (λ q. omega arith)) (other (ltb b 32) (eqb b 9) (eqb b 10) (eqb b 13))
-
--- and as it keeps it: has such a byte been met
-pub plain-met : (s : List ℕ) (o n : ℕ) → o + n < length s
-    → ((not (runs isPlain n s o) || isLow (getD s (o + n) 0)) || leb 127 (getD s (o + n) 0))
-    ≡ not (runs isPlain (n + 1) s o)
-plain-met s o n h =
-    let b = getD s (o + n) 0 in
-    or-assoc (not (runs isPlain n s o)) (isLow b) (leb 127 b) ∙ runs-met isPlain s o n _ h (plain-byte b)
-
--- where LF is the only one below space
-lined-byte : (b : ℕ) → ((ltb b 32 && not (eqb b 10)) || leb 127 b) ≡ not (isLined b)
-unfolding isLined is
-lined-byte b = by (eqb b 10) refl (ltb b 32) refl (leb 127 b) refl
-  where
-    by : (t : Bool) → eqb b 10 ≡ t → (u : Bool) → ltb b 32 ≡ u → (v : Bool) → leb 127 b ≡ v
-        → ((u && not t) || v) ≡ not (t || (leb 32 b && ltb b 127))
-    by true e u f v g = let z : b ≡ 10 = eqb-true b 10 e in rw (← g, z, and-false u)
-    by false e true f v g = let h : b < 32 = ltb-true b 32 f in rw (lt-leb 32 b (omega arith))
-    by false e false f true g =
+    ends : (t : Bool) → ltb b 32 ≡ t → (u : Bool) → leb 127 b ≡ u
+        → ((((t || u) && not (eqb b 10)) && not (eqb b x)) && not (eqb b y))
+        ≡ (((not (leb 32 b && ltb b 127) && not (eqb b 10)) && not (eqb b x)) && not (eqb b y))
+    ends true e u g = let h : b < 32 = ltb-true b 32 e in rw (lt-leb 32 b h)
+    ends false e true g =
         let h : 127 ≤ b = leb-true 127 b g in
         rw (le-ltb b 127 h, and-false (leb 32 b))
-    by false e false f false g =
-        let h : 32 ≤ b = ltb-false b 32 f in
+    ends false e false g =
+        let h : 32 ≤ b = ltb-false b 32 e in
         let l : b < 127 = leb-false 127 b g in
         rw (le-leb 32 b h, lt-ltb b 127 l)
 
-pub lined-met : (s : List ℕ) (o n : ℕ) → o + n < length s
-    → ((not (runs isLined n s o) || (ltb (getD s (o + n) 0) 32 && not (eqb (getD s (o + n) 0) 10))) || leb 127 (getD s (o + n) 0))
-    ≡ not (runs isLined (n + 1) s o)
-lined-met s o n h =
-    let b = getD s (o + n) 0 in
-    or-assoc (not (runs isLined n s o)) (ltb b 32 && not (eqb b 10)) (leb 127 b) ∙ runs-met isLined s o n _ h (lined-byte b)
+-- and as it keeps it: has such a byte been met
+pub printed-met : (x y : ℕ) (s : List ℕ) (o n : ℕ) → o + n < length s
+    → (not (runs (isPrinted x y) n s o)
+    || (((((ltb (getD s (o + n) 0) 32 || leb 127 (getD s (o + n) 0)) && not (eqb (getD s (o + n) 0) 10)) && not (eqb (getD s (o + n) 0) x)) && not (eqb (getD s (o + n) 0) y))))
+    ≡ not (runs (isPrinted x y) (n + 1) s o)
+printed-met x y s o n h = runs-met (isPrinted x y) s o n _ h (printed-byte x y (getD s (o + n) 0))
 
--- such bytes may stand in a text
-pub lined-plain : (b : ℕ) → isLined b ≡ true → isPlain b ≡ true
-unfolding isLined isPlain isAscii noControl isControl is
-lined-plain b e = by (eqb b 10) refl e
+-- with tab and CR as the others it is what may stand in a text
+pub printed-plain : (b : ℕ) → isPrinted 9 13 b ≡ isPlain b
+unfolding isPrinted isPlain isAscii noControl isControl is
+printed-plain b = spaced (eqb b 10) refl (eqb b 9) refl (eqb b 13) refl
   where
-    by : (t : Bool) → eqb b 10 ≡ t → (t || (leb 32 b && ltb b 127)) ≡ true
-        → (ltb b 128 && not (not (eqb b 9 || (eqb b 10 || eqb b 13)) && (ltb b 32 || eqb b 127))) ≡ true
-    by true q h = rw (eqb-true b 10 q)
-    by false q h =
-        let l : 32 ≤ b = leb-true 32 b (and-l (leb 32 b) (ltb b 127) h) in
-        let u : b < 127 = ltb-true b 127 (and-r (leb 32 b) (ltb b 127) h) in
-        rw (lt-ltb b 128 (omega arith), le-ltb b 32 l, ne-eqb b 127 (λ z. omega arith), and-false (not (eqb b 9 || (eqb b 10 || eqb b 13))))
+    within : (t : Bool) → ltb b 32 ≡ t → (u : Bool) → eqb b 127 ≡ u → (v : Bool) → ltb b 127 ≡ v
+        → (leb 32 b && v) ≡ (ltb b 128 && not (t || u))
+    within true e u f v g =
+        let h : b < 32 = ltb-true b 32 e in
+        rw (lt-leb 32 b h, lt-ltb b 128 (omega arith))
+    within false e true f v g =
+        let z : b ≡ 127 = eqb-true b 127 f in
+        rw (← g, z)
+    within false e false f true g =
+        let h : 32 ≤ b = ltb-false b 32 e in
+        let l : b < 127 = ltb-true b 127 g in
+        rw (le-leb 32 b h, lt-ltb b 128 (omega arith))
+    within false e false f false g =
+        let h : 127 ≤ b = ltb-false b 127 g in
+        let d : b ≡ 127 → ⊥ = eqb-false b 127 f in
+        rw (le-ltb b 128 (omega arith), and-false (leb 32 b))
+
+    spaced : (t : Bool) → eqb b 10 ≡ t → (u : Bool) → eqb b 9 ≡ u → (v : Bool) → eqb b 13 ≡ v
+        → ((t || (u || v)) || (leb 32 b && ltb b 127)) ≡ (ltb b 128 && not (not (u || (t || v)) && (ltb b 32 || eqb b 127)))
+    spaced true e u f v g = let z : b ≡ 10 = eqb-true b 10 e in rw (z, or-true u)
+    spaced false e true f v g = let z : b ≡ 9 = eqb-true b 9 f in rw z
+    spaced false e false f true g = let z : b ≡ 13 = eqb-true b 13 g in rw z
+    spaced false e false f false g = within (ltb b 32) refl (eqb b 127) refl (ltb b 127) refl
+
+-- without them, such bytes may stand there too
+pub lined-plain : (b : ℕ) → isPrinted 10 10 b ≡ true → isPlain b ≡ true
+unfolding isPrinted is
+lined-plain b e = sym (printed-plain b) ∙ fewer (eqb b 10) (eqb b 9 || eqb b 13) (leb 32 b && ltb b 127) e
+  where
+    fewer : (t u v : Bool) → ((t || (t || t)) || v) ≡ true → ((t || u) || v) ≡ true
+    fewer true u v e = refl
+    fewer false u v e = rw e (or-true u)
 
 -- byte by byte
 pub plain-start : (s : List ℕ) → span isPlain s ≡ spanEnd isPlain s 0

@@ -23,9 +23,9 @@ noControl b = not (isControl b)
 unfoldable pub isPlain : ℕ → Bool
 isPlain b = isAscii b && noControl b
 
--- such a byte, and LF the only one below space
-unfoldable pub isLined : ℕ → Bool
-isLined b = is lineFeed b || (leb space b && ltb b 127)
+-- a byte from space to ~, LF, or one of two others
+unfoldable pub isPrinted : ℕ → ℕ → ℕ → Bool
+isPrinted one other b = (is lineFeed b || (is one b || is other b)) || (leb space b && ltb b 127)
 
 -- the bytes of the line so far, where c stood before b
 unfoldable pub column : ℕ → ℕ → ℕ

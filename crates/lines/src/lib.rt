@@ -4,7 +4,7 @@ ghost use Prim.Native.Nat.{_+_, _≤_, _<_};
 ghost use lib.ListN.{length};
 ghost use Rattle.text.specs.Runs.{span, runs};
 ghost use Rattle.lines.specs.Ends.{behindLast};
-ghost use Rattle.lines.specs.Lines.{isControl, noControl, isPlain, isLined, short, screened, fits as fitsBehind};
+ghost use Rattle.lines.specs.Lines.{isControl, noControl, isPlain, isPrinted, short, screened, fits as fitsBehind};
 
 // The most bytes of a line before its end.
 pub const LONGEST: usize = 2048;
@@ -38,10 +38,10 @@ fn is_control(b: u8) -> bool
     b == DELETE
 }
 
-// Whether 32 bytes stand at an offset that may stand in a text, none of them below space but LF: few comparisons for a
-// byte, and most blocks are such. Every byte is looked at, so that they are compared many at once.
-fn is_lined_block(s: &[u8], at: usize) -> bool
-    ensures { λ r. ⌜ r ≡ runs isLined 32 (now (s .entry)) at ⌝ }
+// Whether 32 bytes stand at an offset, each of them printed, LF or one of two others. Every byte is looked at, so that
+// they are compared many at once.
+fn is_printed_block(s: &[u8], at: usize, one: u8, other: u8) -> bool
+    ensures { λ r. ⌜ r ≡ runs (isPrinted one other) 32 (now (s .entry)) at ⌝ }
 {
     if s.len() < 32 {
         return false;
@@ -53,40 +53,21 @@ fn is_lined_block(s: &[u8], at: usize) -> bool
     let mut i = 0;
     while i < 32 {
         let b = s[at + i];
-        met = met | ((b < b' ') & (b != b'\n')) | (DELETE <= b);
+        met = met | (((b < b' ') | (DELETE <= b)) & (b != b'\n') & (b != one) & (b != other));
         i += 1;
     }
     !met
 }
 
-// Whether 32 bytes stand at an offset that may stand in a text: tab and CR as well.
-fn is_spaced_block(s: &[u8], at: usize) -> bool
-    ensures { λ r. ⌜ r ≡ runs isPlain 32 (now (s .entry)) at ⌝ }
-{
-    if s.len() < 32 {
-        return false;
-    }
-    if s.len() - 32 < at {
-        return false;
-    }
-    let mut met = false;
-    let mut i = 0;
-    while i < 32 {
-        let b = s[at + i];
-        met = met | ((b < b' ') & (b != b'\t') & (b != b'\n') & (b != b'\r')) | (DELETE <= b);
-        i += 1;
-    }
-    !met
-}
-
-// The same: by the fewer comparisons first.
+// Whether 32 bytes stand at an offset that may stand in a text: first by fewer comparisons, as most blocks have
+// neither tab nor CR.
 fn is_plain_block(s: &[u8], at: usize) -> bool
     ensures { λ r. ⌜ r ≡ runs isPlain 32 (now (s .entry)) at ⌝ }
 {
-    if is_lined_block(s, at) {
+    if is_printed_block(s, at, b'\n', b'\n') {
         return true;
     }
-    is_spaced_block(s, at)
+    is_printed_block(s, at, b'\t', b'\r')
 }
 
 // How many bytes stand before the first that is no ASCII, or a control byte that may not stand in a text: both in one
@@ -111,14 +92,12 @@ pub fn plain_end(s: &[u8]) -> usize
     at
 }
 
-// How many bytes stand before the first control byte that may not stand in a text: by blocks first.
+// How many bytes stand before the first control byte that may not stand in a text. Most texts are ASCII, so that few
+// bytes are left behind the first scan, which stands in the code once and so within its loop.
 fn control_end(s: &[u8]) -> usize
     ensures { λ r. ⌜ r ≡ span noControl (now (s .entry)) ⌝ }
 {
-    let mut at = 0;
-    while is_plain_block(s, at) {
-        at += 32;
-    }
+    let mut at = plain_end(s);
     while at < s.len() {
         if is_control(s[at]) {
             return at;

@@ -1,7 +1,7 @@
 -- Laws of lines. Assumes nothing.
 use Prim.Native.Nat.{ℕ, _+_, _≤_, _<_}
-use mathlib.Core.Path.{_≡_, refl, sym, _∙_}
-use mathlib.Core.Bool.{Bool, true, false, not}
+use mathlib.Core.Path.{_≡_, refl}
+use mathlib.Core.Bool.{true, false}
 use mathlib.Core.List.{List}
 use native.Mathlib.Omega.{arith}
 use borrow.Author.Tests.{not-true, ne-eqb}
@@ -11,13 +11,8 @@ use Rattle.text.specs.Bytes.{isEol}
 use Rattle.text.specs.Runs.{spanEnd, runs}
 use Rattle.text.specs.Blocks.{clear}
 use Rattle.places.specs.Lines.{inLine, lineEnd}
-use Rattle.text.proofs.Bools.{not-not}
 use Rattle.text.proofs.Blocks.{clear-least, block-keeps}
-use Rattle.text.proofs.Runs.{span-go, span-stop, span-over, span-from, span-within, span-all, span-ends}
-
-pub line-byte : (b : ℕ) → isEol b ≡ not (inLine b)
-unfolding inLine
-line-byte b = sym (not-not (isEol b))
+use Rattle.text.proofs.Runs.{span-go, span-over, span-from, span-within, span-all}
 
 pub in-line : (b : ℕ) → isEol b ≡ false → inLine b ≡ true
 unfolding inLine
@@ -60,8 +55,3 @@ line-go s o h e = rw (line-run s o, line-run s (o + 1)) (span-go inLine s o h (i
 pub line-plain : (s : List ℕ) (o k : ℕ) → o ≤ k → k < lineEnd s o → isEol (getD s k 0) ≡ false
 unfolding inLine
 line-plain s o k h l = not-true (isEol (getD s k 0)) (span-all inLine s o k h (rw (line-run s o) at l))
-
--- where it ends within the text, a line end stands
-pub line-stops : (s : List ℕ) (o : ℕ) → lineEnd s o < length s → isEol (getD s (lineEnd s o) 0) ≡ true
-unfolding inLine
-line-stops s o h = line-byte (getD s (lineEnd s o) 0) ∙ rw (line-run s o) (rw (span-ends inLine s o (rw (line-run s o) at h)))

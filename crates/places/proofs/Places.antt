@@ -254,6 +254,22 @@ is-spaces-end s p e i h =
     let f : (k : ℕ) → p .offset ≤ k → k < e → isEol (getD s k 0) ≡ false = λ k u v. space-plain (getD s k 0) (span-all (is 32) s (p .offset) k u (rw h at v)) in
     is-along s p _ e i (place-along s p e (i .at) l w f) l w f
 
+-- behind an LF another line starts, and goes on over space bytes
+place-feed : (s : List ℕ) (p : Place) → IsPlace s p → p .offset < length s → getD s (p .offset) 0 ≡ 10
+    → record { offset = p .offset + 1; line = p .line + 1; column = 1 } ≡ placeAt s (p .offset + 1)
+unfolding placeAt step isEol
+place-feed s p i h z = rw (← like-next s (p .offset) _ h (like-whole s p i), z)
+
+pub place-next-line : (s : List ℕ) (p : Place) (e : ℕ) → IsPlace s p → p .offset < length s → getD s (p .offset) 0 ≡ 10
+    → e ≡ spanEnd (is 32) s (p .offset + 1) → record { offset = e; line = p .line + 1; column = e - p .offset } ≡ placeAt s e
+place-next-line s p e i h z w =
+    let n = p .offset + 1 in
+    let from : n ≤ e = rw w (span-from (is 32) s n) in
+    let to : e ≤ length s = rw w (span-within (is 32) s n (omega arith)) in
+    let f : (k : ℕ) → n ≤ k → k < e → isEol (getD s k 0) ≡ false = λ k u v. space-plain (getD s k 0) (span-all (is 32) s n k u (rw w at v)) in
+    let columns : e - p .offset ≡ 1 + (e - n) = omega arith in
+    rw columns (place-along s (record { offset = n; line = p .line + 1; column = 1 }) e (place-feed s p i h z) from to f)
+
 -- behind a byte that ends no line
 pub whole-after : (s : List ℕ) (o : ℕ) → o < length s → isEol (getD s o 0) ≡ false → Whole s (o + 1)
 unfolding Whole

@@ -18,7 +18,7 @@ use Rattle.changes.specs.Changes.{changes, changesBytes}
 use Rattle.comparing.specs.declared.Comparing.{Comparing}
 use Rattle.comparing.specs.Comparing.{bytesOf, judged, comparingReport}
 use Rattle.exports.specs.Exports.{exported, noReading}
-use Rattle.chuntarek.specs.Answers.{readGives, readBy, storeLeft, storeBy, areaLeft, areaBy, renderGives, renderBy, renderLeft, renderedBy, compareBy, compareGives, comparedBy, listLeft}
+use Rattle.answers.specs.Answers.{readGives, readBy, storeLeft, storeBy, areaLeft, areaBy, renderGives, renderBy, renderLeft, renderedBy, compareBy, compareGives, comparedBy, listLeft}
 use Rattle.written.specs.Results.{storeBytes, areaBytes}
 use Rattle.round_trip.specs.Claims.{renderedBytes, Renderable}
 use Rattle.compared.specs.Members.{In}

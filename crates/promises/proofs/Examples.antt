@@ -15,7 +15,7 @@ use Rattle.records.specs.Records.{tokenBytes, decimalBytes, endRecord, placeRec
 use Rattle.records.specs.Put.{front}
 use Rattle.entries.specs.Entries.{de32, de64, noParts, tokenOf as tokenAt, partsOf, plainFields, partsFields, fieldsOf, isKind, entryOf, entryAt}
 use Rattle.grammar.specs.Machine.{Rec}
-use Rattle.putting.specs.Written.{tokenOf, tokenText, decimalOf, shaped, shapeIn, recordBytes}
+use Rattle.desk.specs.Written.{tokenOf, tokenText, decimalOf, shaped, shapeIn, recordBytes}
 use Rattle.walking.specs.Writing.{tagsOf, storeOf}
 use Rattle.reading.specs.Services.{readStoreBy, readStore, readAreaBy, readArea}
 use Rattle.refusals.specs.Answers.{writtenIf}

@@ -22,7 +22,7 @@ use Rattle.rules.specs.declared.Named.{Named}
 use Rattle.rules.specs.declared.Named.the-variants.{Known, Unknown}
 use Rattle.rules.specs.Rules.{readingNumber, named}
 use Rattle.exports.specs.Exports.{exported}
-use Rattle.chuntarek.specs.Answers.{readBy, readGives, storeBy, storeLeft, areaBy, areaLeft, outlineBy, outlineGives, outlinedBy, outlineLeft, renderBy, renderGives, renderedBy, renderLeft}
+use Rattle.answers.specs.Answers.{readBy, readGives, storeBy, storeLeft, areaBy, areaLeft, outlineBy, outlineGives, outlinedBy, outlineLeft, renderBy, renderGives, renderedBy, renderLeft}
 use Rattle.grammar.specs.Machine.{Rec, done}
 use Rattle.grammar.specs.Reading.{outline}
 use Rattle.stores.specs.Soundness.{sound}

@@ -7,13 +7,13 @@ use lib.Dec.{eqb}
 use Rattle.places.specs.Reports.{success, refusedAt, refusedBare, noRoom}
 use Rattle.places.specs.declared.Place.{Place}
 use Rattle.places.specs.declared.Report.{Report}
-use Rattle.deciding.specs.declared.Decision.{Decision}
-use Rattle.deciding.specs.declared.Decision.the-variants.{Fits, Refused as RefusedText}
+use Rattle.decisions.specs.declared.Decision.{Decision}
+use Rattle.decisions.specs.declared.Decision.the-variants.{Fits, Refused as RefusedText}
 use Rattle.grammar.specs.declared.Cause.{Cause}
 use Rattle.grammar.specs.declared.Cause.the-variants.{NotAscii, NoData, OpenFrame, Ragged, NoValue, NoItem, NoNames, OverLimit, NotParted, LongLine, BadName, ControlByte}
 use Rattle.grammar.specs.Causes.{causeNumber, causeDetail}
 use Rattle.grammar.proofs.Causes.{cause-has-place}
-use Rattle.deciding.specs.Decisions.{Told, refusal, room, told}
+use Rattle.decisions.specs.Decisions.{Told, refusal, room, told}
 use Rattle.rendering.specs.declared.Rendered.{Rendered}
 use Rattle.rendering.specs.declared.Rendered.the-variants.{Done as DoneText, NotSound, TooLong as TooLongText, NoRoom as NoRoomText}
 use Rattle.rendering.specs.Rendering.{renderedReport}

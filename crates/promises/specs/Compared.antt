@@ -8,7 +8,7 @@ use Rattle.places.specs.Reports.{success}
 use Rattle.changes.specs.declared.Change.{Change}
 use Rattle.changes.specs.Changes.{changes, changesBytes}
 use Rattle.exports.specs.Exports.{exported}
-use Rattle.chuntarek.specs.Answers.{compareGives, listLeft}
+use Rattle.answers.specs.Answers.{compareGives, listLeft}
 use Rattle.compared.specs.Members.{In}
 use Rattle.compared.specs.Turned.{turned}
 

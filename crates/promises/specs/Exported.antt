@@ -10,7 +10,7 @@ use Rattle.rules.specs.declared.Reading.{Reading}
 use Rattle.rules.specs.Rules.{readingNumber}
 use Rattle.places.specs.Reports.{success}
 use Rattle.exports.specs.Exports.{exported}
-use Rattle.chuntarek.specs.Answers.{readGives, storeLeft, areaLeft, outlineGives, outlineLeft, renderGives, renderLeft}
+use Rattle.answers.specs.Answers.{readGives, storeLeft, areaLeft, outlineGives, outlineLeft, renderGives, renderLeft}
 use Rattle.rendering.specs.Rendering.{rendering}
 use Rattle.written.specs.Sayings.{SaySame}
 

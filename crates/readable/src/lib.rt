@@ -6,10 +6,10 @@ ghost use lib.ListN.{length};
 ghost use Rattle.quotes.specs.Content.{plain};
 ghost use Rattle.values.specs.Alone.{isAlone};
 ghost use Rattle.readable.specs.Readable.{isName, readableBy};
+use found::Found;
 use kinds::Kind;
 use quotes::Closing;
 use rules::Reading;
-use values::Found;
 
 // One word, perhaps an empty one.
 pub fn is_name(content: &[u8]) -> bool

@@ -22,7 +22,7 @@ use Rattle.sizes.specs.Sizes.{contentSize, storeSize, areaSize}
 use Rattle.grammar.specs.Reading.{decided, outline}
 use Rattle.text.specs.Limits.{limit}
 use Rattle.walking.specs.Writing.{areaOf}
-use Rattle.putting.specs.Written.{contentOf}
+use Rattle.desk.specs.Written.{contentOf}
 use Rattle.reading.specs.Services.{readRoom, readBy, readAnswer}
 use Rattle.refusals.specs.Answers.{refusal}
 use Rattle.readings.specs.Readings.{bytes, rowOf, seen, asked, reads, means, done-with, decimal, whole, readings, ReadingsHold}

@@ -28,7 +28,7 @@ use Rattle.records.specs.Bytes.{flag}
 use Rattle.entries.specs.Entries.{noParts, stored, isKind}
 use Rattle.grammar.specs.Machine.{Rec, loopEnd}
 use Rattle.sizes.specs.Sizes.{contentSize, storeSize, areaSize}
-use Rattle.putting.specs.Written.{tokenText as textOf, contentOf, decimalOf as readDecimal}
+use Rattle.desk.specs.Written.{tokenText as textOf, contentOf, decimalOf as readDecimal}
 use Rattle.readable.specs.Tokens.{mark}
 use Rattle.contents.specs.Contents.{partsKept, contentLength, contentBytes}
 use Rattle.stores.specs.Soundness.{takes}

@@ -44,7 +44,7 @@ use Rattle.values.specs.Alone.{isKind, isAlone}
 use Rattle.grammar.specs.Tokens.{inBlock}
 use Rattle.grammar.specs.Machine.{Rec, loopEnd}
 use Rattle.sizes.specs.Sizes.{contentSize}
-use Rattle.putting.specs.Written.{contentOf}
+use Rattle.desk.specs.Written.{contentOf}
 use Rattle.written.proofs.Runs.{all-span, span-all}
 use Rattle.written.proofs.Lexing.{modeOf, never, Worded, keyTag, heading-word, opening-word, tag-word, plainKey, key-word}
 use Rattle.written.proofs.Taken.{Took}

@@ -22,7 +22,7 @@ use Rattle.grammar.specs.Machine.{Rec, done}
 use Rattle.grammar.specs.Reading.{outline}
 use Rattle.sizes.specs.Sizes.{contentSize}
 use Rattle.walking.specs.Writing.{tagsOf, storeOf, areaOf}
-use Rattle.putting.specs.Written.{tokenOf, contentOf, decimalOf}
+use Rattle.desk.specs.Written.{tokenOf, contentOf, decimalOf}
 use Rattle.readable.specs.Readable.{keepsLines, readable}
 use Rattle.contents.specs.Contents.{exponentKept, partsKept, contentLength, ownRule, contentBytes, lies, isInside, isReadable}
 use Rattle.stores.specs.Soundness.{takes, filledFrom, filled, sound, follows, kept}

@@ -2,7 +2,7 @@
 -- reading no mark before space; a line end at its end, and no `;` behind one before, in a text field); a bare value by the answer there. Assumes nothing.
 use Prim.Native.Nat.{ℕ, suc, _+_, _-_, _≤_, _<_}
 use mathlib.Core.Path.{_≡_, refl, sym, ap, ap₂, _∙_}
-use mathlib.Core.Bool.{Bool, true, false, cond, _&&_, _||_, and-false, true≢false, false≢true}
+use mathlib.Core.Bool.{true, false, _&&_, and-false, true≢false, false≢true}
 use mathlib.Core.List.{List, [], _∷_, _++_}
 use mathlib.Core.Option.{Option, none, some}
 use native.Mathlib.Omega.{arith}
@@ -23,7 +23,7 @@ use Rattle.quotes.specs.Answers.{fieldEnd}
 use Rattle.quotes.specs.Content.{plain, strictPlain, lastEol, endsAt, isNone}
 use Rattle.quotes.proofs.Quotes.{field-behind, field-nothing}
 use Rattle.quotes.proofs.Content.{quoted-plain, strict-plain, field-content, last-eol, last-none}
-use Rattle.values.specs.declared.Found.the-variants.{Value}
+use Rattle.found.specs.declared.Found.the-variants.{Value}
 use Rattle.values.specs.Values.{Reason, openQuote, openField, Class, block, loop, save, tag, value, overLimit, nothing, Lexed, lexed, closed, lexValue, lexAsValue}
 use Rattle.values.specs.Finding.{foundAt}
 use Rattle.values.specs.Alone.{isKind, isAlone}

@@ -9,7 +9,6 @@ use lib.Dec.{ltb, eqb}
 use lib.ListN.{length, drop, getD}
 use Rattle.rules.specs.declared.Reading.{Reading}
 use Rattle.text.specs.Bytes.{is, isDigit}
-use Rattle.columns.specs.Before.{byteBefore, isParted}
 use Rattle.text.proofs.Bools.{and-l, and-r, or-l, or-r, or-cases}
 use Rattle.text.proofs.Ranges.{allBelow, digit-is}
 use Rattle.words.specs.Words.{wordEnd, isOrdinary}
@@ -22,10 +21,11 @@ use Rattle.numbers.specs.Pieces.{startsNumber}
 use Rattle.decimals.specs.Plain.{decimalEnd}
 use Rattle.numbers.proofs.Judged.{starts-none}
 use Rattle.decimals.proofs.Words.{PlainWord, plain-word}
-use Rattle.values.specs.declared.Why.the-variants.{NoStart}
-use Rattle.values.specs.declared.Found.the-variants.{Value, Missing}
-use Rattle.values.specs.Finding.{startsDecimal, foundAt}
-use Rattle.values.specs.Pieces.{Start, judgedOr, numberAt, wordAt, pointAt, unknownAt, quoteAt, semicolonAt}
+use Rattle.found.specs.declared.Why.the-variants.{NoStart}
+use Rattle.found.specs.declared.Found.the-variants.{Value, Missing}
+use Rattle.values.specs.Finding.{startsDecimal, foundAt, Start}
+use Rattle.unquoted.specs.Pieces.{judgedOr, numberAt, wordAt, pointAt, unknownAt}
+use Rattle.enclosed.specs.Pieces.{quoteAt, semicolonAt}
 use Rattle.values.proofs.Pieces.{found-unknown, found-quote, found-double, found-semicolon, found-point, found-word, found-none, bare-word}
 
 -- an ordinary byte that starts a word

@@ -1,7 +1,7 @@
 -- Laws of values: what is found says of the token there, where that token lies, and what a number means. Assumes nothing.
 use Prim.Native.Nat.{ℕ, zero, suc, _+_, _-_, _≤_, _<_}
 use mathlib.Core.Path.{_≡_, refl, sym, ap, _∙_}
-use mathlib.Core.Bool.{Bool, true, false, cond, _||_}
+use mathlib.Core.Bool.{true, false, cond, _||_}
 use mathlib.Core.List.{List, [], _∷_}
 use mathlib.Core.Option.{some}
 use native.Mathlib.Omega.{arith}
@@ -27,13 +27,16 @@ use Rattle.numbers.proofs.Judged.{meaning-uncertain}
 use Rattle.numbers.specs.declared.Decimal.{Decimal}
 use Rattle.kinds.specs.Kinds.{kindOf, marksOf, isValueKind}
 use Rattle.kinds.proofs.Marks.{value-kind, value-marks}
-use Rattle.values.specs.declared.Why.{Why}
+use Rattle.found.specs.declared.Why.{Why}
 use Rattle.values.specs.declared.Value.the-variants.{Token, Number, Over as OverAnswer, Missing as MissingAnswer}
-use Rattle.values.specs.declared.Found.{Found}
-use Rattle.values.specs.declared.Found.the-variants.{Value, Over, Missing}
-use Rattle.values.specs.Values.{atEnd, reservedWord, noStart, Class, block, loop, save, tag, value, overLimit, nothing, Lexed, lexed, quoteKind, parted, lexValue, lexAsValue}
-use Rattle.values.specs.Answers.{wanted, meant, valueAnswer, valueAt}
-use Rattle.values.specs.Finding.{foundAt, kindOfNumber}
+use Rattle.found.specs.declared.Found.{Found}
+use Rattle.found.specs.declared.Found.the-variants.{Value, Over, Missing}
+use Rattle.values.specs.Values.{atEnd, reservedWord, noStart, Class, block, loop, save, tag, value, overLimit, nothing, Lexed, lexed, parted, lexValue, lexAsValue}
+use Rattle.enclosed.specs.Pieces.{quoteKind}
+use Rattle.values.specs.Answers.{whyNot, wanted, meant, valueAnswer, valueAt}
+use Rattle.values.specs.Finding.{foundAt}
+use Rattle.found.specs.Packing.{whyFound}
+use Rattle.unquoted.specs.Pieces.{kindOfNumber}
 use Rattle.values.proofs.Views.{Read, missing, point, unknown, bare, quote, double, multi, number, over, view}
 
 -- What is found, and the token that stands there
@@ -53,6 +56,17 @@ wanted-value loop m k n e = never (cc)
 wanted-value save m k n e = never (cc)
 wanted-value tag m k n e = never (cc)
 wanted-value (nothing w) m k n e = never (cc)
+
+-- why none is found where a token stands
+pub wanted-why : (c : Class) (n : ℕ) → whyNot c ≡ whyFound (wanted c n)
+unfolding whyNot wanted
+wanted-why (value j) n = refl
+wanted-why overLimit n = refl
+wanted-why block n = refl
+wanted-why loop n = refl
+wanted-why save n = refl
+wanted-why tag n = refl
+wanted-why (nothing r) n = refl
 
 -- what is found is what the token there is, as a value
 pub found-as-value : (r : Reading) (s : List ℕ) (o : ℕ) → foundAt r s o ≡ wanted (lexAsValue r (byteBefore s o) (drop o s) .class) (lexAsValue r (byteBefore s o) (drop o s) .size)

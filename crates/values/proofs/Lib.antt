@@ -4,7 +4,6 @@ pub mod Laws
 pub mod Tokens
 pub mod Ended
 pub mod Alone
-pub mod Choices
 pub mod First
 pub mod Packs
 pub mod Numerals

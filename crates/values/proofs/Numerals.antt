@@ -24,7 +24,8 @@ use Rattle.numbers.specs.Pieces.{startsNumber}
 use Rattle.numbers.proofs.Facts.{counts-none, is-not, dot-alone}
 use Rattle.numbers.proofs.Judged.{starts-none, none-by-first-byte}
 use Rattle.columns.specs.Before.{isParted}
-use Rattle.values.specs.Values.{Reason, noStart, openQuote, openField, reservedWord, joined, atEnd, Class, block, loop, save, tag, value, overLimit, nothing, Lexed, lexed, numberOr, wordOr, wholeWord, closed, aloneOr, pointed, asked, quoteKind, fielded, parted, lexValue, lexAsValue}
+use Rattle.values.specs.Values.{Reason, noStart, openQuote, openField, reservedWord, joined, atEnd, Class, block, loop, save, tag, value, overLimit, nothing, Lexed, lexed, numberOr, wordOr, wholeWord, closed, aloneOr, pointed, asked, fielded, parted, lexValue, lexAsValue}
+use Rattle.enclosed.specs.Pieces.{quoteKind}
 use Rattle.values.proofs.Views.{pick}
 
 -- kinds 14 and 15

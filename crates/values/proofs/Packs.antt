@@ -1,37 +1,16 @@
 -- What is found as one number, and back. Assumes nothing.
-use Prim.Native.Nat.{ℕ, _+_, _*_, _/_, _%_, _≤_, _<_}
-use mathlib.Core.Path.{_≡_, refl, sym, _∙_}
+use Prim.Native.Nat.{ℕ, _≤_, _<_}
+use mathlib.Core.Path.{_≡_, refl, _∙_}
 use mathlib.Core.List.{List}
 use native.Mathlib.Omega.{arith}
-use borrow.Author.Tests.{le-leb}
 use Rattle.rules.specs.declared.Reading.{Reading}
 use Rattle.rules.specs.declared.Reading.the-variants.{First, Strict}
-use Rattle.values.specs.declared.Why.{Why}
-use Rattle.values.specs.declared.Why.the-variants.{AtEnd, Reserved, NoStart, OpenQuote, OpenField, Joined}
-use Rattle.values.specs.declared.Found.{Found}
-use Rattle.values.specs.declared.Found.the-variants.{Value, Over, Missing}
-use Rattle.values.specs.Finding.{foundAt, pack, packedOf, packedAt, whyOfNumber, unpackedOf}
+use Rattle.found.specs.declared.Found.{Found}
+use Rattle.found.specs.declared.Found.the-variants.{Value, Over, Missing}
+use Rattle.values.specs.Finding.{foundAt, packedAt}
+use Rattle.found.specs.Packing.{packedOf, unpackedOf}
 use Rattle.values.proofs.Laws.{highest, found-lies}
-
-unpack-value : (k n : ℕ) → k < 32 → 0 < n → unpackedOf (pack k n) ≡ Value k n
-unfolding unpackedOf pack
-unpack-value k n h l =
-    let a : (k + n * 32) % 32 ≡ k = omega arith in
-    let b : (k + n * 32) / 32 ≡ n = omega arith in
-    rw (le-leb 32 (k + n * 32) (omega arith), a, b)
-
-unpack-missing : (w : Why) → unpackedOf (packedOf (Missing w)) ≡ Missing w
-unfolding unpackedOf whyOfNumber
-unpack-missing AtEnd = refl
-unpack-missing Reserved = refl
-unpack-missing NoStart = refl
-unpack-missing OpenQuote = refl
-unpack-missing OpenField = refl
-unpack-missing Joined = refl
-
-unpack-over : unpackedOf (packedOf Over) ≡ Over
-unfolding unpackedOf
-unpack-over = refl
+use Rattle.found.proofs.Packing.{unpack-value, unpack-missing, unpack-over}
 
 -- a kind is below 32
 small : (r : Reading) (k : ℕ) → k ≤ highest r → k < 32

@@ -8,7 +8,7 @@ use native.Mathlib.Numerals.{add-one}
 use native.Mathlib.Omega.{arith}
 use borrow.Author.Tests.{ne-eqb}
 use lib.Dec.{eqb}
-use lib.ListN.{length, take, drop, getD, drop-of-length-le, length-drop}
+use lib.ListN.{length, take, drop, getD, drop-of-length-le}
 use lib.Seq.{drop-cons, getD-drop}
 use Rattle.rules.specs.declared.Reading.{Reading}
 use Rattle.rules.specs.declared.Reading.the-variants.{First, Strict}
@@ -17,80 +17,21 @@ use Rattle.columns.specs.Before.{byteBefore, isParted}
 use Rattle.words.specs.Words.{word, wordEnd, isOrdinary}
 use Rattle.keywords.specs.Keywords.{reserved}
 use Rattle.quotes.specs.Quotes.{quotedBy, field}
-use Rattle.quotes.specs.Answers.{quoteEnd, fieldEnd}
-use Rattle.quotes.specs.declared.Closing.{Closing}
-use Rattle.quotes.specs.declared.Closing.the-variants.{Behind, Nothing}
 use Rattle.words.proofs.Words.{word-size}
-use Rattle.quotes.proofs.Quotes.{Ends, quote-behind, quote-nothing, field-behind, field-nothing, field-ends}
-use Rattle.quotes.proofs.Strict.{quoted-ends}
 use Rattle.numbers.specs.Parts.{parts, countsAs, within}
 use Rattle.numbers.specs.Meaning.{meaning, numberOf}
 use Rattle.numbers.specs.Pieces.{startsNumber}
 use Rattle.numbers.specs.declared.Decimal.{Decimal}
-use Rattle.numbers.specs.declared.Number.{Number}
 use Rattle.numbers.specs.declared.Number.the-variants.{Not, Is, Over as Long}
 use Rattle.numbers.proofs.Judged.{number-judged, meaning-uncertain, none-by-first-byte, none-by-point}
-use Rattle.values.specs.declared.Found.{Found}
-use Rattle.values.specs.declared.Found.the-variants.{Value, Over, Missing}
-use Rattle.values.specs.declared.Why.{Why}
-use Rattle.values.specs.declared.Why.the-variants.{AtEnd, Reserved, NoStart, OpenQuote, OpenField, Joined}
-use Rattle.values.specs.Values.{Reason, reservedWord, openQuote, openField, value, overLimit, nothing, Lexed, lexed, numberOr, wordOr, wholeWord, closed, aloneOr, pointed, asked, quoteKind, fielded, parted, lexValue, lexAsValue}
+use Rattle.found.specs.declared.Found.{Found}
+use Rattle.found.specs.declared.Found.the-variants.{Value, Missing}
+use Rattle.found.specs.declared.Why.the-variants.{AtEnd, Reserved, NoStart, Joined}
+use Rattle.values.specs.Values.{Reason, reservedWord, openQuote, openField, value, overLimit, nothing, Lexed, lexed, numberOr, wordOr, wholeWord, closed, aloneOr, pointed, asked, fielded, parted, lexValue, lexAsValue}
+use Rattle.enclosed.specs.Pieces.{quoteKind, between, quoteAt, fieldAt, semicolonAt}
 use Rattle.values.specs.Answers.{whyOf, whyNot, wanted}
-use Rattle.values.specs.Finding.{kindOfNumber, foundAt, packedOf}
-use Rattle.values.specs.Pieces.{judgedOr, numberAt, wordAt, firstPoint, aloneAt, pointAt, unknownAt, between, quoteAt, fieldAt, semicolonAt}
-
--- what a number found says
-module _ (r : Reading) (other : Found) (s : List ℕ) (o e : ℕ) (j : Number) (q : j ≡ numberOf r (take (e - o) (drop o s))) where
-  pub number-is : (d : Decimal) → j ≡ Is d → Value (kindOfNumber d) (e - o) ≡ numberAt r other s o e
-  unfolding numberAt judgedOr
-  number-is d p = rw (← q, p)
-
-  pub number-over : j ≡ Long → Over ≡ numberAt r other s o e
-  unfolding numberAt judgedOr
-  number-over p = rw (← q, p)
-
-  pub number-not : j ≡ Not → other ≡ numberAt r other s o e
-  unfolding numberAt judgedOr
-  number-not p = rw (← q, p)
-
--- what a closing found says: where the value ends, inside the text
-pub record Closes (s : List ℕ) (o e k : ℕ) (f : Found) : Type 0 where
-  pub from : o ≤ e
-  pub within : e ≤ length s
-  pub value : Value k (e - o) ≡ f
-
-module _ (k : ℕ) (w : Why) (s : List ℕ) (o e : ℕ) (x : Option ℕ) where
-  between-found : (o + 1 ≤ e) × (x ≡ some (e - (o + 1))) → e - (o + 1) ≤ length (drop (o + 1) s) → o < length s → Closes s o e k (between k w x)
-  unfolding between
-  between-found f l h =
-      let n : suc (e - (o + 1)) ≡ e - o = omega (arith, f .0) in
-      record { from = omega (arith, f .0); within = omega (arith, f .0, l, length-drop (o + 1) s); value = rw (f .1, n) }
-
-  between-none : x ≡ none → Missing w ≡ between k w x
-  unfolding between
-  between-none f = rw f
-
-module _ (r : Reading) (m k : ℕ) (s : List ℕ) (o : ℕ) (c : Closing) (q : c ≡ quoteEnd r m s (o + 1)) where
-  pub quote-found : (e : ℕ) → c ≡ Behind e → o < length s → Closes s o e (quoteKind r k) (quoteAt r m k s o)
-  unfolding quoteAt
-  quote-found e p h =
-      let b = quote-behind r m s (o + 1) e (sym q ∙ p) in
-      between-found (quoteKind r k) OpenQuote s o e (quotedBy r m (drop (o + 1) s)) b (quoted-ends r m (drop (o + 1) s) (e - (o + 1)) (b .1) .fits) h
-
-  pub quote-none : c ≡ Nothing → Missing OpenQuote ≡ quoteAt r m k s o
-  unfolding quoteAt
-  quote-none p = between-none (quoteKind r k) OpenQuote s o 0 (quotedBy r m (drop (o + 1) s)) (quote-nothing r m s (o + 1) (sym q ∙ p))
-
-module _ (s : List ℕ) (o : ℕ) (c : Closing) (q : c ≡ fieldEnd s (o + 1)) where
-  pub field-found : (e : ℕ) → c ≡ Behind e → o < length s → Closes s o e 13 (fieldAt s o)
-  unfolding fieldAt
-  field-found e p h =
-      let b = field-behind s (o + 1) e (sym q ∙ p) in
-      between-found 13 OpenField s o e (field (drop (o + 1) s)) b (field-ends (drop (o + 1) s) (e - (o + 1)) (b .1) .fits) h
-
-  pub field-none : c ≡ Nothing → Missing OpenField ≡ fieldAt s o
-  unfolding fieldAt
-  field-none p = between-none 13 OpenField s o 0 (field (drop (o + 1) s)) (field-nothing s (o + 1) (sym q ∙ p))
+use Rattle.values.specs.Finding.{foundAt}
+use Rattle.unquoted.specs.Pieces.{judgedOr, numberAt, wordAt, firstPoint, aloneAt, pointAt, unknownAt}
 
 -- what is found where a token stands
 abbrev foundOf : Lexed → Found

@@ -1,9 +1,9 @@
 -- The token at a byte where a value may start: space and comments start none; it lies in the text; it has bytes unless nothing can be read; its class is a
 -- value's or one of three reasons. Assumes nothing.
-use Prim.Native.Nat.{ℕ, suc, _≤_, _<_}
+use Prim.Native.Nat.{ℕ, _≤_, _<_}
 use mathlib.Core.Path.{_≡_, refl}
 use mathlib.Core.Bool.{Bool, true, false, cond, _||_}
-use mathlib.Core.List.{List, [], _∷_}
+use mathlib.Core.List.{List, _∷_}
 use mathlib.Core.Logic.{_⊎_, inl, inr}
 use mathlib.Core.Option.{Option, none, some}
 use native.Mathlib.Omega.{arith}
@@ -20,7 +20,8 @@ use Rattle.quotes.specs.Quotes.{quotedBy, field}
 use Rattle.quotes.proofs.Quotes.{field-ends}
 use Rattle.quotes.proofs.Strict.{quoted-ends}
 use Rattle.numbers.specs.Parts.{parts, countsAs, within}
-use Rattle.values.specs.Values.{Reason, noStart, openQuote, openField, Class, value, overLimit, nothing, Lexed, lexed, numberOr, wordOr, wholeWord, closed, aloneOr, pointed, asked, quoteKind, fielded, lexValue}
+use Rattle.values.specs.Values.{Reason, noStart, openQuote, openField, Class, value, overLimit, nothing, Lexed, lexed, numberOr, wordOr, wholeWord, closed, aloneOr, pointed, asked, fielded, lexValue}
+use Rattle.enclosed.specs.Pieces.{quoteKind}
 use Rattle.values.proofs.Views.{Read, missing, point, unknown, bare, quote, double, multi, number, over, value-view}
 
 -- no value starts with space or `#`

@@ -18,7 +18,8 @@ use Rattle.numbers.specs.Parts.{parts, countsAs, within}
 use Rattle.numbers.specs.Meaning.{meaning, numberOf}
 use Rattle.numbers.specs.declared.Number.the-variants.{Is}
 use Rattle.numbers.proofs.Judged.{number-judged}
-use Rattle.values.specs.Values.{Reason, atEnd, reservedWord, noStart, openQuote, openField, joined, value, overLimit, nothing, Lexed, lexed, numberOr, wordOr, wholeWord, closed, aloneOr, pointed, asked, quoteKind, enclosed, fielded, parted, lexValue, lexAsValue}
+use Rattle.values.specs.Values.{Reason, atEnd, reservedWord, noStart, openQuote, openField, joined, value, overLimit, nothing, Lexed, lexed, numberOr, wordOr, wholeWord, closed, aloneOr, pointed, asked, fielded, parted, lexValue, lexAsValue}
+use Rattle.enclosed.specs.Pieces.{quoteKind}
 
 -- what x, the token at the start of s, is
 pub data Read (r : Reading) (s : List ℕ) : Lexed → Type 0 where

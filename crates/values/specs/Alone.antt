@@ -5,7 +5,7 @@ use mathlib.Core.List.{List}
 use lib.Dec.{eqb}
 use lib.ListN.{length}
 use Rattle.rules.specs.declared.Reading.{Reading}
-use Rattle.values.specs.Values.{Class, block, loop, save, tag, value, overLimit, nothing, lexAsValue}
+use Rattle.values.specs.Values.{Class, block, loop, save, tag, value, overLimit, nothing, Lexed, lexAsValue}
 
 -- a class is a value of kind k
 unfoldable pub isKind : ℕ → Class → Bool

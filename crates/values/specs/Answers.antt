@@ -1,6 +1,6 @@
 -- What stands where a value is wanted: one, by its kind and length; a number over a digit limit; or why there is none. And the same with its meaning. Assumes nothing.
 use Prim.Native.Nat.{ℕ}
-use mathlib.Core.Bool.{Bool, cond, _||_}
+use mathlib.Core.Bool.{cond, _||_}
 use mathlib.Core.List.{List}
 use lib.Dec.{eqb}
 use lib.ListN.{take, drop}
@@ -10,10 +10,10 @@ use Rattle.numbers.specs.Parts.{parts}
 use Rattle.numbers.specs.Meaning.{meaning}
 use Rattle.values.specs.declared.Value.{Value as Answer}
 use Rattle.values.specs.declared.Value.the-variants.{Token, Number, Over as OverAnswer, Missing as MissingAnswer}
-use Rattle.values.specs.declared.Found.{Found}
-use Rattle.values.specs.declared.Found.the-variants.{Value, Over, Missing}
-use Rattle.values.specs.declared.Why.{Why}
-use Rattle.values.specs.declared.Why.the-variants.{AtEnd, Reserved, NoStart, OpenQuote, OpenField, Joined}
+use Rattle.found.specs.declared.Found.{Found}
+use Rattle.found.specs.declared.Found.the-variants.{Value, Over, Missing}
+use Rattle.found.specs.declared.Why.{Why}
+use Rattle.found.specs.declared.Why.the-variants.{AtEnd, Reserved, NoStart, OpenQuote, OpenField, Joined}
 use Rattle.values.specs.Values.{Reason, atEnd, reservedWord, noStart, openQuote, openField, joined, Class, block, loop, save, tag, value, overLimit, nothing, Lexed, lexAsValue}
 
 unfoldable pub whyOf : Reason → Why
@@ -33,16 +33,6 @@ whyNot loop = Reserved
 whyNot save = Reserved
 whyNot (value k) = AtEnd
 whyNot overLimit = AtEnd
-
--- the reason's number (document 02, One): the text ends; a reserved word; a byte that starts no value; a quote, a text field that is not
--- closed; that no space parts it from the token before is a refusal of its own, and has that one's number (Three)
-abbrev pub numberOfWhy : Why → ℕ
-numberOfWhy AtEnd = 1
-numberOfWhy Reserved = 2
-numberOfWhy NoStart = 3
-numberOfWhy OpenQuote = 4
-numberOfWhy OpenField = 5
-numberOfWhy Joined = 15
 
 -- a token where a value is wanted
 unfoldable pub wanted : Class → ℕ → Found

@@ -2,7 +2,7 @@
 -- from it on and, in the strict reading, on the byte before it, and on nothing else. Where the readings differ a small definition goes by cases; the rest is said once.
 -- Assumes nothing.
 use Prim.Native.Nat.{ℕ, suc}
-use mathlib.Core.Bool.{Bool, cond, _||_}
+use mathlib.Core.Bool.{cond}
 use mathlib.Core.List.{List, [], _∷_}
 use mathlib.Core.Option.{Option, none, some}
 use lib.Dec.{eqb}
@@ -13,6 +13,7 @@ use Rattle.text.specs.Bytes.{is, isEol, isSpace, doubleQuote, singleQuote, full
 use Rattle.words.specs.Words.{word, isOrdinary}
 use Rattle.keywords.specs.Keywords.{reserved}
 use Rattle.quotes.specs.Quotes.{quotedBy, field}
+use Rattle.enclosed.specs.Pieces.{quoteKind}
 use Rattle.numbers.specs.Parts.{Parts, parts, countsAs, within}
 
 -- why no value stands here: the end; a reserved word; a byte that starts none; a quote, a text field that is not closed; in the strict reading, that no space parts it
@@ -65,11 +66,6 @@ pointed Strict s = aloneOr 8 s
 abbrev pub asked : Reading → List ℕ → Lexed
 asked First s = lexed (value 9) 1
 asked Strict s = aloneOr 9 s
-
--- the kind of a quoted value: by its mark, or one for both
-abbrev pub quoteKind : Reading → ℕ → ℕ
-quoteKind First kind = kind
-quoteKind Strict kind = 21
 
 -- behind an opening mark
 abbrev pub enclosed : Reading → ℕ → ℕ → List ℕ → Lexed

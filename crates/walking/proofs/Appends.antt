@@ -8,10 +8,10 @@ use native.Mathlib.Nat.{add-zero}
 use lib.ListN.{length, length-append}
 use Rattle.grammar.specs.Machine.{Rec}
 use Rattle.sizes.specs.Sizes.{contentSize, storeSize, outlineSize, areaSize}
-use Rattle.putting.specs.Written.{recordBytes}
+use Rattle.desk.specs.Written.{recordBytes}
 use Rattle.walking.specs.Writing.{tagsOf, storeOf, areaOf}
-use Rattle.putting.specs.Desk.{storeLength}
-use Rattle.putting.proofs.Bytes.{record-length, store-none}
+use Rattle.desk.specs.Desk.{storeLength}
+use Rattle.desk.proofs.Bytes.{record-length, store-none}
 
 -- the store's bytes are as many as the sizes say
 pub store-length : (full : Bool) (s : List ℕ) (a : ℕ) (rs : List Rec) → length (storeOf full s a rs) ≡ storeLength full rs

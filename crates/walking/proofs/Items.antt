@@ -20,8 +20,8 @@ use Rattle.words.proofs.Words.{word-end}
 use Rattle.values.specs.Values.{Class, block, loop, save, tag, value, overLimit, nothing, lexed}
 use Rattle.kinds.specs.Kinds.{kindOf, marksOf, isValueKind}
 use Rattle.kinds.proofs.Marks.{each-value}
-use Rattle.values.specs.declared.Found.{Found}
-use Rattle.values.specs.declared.Found.the-variants.{Value, Over, Missing}
+use Rattle.found.specs.declared.Found.{Found}
+use Rattle.found.specs.declared.Found.the-variants.{Value, Over, Missing}
 use Rattle.grammar.specs.Tokens.{inBlock, lexIn, after, Tok, tok, tokensAt, headAt, headWhy, tagAt, loopAt}
 use Rattle.grammar.specs.Machine.{Rec, rec, loopEnd, lacksValues, lastAt}
 use Rattle.grammar.specs.Descent.{nameRecs, afterNames, valueRecs, afterValues, Item, taken, failed, absent, broken, isOver, headTag, headJoined, failedBy, rows, loopBy, loopValued, loopItem, single, tagValued, tagItem, itemBy, item}
@@ -35,14 +35,15 @@ use Rattle.grammar.proofs.Descent.{IsName, NoName, name-or-not, names-more, nam
 use Rattle.grammar.proofs.Offsets.{tokens-gap, Met, met-loop, met-tag, first-in, both, both-spot}
 use Rattle.items.proofs.Items.{head-at, item-none}
 use Rattle.items.proofs.Lists.{met-value}
-use Rattle.values.specs.Answers.{wanted, numberOfWhy}
+use Rattle.values.specs.Answers.{wanted}
+use Rattle.found.specs.Packing.{numberOfWhy}
 use Rattle.items.proofs.Wanted.{found-wanted}
 use Rattle.items.proofs.Passes.{names-alike}
 use Rattle.walking.specs.Writing.{tagsOf}
 use Rattle.walking.specs.Walk.{Wrote, Onward, itemRecs, itemRest, isTaken, itemOf, ItemHere, WroteItem}
-use Rattle.putting.specs.Desk.{Desk, Room, IsToken, recAt, WroteOne}
+use Rattle.desk.specs.Desk.{Desk, Room, IsToken, recAt, WroteOne}
 use Rattle.walking.proofs.Appends.{area-size-append, store-length-append}
-use Rattle.putting.proofs.Lines.{part-token}
+use Rattle.desk.proofs.Lines.{part-token}
 use Rattle.walking.specs.Walk.{namesFrom, behindNames, valuesFrom, behindValues}
 use Rattle.walking.proofs.Onward.{onward-here, onward-then, room-onward, wrote-onward, one-onward, onward-wrote}
 use Rattle.walking.proofs.SoFar.{room-first}
@@ -404,9 +405,9 @@ module _ (r : Reading) (full : Bool) (s : List ℕ) (d : Desk) (h : ItemHere r f
         let all = partly-many full s records d e f value-recs [] _ (tag-written e x) (unfold tagsOf in refl) b in
         (all .onward, onward-wrote full s records _ d f (all .onward) (b .going) (b .place))
 
--- where no loop starts, an item that is read is a tag and its value
-pub tag-here : (r : Reading) (s : List ℕ) (o : ℕ) → gap (drop o s) ≡ 0 → loopAt r s o ≡ false → isTaken (itemOf r s o) ≡ true → tagAt r s o ≡ true
-tag-here r s o g e x = by (tagAt r s o) refl
+-- an item that is read is a loop, or a tag and its value
+no-other : (r : Reading) (s : List ℕ) (o : ℕ) → gap (drop o s) ≡ 0 → loopAt r s o ≡ false → tagAt r s o ≡ false → isTaken (itemOf r s o) ≡ true → ⊥
+no-other r s o g e t x = read (itemOf r s o) x (unfold itemAt in item-none r s o g e t)
   where
     read : (i : Item) → isTaken i ≡ true → itemAnswer i ≡ Absent o → ⊥
     read (taken true rs rest) x e = let z : _≡_ {A = ℕ} 0 1 = unfold itemAnswer in cc in omega arith
@@ -415,6 +416,17 @@ tag-here r s o g e x = by (tagAt r s o) refl
     read (absent rest) x e = unfold isTaken in absurd (false≢true x)
     read (broken n a d) x e = unfold isTaken in absurd (false≢true x)
 
-    by : (t : Bool) → tagAt r s o ≡ t → t ≡ true
-    by true t = refl
-    by false t = absurd (read (itemOf r s o) x (unfold itemAt in item-none r s o g e t))
+module _ (r : Reading) (s : List ℕ) (o : ℕ) (g : gap (drop o s) ≡ 0) where
+  pub tag-here : loopAt r s o ≡ false → isTaken (itemOf r s o) ≡ true → tagAt r s o ≡ true
+  tag-here e x = by (tagAt r s o) refl
+    where
+      by : (t : Bool) → tagAt r s o ≡ t → t ≡ true
+      by true t = refl
+      by false t = absurd (no-other r s o g e t x)
+
+  pub loop-here : tagAt r s o ≡ false → isTaken (itemOf r s o) ≡ true → loopAt r s o ≡ true
+  loop-here e x = by (loopAt r s o) refl
+    where
+      by : (t : Bool) → loopAt r s o ≡ t → t ≡ true
+      by true t = refl
+      by false t = absurd (no-other r s o g t e x)

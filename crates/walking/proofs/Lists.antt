@@ -12,15 +12,15 @@ use Rattle.gaps.proofs.Bare.{gap-bare, gap-twice}
 use Rattle.places.proofs.Places.{place-offset}
 use Rattle.kinds.specs.Kinds.{kindOf, shapeOf, isValueKind}
 use Rattle.kinds.proofs.Marks.{each-value}
-use Rattle.values.specs.declared.Found.the-variants.{Value}
+use Rattle.found.specs.declared.Found.the-variants.{Value}
 use Rattle.grammar.specs.Tokens.{inBlock, headAt}
 use Rattle.grammar.specs.Descent.{nameRecs, afterNames, valueRecs, afterValues}
 use Rattle.values.specs.Finding.{foundAt}
 use Rattle.openings.specs.Openings.{nameEnd}
 use Rattle.items.proofs.Items.{head-at}
 use Rattle.grammar.proofs.Offsets.{tokens-gap}
-use Rattle.putting.specs.declared.Cursor.{Cursor}
-use Rattle.putting.specs.Desk.{Desk, desk, Room, IsToken, recAt, WroteOne, ValueHere}
+use Rattle.desk.specs.declared.Cursor.{Cursor}
+use Rattle.desk.specs.Desk.{Desk, desk, Room, IsToken, recAt, WroteOne, ValueHere}
 use Rattle.walking.specs.Walk.{Wrote, behindGap, namesFrom, behindNames, valuesFrom, behindValues}
 use Rattle.walking.proofs.SoFar.{isCount, room-first, SoFar, next, over-gap, all}
 use Rattle.walking.proofs.Turns.{name-turn, name-none, here-turn, value-none}

@@ -9,13 +9,13 @@ use Rattle.records.specs.Put.{put}
 use Rattle.grammar.specs.Machine.{Rec}
 use Rattle.places.specs.Places.{placeAt}
 use Rattle.sizes.specs.Sizes.{contentSize, areaSize}
-use Rattle.putting.specs.Written.{recordBytes, contentOf}
+use Rattle.desk.specs.Written.{recordBytes, contentOf}
 use Rattle.walking.specs.Writing.{tagsOf, storeOf, areaOf, areaIn}
-use Rattle.putting.specs.Desk.{storeLength, Desk, Going, Room, WroteOne}
+use Rattle.desk.specs.Desk.{storeLength, Desk, Going, Room, WroteOne}
 use Rattle.walking.specs.Walk.{Wrote, Onward}
 use Rattle.records.proofs.Putting.{length-put, put-more}
-use Rattle.putting.proofs.Copy.{put-none}
-use Rattle.putting.proofs.Bytes.{record-length, store-none}
+use Rattle.desk.proofs.Copy.{put-none}
+use Rattle.desk.proofs.Bytes.{record-length, store-none}
 use Rattle.walking.proofs.Appends.{store-length, area-size-append, store-length-append, area-append, store-append}
 
 module _ (full : Bool) (s : List ℕ) where

@@ -13,12 +13,12 @@ use Rattle.kinds.specs.Kinds.{kindOf, shapeOf, outlineShape}
 use Rattle.grammar.specs.Tokens.{Tok}
 use Rattle.grammar.specs.Machine.{Rec}
 use Rattle.sizes.specs.Sizes.{areaSize}
-use Rattle.putting.specs.declared.Cursor.{Cursor}
-use Rattle.putting.specs.Written.{shaped, shapeIn, recordBytes}
+use Rattle.desk.specs.declared.Cursor.{Cursor}
+use Rattle.desk.specs.Written.{shaped, shapeIn, recordBytes}
 use Rattle.walking.specs.Writing.{tagsOf}
-use Rattle.putting.specs.Desk.{Desk, desk, Going, Room, WroteOne}
+use Rattle.desk.specs.Desk.{Desk, desk, Going, Room, WroteOne}
 use Rattle.walking.specs.Walk.{Wrote, Onward, behindGap}
-use Rattle.putting.proofs.Bytes.{record-length, store-none}
+use Rattle.desk.proofs.Bytes.{record-length, store-none}
 use Rattle.walking.proofs.Onward.{onward-here, onward-then, room-onward, one-onward, onward-wrote}
 use Rattle.walking.proofs.Values.{trim-at, trim-area, trim-going, trim-offset}
 

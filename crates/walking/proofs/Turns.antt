@@ -16,7 +16,7 @@ use Rattle.words.specs.Words.{word}
 use Rattle.words.proofs.Words.{word-end}
 use Rattle.values.specs.Values.{tag, value, lexed}
 use Rattle.kinds.specs.Kinds.{kindOf, marksOf, isValueKind}
-use Rattle.values.specs.declared.Found.the-variants.{Value}
+use Rattle.found.specs.declared.Found.the-variants.{Value}
 use Rattle.grammar.specs.Tokens.{inBlock, lexIn, after, tok, tokensAt}
 use Rattle.grammar.specs.Machine.{rec}
 use Rattle.grammar.specs.Descent.{nameRecs, afterNames, valueRecs, afterValues}
@@ -28,9 +28,9 @@ use Rattle.openings.proofs.Openings.{named}
 use Rattle.items.proofs.Wanted.{found-wanted}
 use Rattle.items.proofs.Lists.{met-value, no-name, no-value}
 use Rattle.grammar.proofs.Offsets.{tokens-gap, Met, met-tag, first-in}
-use Rattle.putting.specs.declared.Cursor.{Cursor}
-use Rattle.putting.specs.Desk.{IsToken, Going, ValueHere, recAt}
-use Rattle.putting.proofs.Lines.{part-token, value-token}
+use Rattle.desk.specs.declared.Cursor.{Cursor}
+use Rattle.desk.specs.Desk.{IsToken, Going, ValueHere, recAt}
+use Rattle.desk.proofs.Lines.{part-token, value-token}
 
 -- the cursor behind space and comments
 pub going-on : (s : List ℕ) (c e : Cursor) → Going s c → e .place ≡ placeAt s (gapEnd s (c .place .offset)) → e .area ≡ c .area → Going s e

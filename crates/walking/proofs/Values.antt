@@ -7,8 +7,8 @@ use Rattle.gaps.specs.Gaps.{gapEnd}
 use Rattle.places.specs.Places.{placeAt}
 use Rattle.places.proofs.Places.{place-offset}
 use Rattle.grammar.specs.Machine.{Rec}
-use Rattle.putting.specs.declared.Cursor.{Cursor}
-use Rattle.putting.specs.Desk.{Desk, desk, Going, Room, WroteOne}
+use Rattle.desk.specs.declared.Cursor.{Cursor}
+use Rattle.desk.specs.Desk.{Desk, desk, Going, Room, WroteOne}
 use Rattle.walking.specs.Walk.{Wrote, behindGap}
 use Rattle.walking.proofs.Turns.{going-on}
 

@@ -11,16 +11,16 @@ use Rattle.places.specs.Places.{placeAt}
 use Rattle.kinds.specs.declared.Shape.the-variants.{Content}
 use Rattle.kinds.specs.Kinds.{kindOf, shapeOf}
 use Rattle.records.specs.Put.{put}
-use Rattle.values.specs.declared.Found.the-variants.{Value}
+use Rattle.found.specs.declared.Found.the-variants.{Value}
 use Rattle.values.specs.Finding.{foundAt}
 use Rattle.grammar.specs.Tokens.{Tok, inBlock}
 use Rattle.grammar.specs.Machine.{Rec}
 use Rattle.grammar.specs.Descent.{Item, taken, failed, absent, broken, item, nameRecs, afterNames, valueRecs, afterValues}
 use Rattle.grammar.specs.Tokens.{tokensAt, headAt}
 use Rattle.sizes.specs.Sizes.{areaSize}
-use Rattle.putting.specs.declared.Cursor.{Cursor}
+use Rattle.desk.specs.declared.Cursor.{Cursor}
 use Rattle.walking.specs.Writing.{storeOf, areaOf, areaIn}
-use Rattle.putting.specs.Desk.{storeLength, Desk, Going, Room, IsToken, recAt, ValueHere}
+use Rattle.desk.specs.Desk.{storeLength, Desk, Going, Room, IsToken, recAt, ValueHere}
 
 -- the records are written, and the cursor stands at offset o
 pub record Wrote (full : Bool) (s : List ℕ) (rs : List Rec) (o : ℕ) (d e : Desk) : Type 0 where

@@ -5,7 +5,7 @@ use mathlib.Core.List.{List, [], _∷_, _++_}
 use lib.Dec.{eqb}
 use Rattle.grammar.specs.Machine.{Rec}
 use Rattle.sizes.specs.Sizes.{contentSize}
-use Rattle.putting.specs.Written.{contentOf, recordBytes}
+use Rattle.desk.specs.Written.{contentOf, recordBytes}
 
 -- a loop counts the tags that stand directly behind it
 unfoldable pub tagsOf : List Rec → ℕ

@@ -1,51 +1,17 @@
-// Writing from token to token: over space and comments, values and names, one item.
+// Writing from token to token: values and names, one item.
 ghost use mathlib.Core.Path.{_≡_};
 ghost use mathlib.Core.Bool.{true, _&&_};
 ghost use lib.Dec.{leb};
 ghost use Prim.Native.Nat.{_+_, _≤_, _<_};
 ghost use lib.ListN.{length};
-ghost use Rattle.places.specs.Places.{IsPlace, placeAt};
-ghost use Rattle.gaps.specs.Gaps.{gapEnd};
+ghost use Rattle.places.specs.Places.{IsPlace};
 ghost use Rattle.grammar.specs.Tokens.{tagAt, loopAt};
-ghost use Rattle.putting.specs.Written.{placed};
-ghost use Rattle.putting.specs.Desk.{desk, TextAhead, Marked, WroteToken};
+ghost use Rattle.desk.specs.Desk.{desk, TextAhead, Marked, WroteToken};
 ghost use Rattle.walking.specs.Walk.{behindGap, TokenAhead, ValueAhead, namesFrom, NamesAhead, ValuesAhead, WroteNames, WroteValues, ItemHere, WroteItem};
+use desk::Cursor;
+use found::Found;
 use kinds::Kind;
-use places::Place;
-use putting::Cursor;
 use rules::Reading;
-use values::Found;
-
-// The place behind space and comments: one made of three numbers and lent, which the step moves on.
-pub fn trim_from(s: &[u8], offset: usize, line: usize, column: usize) -> Place
-    requires { ⌜ IsPlace (now s) (placed offset line column) ⌝ }
-    ensures { λ r. ⌜ r ≡ placeAt (now (s .entry)) (gapEnd (now (s .entry)) offset) ⌝ }
-{
-    let mut place = Place {
-        offset,
-        line,
-        column,
-    };
-    gaps::skip_on(s, &mut place);
-    place
-}
-
-// The same; most often only space bytes stand there, and nothing is lent.
-fn trim_spaces_first(s: &[u8], offset: usize, line: usize, column: usize) -> Place
-    requires { ⌜ IsPlace (now s) (placed offset line column) ⌝ }
-    ensures { λ r. ⌜ r ≡ placeAt (now (s .entry)) (gapEnd (now (s .entry)) offset) ⌝ }
-{
-    let at = gaps::spaces_end(s, offset);
-    let here = column + (at - offset);
-    if gaps::shows_no_gap(s, at) {
-        return Place {
-            offset: at,
-            line,
-            column: here,
-        };
-    }
-    trim_from(s, at, line, here)
-}
 
 // The cursor behind space and comments.
 pub fn trimmed(s: &[u8], c: Cursor) -> Cursor
@@ -56,7 +22,7 @@ pub fn trimmed(s: &[u8], c: Cursor) -> Cursor
     let at = c.at;
     let area = c.area;
     Cursor {
-        place: trim_spaces_first(s, place.offset, place.line, place.column),
+        place: trimming::trim_spaces_first(s, place.offset, place.line, place.column),
         at,
         area,
     }
@@ -80,7 +46,7 @@ fn write_token(
         return putting::write_mark(s, full, store, c, kind, size);
     }
     let k = Kind::of(kind);
-    putting::write_text(s, full, store, area, c, kind, size, k.marks(), k.opening())
+    copying::write_text(s, full, store, area, c, kind, size, k.marks(), k.opening())
 }
 
 // Whether a kind of value is a number's: kind 21, of the strict reading, comes behind them.
@@ -171,7 +137,7 @@ fn write_tag(
         (desk r (now (store .exit)) (now (area .exit))) ⌝ }
 {
     let marks = Kind::TAG_MARKS;
-    putting::write_text(s, full, store, area, c, kind, size, marks, marks)
+    copying::write_text(s, full, store, area, c, kind, size, marks, marks)
 }
 
 // The names of a loop, as far as they may stand.
@@ -244,7 +210,7 @@ fn write_tag_item(
     write_values(reading, s, full, store, area, tagged)
 }
 
-// An item.
+// An item; most are tags.
 pub fn write_item(
     reading: Reading,
     s: &[u8],
@@ -259,8 +225,8 @@ pub fn write_item(
 {
     let place = c.place;
     let offset = place.offset;
-    if openings::at_loop(reading, s, offset) {
-        return write_loop_item(reading, s, full, store, area, c);
+    if openings::at_tag(reading, s, offset) {
+        return write_tag_item(reading, s, full, store, area, c);
     }
-    write_tag_item(reading, s, full, store, area, c)
+    write_loop_item(reading, s, full, store, area, c)
 }

@@ -10,7 +10,7 @@ use Rattle.grammar.specs.Reading.{decided}
 use Rattle.text.specs.Limits.{limit}
 use Rattle.sizes.specs.Sizes.{storeSize, outlineSize, areaSize}
 use Rattle.walking.specs.Writing.{storeOf, areaOf, areaIn}
-use Rattle.putting.specs.Desk.{storeLength}
+use Rattle.desk.specs.Desk.{storeLength}
 use Rattle.writing.specs.Block.{answerRecs, isDone, recordsOf, storeBytes, areaBytes, Fits}
 
 module _ (r : Reading) (s : List ℕ) (rs : List Rec) (e : decided r s ≡ done rs) where

@@ -19,14 +19,14 @@ use Rattle.records.specs.Put.{front, put}
 use Rattle.records.proofs.Putting.{put-zero}
 use Rattle.grammar.specs.Machine.{Rec}
 use Rattle.text.specs.Limits.{limit}
-use Rattle.deciding.specs.Frames.{left}
-use Rattle.putting.specs.declared.Cursor.{Cursor}
+use Rattle.decisions.specs.Onward.{left}
+use Rattle.desk.specs.declared.Cursor.{Cursor}
 use Rattle.walking.specs.Writing.{tagsOf, storeOf, areaIn}
-use Rattle.putting.specs.Desk.{Desk, desk, Going, Room, IsToken, recAt, TextAhead}
+use Rattle.desk.specs.Desk.{Desk, desk, Going, Room, IsToken, recAt, TextAhead}
 use Rattle.walking.specs.Walk.{Wrote, Onward, behindGap}
 use Rattle.writing.specs.Block.{Fits, recordsOf, storeBytes, areaBytes, isDone, recsLeft, Ahead, WroteHeading}
 use Rattle.writing.proofs.Frames.{onward-trim}
-use Rattle.putting.proofs.Lines.{part-token}
+use Rattle.desk.proofs.Lines.{part-token}
 use Rattle.walking.proofs.Onward.{room-onward, one-onward}
 use Rattle.writing.proofs.Rest.{Begins, heading}
 use Rattle.walking.proofs.SoFar.{isCount, any-count, room-first}

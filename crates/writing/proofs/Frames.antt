@@ -23,11 +23,11 @@ use Rattle.grammar.specs.Machine.{Rec, loopEnd}
 use Rattle.sizes.specs.Sizes.{contentSize, areaSize}
 use Rattle.grammar.specs.Tokens.{headAt, loopAt, saveAt}
 use Rattle.items.specs.Answers.{itemAt}
-use Rattle.deciding.specs.Frames.{left, headsBlock}
-use Rattle.putting.specs.declared.Cursor.{Cursor}
+use Rattle.decisions.specs.Onward.{left, headsBlock}
+use Rattle.desk.specs.declared.Cursor.{Cursor}
 use Rattle.writing.specs.declared.Next.the-variants.{Item as Item′, Stop}
 use Rattle.walking.specs.Writing.{tagsOf, storeOf}
-use Rattle.putting.specs.Desk.{Desk, desk, Going, Room, recAt, TextAhead, WroteOne}
+use Rattle.desk.specs.Desk.{Desk, desk, Going, Room, recAt, TextAhead, WroteOne}
 use Rattle.walking.specs.Walk.{Wrote, Onward, behindGap, itemRecs, itemRest, isTaken, itemOf, ItemHere, WroteItem, namesFrom, behindNames, valuesFrom}
 use Rattle.writing.specs.Block.{recsLeft, isDone, Ahead, Moved, WroteBeyond, WroteHeading, Closing, nextOf}
 use Rattle.walking.proofs.Appends.{store-append, area-size-append}

@@ -5,7 +5,7 @@ use mathlib.Core.List.{List}
 use lib.ListN.{drop}
 use Rattle.rules.specs.declared.Reading.{Reading}
 use Rattle.gaps.specs.Gaps.{gap, gapEnd}
-use Rattle.values.specs.declared.Found.the-variants.{Value}
+use Rattle.found.specs.declared.Found.the-variants.{Value}
 use Rattle.items.specs.Answers.{itemAt}
 use Rattle.openings.specs.Openings.{nameEnd}
 use Rattle.openings.proofs.Openings.{named}

@@ -24,11 +24,12 @@ use Rattle.grammar.specs.Causes.{causeOf, causeNumber, causeDetail}
 use Rattle.grammar.specs.Tokens.{before, inBlock, inFrame, lexIn, Tok, tok, tokensAt, headAt, saveAt, closeAt, dataAt}
 use Rattle.grammar.specs.Machine.{Rec, rec, Answer, refused, done, run, follow, move, atItem, fails, closes, isJoined, config, items}
 use Rattle.grammar.specs.Descent.{Item, taken, failed, absent, broken, item}
-use Rattle.deciding.specs.Decisions.{Told, told, tells, refusal, room}
-use Rattle.values.specs.declared.Found.the-variants.{Value}
+use Rattle.decisions.specs.Decisions.{Told, told, tells, refusal, room}
+use Rattle.found.specs.declared.Found.the-variants.{Value}
 use Rattle.items.specs.Answers.{itemAnswer, itemAt}
 use Rattle.values.specs.Finding.{foundAt}
-use Rattle.deciding.specs.Frames.{left, modeOf, blockAt, inFrameOf, inBlockOf, headsBlock, Stepped}
+use Rattle.decisions.specs.Onward.{left, modeOf, inFrameOf, inBlockOf, headsBlock, Stepped}
+use Rattle.deciding.specs.Blocks.{blockAt}
 use Rattle.grammar.specs.Reading.{decided}
 use Rattle.grammar.proofs.Descent.{itemRun, behindItem, behind-frame}
 use Rattle.grammar.proofs.Offsets.{Met, met-open, met-data, met-heading, both, both-spot}
@@ -36,11 +37,13 @@ use Rattle.openings.proofs.Openings.{save-bytes, close-bytes, data-bytes}
 use Rattle.values.specs.Answers.{wanted}
 use Rattle.items.proofs.Wanted.{found-wanted}
 use Rattle.items.proofs.Passes.{AlikeItem, alike-taken, alike-failed, alike-absent, alike-broken, item-alike}
-use Rattle.deciding.proofs.Onward.{DroppedAt, PassedInside, first-left, left-item, item-inside, item-stepped, left-from, open-reads, heads-reads, frame-closes, open-refused, left-gap, left-read, begin-reads, end-answer, no-data, decided-from}
+use Rattle.decisions.proofs.Onward.{DroppedAt, PassedInside, first-left, left-item, item-inside, item-stepped, left-from, open-reads, heads-reads, left-gap, left-read}
+use Rattle.closing.proofs.Closing.{frame-closes, open-refused}
+use Rattle.deciding.proofs.Blocks.{begin-reads, end-answer, no-data, decided-from}
 use Rattle.writing.specs.declared.Next.the-variants.{Item as Item′, Stop}
 use Rattle.walking.specs.Walk.{itemRecs, itemRest, isTaken, itemOf}
-use Rattle.putting.specs.Desk.{IsToken, recAt}
-use Rattle.putting.proofs.Lines.{part-token}
+use Rattle.desk.specs.Desk.{IsToken, recAt}
+use Rattle.desk.proofs.Lines.{part-token}
 use Rattle.writing.specs.Block.{answerRecs, isDone, recsLeft, nextOf}
 use Rattle.writing.proofs.Prefix.{prefixed, started, run-after}
 

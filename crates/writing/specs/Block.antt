@@ -9,17 +9,17 @@ use lib.ListN.{length, drop}
 use Rattle.rules.specs.declared.Reading.{Reading}
 use Rattle.gaps.specs.Gaps.{gap}
 use Rattle.grammar.specs.Machine.{Rec, Answer, refused, done}
-use Rattle.deciding.specs.Frames.{left}
+use Rattle.decisions.specs.Onward.{left}
 use Rattle.grammar.specs.Reading.{decided}
 use Rattle.text.specs.Limits.{limit}
 use Rattle.items.specs.declared.Item.{Item as Answered}
 use Rattle.items.specs.declared.Item.the-variants.{Loop, Single, Failed, Absent, Broken}
 use Rattle.sizes.specs.Sizes.{areaSize}
-use Rattle.putting.specs.declared.Cursor.{Cursor}
+use Rattle.desk.specs.declared.Cursor.{Cursor}
 use Rattle.writing.specs.declared.Next.{Next}
 use Rattle.writing.specs.declared.Next.the-variants.{Item, Stop}
 use Rattle.walking.specs.Writing.{storeOf, areaIn}
-use Rattle.putting.specs.Desk.{storeLength, Desk, desk, Going, Room, IsToken, StoreRoom, recAt, WroteOne}
+use Rattle.desk.specs.Desk.{storeLength, Desk, desk, Going, Room, IsToken, StoreRoom, recAt, WroteOne}
 use Rattle.walking.specs.Walk.{Wrote, Onward, behindGap}
 
 -- the records of an answer, and whether it has them

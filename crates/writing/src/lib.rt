@@ -8,13 +8,13 @@ ghost use Rattle.records.specs.Put.{front};
 ghost use mathlib.Core.Option.{none};
 ghost use Rattle.grammar.specs.Tokens.{saveAt};
 ghost use Rattle.items.specs.Answers.{Here, itemAt};
-ghost use Rattle.putting.specs.Desk.{desk, TextAhead, Marked};
+ghost use Rattle.desk.specs.Desk.{desk, TextAhead, Marked};
 ghost use Rattle.writing.specs.Block.{Ahead, MovedOn, WroteRest, WroteHeading, CloseAhead, WroteClose, nextOf, Fits, storeBytes, areaBytes};
+use desk::Cursor;
+use found::Found;
 use items::Item;
 use kinds::Kind;
-use putting::Cursor;
 use rules::Reading;
-use values::Found;
 
 // What stands next in a frame: an item that is read, or where the last one stopped.
 pub enum Next {
@@ -70,7 +70,7 @@ fn write_heading(
     let marks = Kind::HEADING_MARKS;
     walking::trimmed(
         s,
-        putting::write_text(s, full, store, area, c, kind, size, marks, marks),
+        copying::write_text(s, full, store, area, c, kind, size, marks, marks),
     )
 }
 
@@ -178,7 +178,7 @@ pub fn write_block(reading: Reading, s: &[u8], full: bool, store: &mut [u8], are
     ensures { λ r. ⌜ now (area .exit) ≡ front (areaBytes reading full (now (s .entry))) (now (area .entry)) ⌝ }
 {
     let here = Cursor {
-        place: walking::trim_from(s, 0, 1, 1),
+        place: trimming::trim_from(s, 0, 1, 1),
         at: 0,
         area: 0,
     };

@@ -24,7 +24,8 @@ use Rattle.numbers.specs.declared.Number.the-variants.{Is, Over, Not}
 use Rattle.numbers.specs.Parts.{parts, countsAs, within}
 use Rattle.numbers.specs.Meaning.{meaning, judged, numberOf}
 use Rattle.numbers.proofs.Facts.{is-number}
-use Rattle.values.specs.Values.{Class, block, loop, save, tag, value, nothing, atEnd, reservedWord, noStart, joined, Lexed, lexed, quoteKind, lexValue, lexAsValue}
+use Rattle.values.specs.Values.{Class, block, loop, save, tag, value, nothing, atEnd, reservedWord, noStart, joined, Lexed, lexed, lexValue, lexAsValue}
+use Rattle.enclosed.specs.Pieces.{quoteKind}
 use Rattle.values.proofs.Laws.{tag-none}
 use Rattle.values.proofs.Views.{Read, missing, point, unknown, bare, quote, double, multi, number, over, view}
 use Rattle.grammar.specs.Tokens.{Mode, before, inBlock, inFrame, saveSize, lexIn, lex, tagFirst}

@@ -15,7 +15,7 @@ use Rattle.records.specs.Put.{front}
 use Rattle.grammar.specs.Machine.{Rec, done}
 use Rattle.grammar.specs.Reading.{outline}
 use Rattle.sizes.specs.Sizes.{contentSize, storeSize, areaSize}
-use Rattle.putting.specs.Written.{contentOf, shapeIn, recordBytes}
+use Rattle.desk.specs.Written.{contentOf, shapeIn, recordBytes}
 use Rattle.walking.specs.Writing.{tagsOf, storeOf, areaOf}
 use Rattle.reading.specs.Services.{readRoom, readBy, readAnswer, readStoreBy, readStore, readAreaBy, readArea}
 use Rattle.refusals.specs.Answers.{writtenIf}

@@ -15,7 +15,7 @@ use Rattle.words.specs.Names.{tagFits, headingFits}
 use Rattle.kinds.specs.Kinds.{kindOf, numberOf, isValueKind}
 use Rattle.kinds.proofs.Marks.{each-value}
 use Rattle.values.specs.Values.{Class, block, loop, save, tag, value, Lexed, lexed, lexAsValue}
-use Rattle.values.specs.declared.Found.the-variants.{Value}
+use Rattle.found.specs.declared.Found.the-variants.{Value}
 use Rattle.values.specs.Answers.{wanted}
 use Rattle.values.specs.Finding.{foundAt}
 use Rattle.values.proofs.Laws.{found-lies, found-value}

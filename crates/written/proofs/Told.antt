@@ -17,7 +17,7 @@ use Rattle.kinds.specs.Kinds.{kindOf, shapeOf, marksOf, opening, isContent, has
 use Rattle.entries.specs.Entries.{stored, noParts}
 use Rattle.grammar.specs.Machine.{Rec}
 use Rattle.sizes.specs.Sizes.{contentSize}
-use Rattle.putting.specs.Written.{tokenOf, contentOf, decimalOf}
+use Rattle.desk.specs.Written.{tokenOf, contentOf, decimalOf}
 use Rattle.walking.specs.Writing.{storeOf, areaOf, tagsOf}
 use Rattle.contents.specs.Contents.{contentLength, contentBytes}
 use Rattle.written.specs.Sayings.{Saying, says, contentIn, saying, sayings}

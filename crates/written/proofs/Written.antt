@@ -29,7 +29,7 @@ use Rattle.entries.proofs.Back.{Fits, Small, end-back, place-back, content-back
 use Rattle.grammar.specs.Machine.{Rec}
 use Rattle.sizes.specs.Sizes.{contentSize}
 use Rattle.sizes.proofs.Room.{content-small}
-use Rattle.putting.specs.Written.{tokenOf, decimalOf, tokenText, shaped, shapeIn, recordBytes}
+use Rattle.desk.specs.Written.{tokenOf, decimalOf, tokenText, shaped, shapeIn, recordBytes}
 use Rattle.walking.specs.Writing.{tagsOf, storeOf}
 use Rattle.entries.specs.Walk.{onward, entriesFrom, entries}
 use Rattle.written.proofs.Taken.{bytesOf, Outline}

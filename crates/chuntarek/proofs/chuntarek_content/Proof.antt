@@ -2,7 +2,7 @@
 use mathlib.Core.Path.{_∙_, ap}
 use Rattle.stores.specs.Content.{contentReport}
 use Rattle.exports.specs.Exports.{exported}
-use Rattle.chuntarek.proofs.Readings.{content-known, content-unknown}
+use Rattle.answers.proofs.Readings.{content-known, content-unknown}
 use borrow.Author.Needs.{needs}
 use Rattle.chuntarek.proofs.chuntarek_content.Statement.{statement}
 use Rattle.chuntarek.proofs.chuntarek_content.Tie as tie

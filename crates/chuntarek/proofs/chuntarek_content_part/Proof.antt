@@ -1,7 +1,7 @@
 -- `chuntarek_content_part`: the service's answer as a part of the area; 24 where no reading is named. Assumes nothing.
 use mathlib.Core.Path.{_∙_, ap}
 use Rattle.exports.specs.Exports.{exportedPart}
-use Rattle.chuntarek.proofs.Readings.{part-known, part-unknown}
+use Rattle.answers.proofs.Readings.{part-known, part-unknown}
 use borrow.Author.Needs.{needs}
 use Rattle.chuntarek.proofs.chuntarek_content_part.Statement.{statement}
 use Rattle.chuntarek.proofs.chuntarek_content_part.Tie as tie

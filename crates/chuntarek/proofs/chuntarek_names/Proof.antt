@@ -2,7 +2,7 @@
 use mathlib.Core.Path.{_∙_, ap}
 use Rattle.naming.specs.Names.{namingReport}
 use Rattle.exports.specs.Exports.{exported}
-use Rattle.chuntarek.proofs.Readings.{names-known, names-unknown}
+use Rattle.answers.proofs.Readings.{names-known, names-unknown}
 use borrow.Author.Needs.{needs}
 use Rattle.chuntarek.proofs.chuntarek_names.Statement.{statement}
 use Rattle.chuntarek.proofs.chuntarek_names.Tie as tie

@@ -1,7 +1,7 @@
 -- `chuntarek_outline`: the service's answer in numbers, and the store as it leaves it; 24 where no reading is named. Assumes nothing.
 use mathlib.Core.Path.{_∙_, ap}
 use Rattle.exports.specs.Exports.{exported}
-use Rattle.chuntarek.proofs.Readings.{outline-known, outline-unknown, outlined-known, outlined-unknown}
+use Rattle.answers.proofs.Readings.{outline-known, outline-unknown, outlined-known, outlined-unknown}
 use borrow.Author.Needs.{needs}
 use Rattle.chuntarek.proofs.chuntarek_outline.Statement.{statement}
 use Rattle.chuntarek.proofs.chuntarek_outline.Tie as tie

@@ -1,7 +1,7 @@
 -- `chuntarek_read`: the service's answer in numbers, and the buffers as it leaves them; 24 where no reading is named. Assumes nothing.
 use mathlib.Core.Path.{_∙_, ap}
 use Rattle.exports.specs.Exports.{exported}
-use Rattle.chuntarek.proofs.Readings.{read-known, read-unknown, store-known, store-unknown, area-known, area-unknown}
+use Rattle.answers.proofs.Readings.{read-known, read-unknown, store-known, store-unknown, area-known, area-unknown}
 use borrow.Author.Needs.{needs}
 use Rattle.chuntarek.proofs.chuntarek_read.Statement.{statement}
 use Rattle.chuntarek.proofs.chuntarek_read.Tie as tie

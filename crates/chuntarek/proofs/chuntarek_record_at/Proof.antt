@@ -1,7 +1,7 @@
 -- `chuntarek_record_at`: the walk's answer in numbers; 24 where no reading is named. Assumes nothing.
 use mathlib.Core.Path.{_∙_, ap}
 use Rattle.exports.specs.Exports.{exportedRecord}
-use Rattle.chuntarek.proofs.Readings.{record-at-known, record-at-unknown}
+use Rattle.answers.proofs.Readings.{record-at-known, record-at-unknown}
 use borrow.Author.Needs.{needs}
 use Rattle.chuntarek.proofs.chuntarek_record_at.Statement.{statement}
 use Rattle.chuntarek.proofs.chuntarek_record_at.Tie as tie

@@ -1,7 +1,7 @@
 -- `chuntarek_render`: the service's answer in numbers, and the buffer as it leaves it; 24 where no reading is named. Assumes nothing.
 use mathlib.Core.Path.{_∙_, ap}
 use Rattle.exports.specs.Exports.{exported}
-use Rattle.chuntarek.proofs.Readings.{render-known, render-unknown, rendered-known, rendered-unknown}
+use Rattle.answers.proofs.Readings.{render-known, render-unknown, rendered-known, rendered-unknown}
 use borrow.Author.Needs.{needs}
 use Rattle.chuntarek.proofs.chuntarek_render.Statement.{statement}
 use Rattle.chuntarek.proofs.chuntarek_render.Tie as tie

@@ -1,8 +1,8 @@
 -- `deciding::lex_cif`: the block behind leading space and comments. Assumes nothing.
 use mathlib.Core.Path.{sym, _∙_, ap}
 use borrow.Author.Tests.{not-true, not-false}
-use Rattle.deciding.specs.Decisions.{tells}
-use Rattle.deciding.proofs.Onward.{start-bare, decided-at, decided-none}
+use Rattle.decisions.specs.Decisions.{tells}
+use Rattle.deciding.proofs.Blocks.{start-bare, decided-at, decided-none}
 use borrow.Author.Needs.{needs}
 use Rattle.deciding.proofs.lex_cif.Statement.{statement}
 use Rattle.deciding.proofs.lex_cif.Tie as tie

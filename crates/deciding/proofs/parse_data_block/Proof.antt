@@ -3,7 +3,8 @@ use Prim.Native.Nat.{_*_, _-_}
 use native.Mathlib.Omega.{arith}
 use lib.ListN.{length}
 use Rattle.text.specs.Limits.{limit}
-use Rattle.deciding.proofs.Onward.{heading-read, heading-lost, Begun, block-begins, block-misnamed, block-goes-on, block-ends, block-refused, stepped-read, stepped-refused}
+use Rattle.decisions.proofs.Onward.{heading-read, heading-lost, stepped-read, stepped-refused}
+use Rattle.deciding.proofs.Blocks.{Begun, block-begins, block-misnamed, block-goes-on, block-ends, block-refused}
 use Rattle.sizes.proofs.Room.{upto-more}
 use Rattle.deciding.proofs.parse_data_block.Statement.{statement}
 use Rattle.deciding.proofs.parse_data_block.Tie as tie

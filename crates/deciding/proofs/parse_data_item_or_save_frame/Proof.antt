@@ -1,10 +1,7 @@
 -- `deciding::parse_data_item_or_save_frame`: by whether `save_`, or a further heading, stands there. Assumes nothing.
-use mathlib.Core.Path.{_≡_, sym, _∙_}
-use mathlib.Core.Bool.{true}
-use Rattle.rules.specs.declared.Reading.{Reading}
-use Rattle.deciding.specs.Frames.{Framed}
-use Rattle.deciding.proofs.Onward.{further-stepped, item-stepped}
-use borrow.Author.Needs.{needs}
+use mathlib.Core.Path.{sym, _∙_}
+use Rattle.decisions.specs.Onward.{Framed}
+use Rattle.decisions.proofs.Onward.{further-stepped, item-stepped}
 use Rattle.deciding.proofs.parse_data_item_or_save_frame.Statement.{statement}
 use Rattle.deciding.proofs.parse_data_item_or_save_frame.Tie as tie
 

@@ -1,12 +1,12 @@
 -- `deciding::parse_save_frame`: up to here records of these sizes are kept, and nothing else is changed of what is still answered. Assumes nothing.
 use Prim.Native.Nat.{_*_, _-_}
-use mathlib.Core.Path.{_≡_, _∙_}
 use native.Mathlib.Omega.{arith}
 use lib.ListN.{length}
 use mathlib.Core.Option.{none, some}
 use Rattle.text.specs.Limits.{limit}
-use Rattle.deciding.specs.Frames.{Passed}
-use Rattle.deciding.proofs.Onward.{PassedInside, HeadingRead, heading-read, heading-lost, frame-opens, frame-misnamed, inside-known, inside-read, inside-dropped, inside-refused, passed-then, frame-ends, frame-refused}
+use Rattle.decisions.specs.Onward.{Passed}
+use Rattle.decisions.proofs.Onward.{PassedInside, heading-read, heading-lost, frame-opens, frame-misnamed, inside-known, inside-read, inside-dropped, inside-refused, passed-then}
+use Rattle.closing.proofs.Closing.{frame-ends, frame-refused}
 use Rattle.sizes.proofs.Room.{upto-more}
 use Rattle.deciding.proofs.parse_save_frame.Statement.{statement}
 use Rattle.deciding.proofs.parse_save_frame.Tie as tie

@@ -5,7 +5,7 @@ use native.Mathlib.Omega.{arith}
 use lib.ListN.{length}
 use Rattle.text.specs.Limits.{limit}
 use Rattle.values.specs.Finding.{foundAt}
-use Rattle.values.proofs.Choices.{not-value, over-left}
+use Rattle.found.proofs.Choices.{not-value, over-left}
 use Rattle.values.proofs.Packs.{found-packed}
 use Rattle.values.proofs.Laws.{found-value, found-marks}
 use Rattle.items.proofs.Lists.{ValuesSoFar, values-start, values-next, values-all, value-step}

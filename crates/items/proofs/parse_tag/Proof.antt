@@ -5,7 +5,7 @@ use native.Mathlib.Omega.{arith}
 use borrow.Author.Tests.{not-true, not-false}
 use Rattle.text.specs.Limits.{limit}
 use Rattle.sizes.specs.Sizes.{noSizes}
-use Rattle.values.proofs.Choices.{not-value, over-left}
+use Rattle.found.proofs.Choices.{not-value, over-left}
 use Rattle.values.proofs.Packs.{found-packed}
 use Rattle.values.proofs.Laws.{found-value, found-marks}
 use Rattle.items.proofs.Lists.{tag-end}

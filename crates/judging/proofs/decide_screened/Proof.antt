@@ -1,6 +1,6 @@
 -- `judging::decide_screened`: what is found among the bytes, or what the tokens say. Assumes nothing.
 use mathlib.Core.Path.{sym, _∙_}
-use Rattle.deciding.specs.Decisions.{told, tells, refusal as toldRefusal}
+use Rattle.decisions.specs.Decisions.{told, tells, refusal as toldRefusal}
 use Rattle.judging.proofs.Judgements.{screens-fine, screens-long, screens-control}
 use borrow.Author.Needs.{needs}
 use Rattle.judging.proofs.decide_screened.Statement.{statement}

@@ -1,7 +1,7 @@
 -- `judging::placed`: a refusal's offset as its place. Assumes nothing.
 use Rattle.places.specs.Reports.{success}
 use Rattle.grammar.proofs.Causes.{cause-has-place}
-use Rattle.deciding.specs.Decisions.{told, refusal as toldRefusal, room}
+use Rattle.decisions.specs.Decisions.{told, refusal as toldRefusal, room}
 use Rattle.refusals.specs.Answers.{refusal, refusalReport}
 use Rattle.judging.specs.Judging.{judgedAs, declined, noSizes}
 use borrow.Author.Needs.{needs}

@@ -8,10 +8,10 @@ use borrow.Author.Tests.{not-true, not-false}
 use lib.ListN.{length}
 use Rattle.records.proofs.Forms.{length-place}
 use Rattle.records.proofs.Putting.{part-put}
-use Rattle.putting.specs.Desk.{recAt}
-use Rattle.putting.proofs.Copy.{rest-room}
-use Rattle.putting.proofs.Ones.{place-small, one-length, number-read, number-outlined}
-use Rattle.putting.proofs.Numbers.{number-token, decimal-here}
+use Rattle.desk.specs.Desk.{recAt}
+use Rattle.desk.proofs.Copy.{rest-room}
+use Rattle.desk.proofs.Ones.{place-small, one-length, number-read, number-outlined}
+use Rattle.desk.proofs.Numbers.{number-token, decimal-here}
 use Rattle.putting.proofs.put_number.Statement.{statement}
 use Rattle.putting.proofs.put_number.Tie as tie
 

@@ -4,8 +4,8 @@ use Prim.Native.Nat.{_+_}
 use mathlib.Core.Path.{refl, ap}
 use native.Mathlib.Omega.{arith}
 use Rattle.records.proofs.Putting.{part-put}
-use Rattle.putting.proofs.Copy.{rest-room}
-use Rattle.putting.proofs.Ones.{end-size, end-length, end-wrote}
+use Rattle.desk.proofs.Copy.{rest-room}
+use Rattle.desk.proofs.Ones.{end-size, end-length, end-wrote}
 use Rattle.putting.proofs.write_end.Statement.{statement}
 use Rattle.putting.proofs.write_end.Tie as tie
 

@@ -5,9 +5,9 @@ use mathlib.Core.Path.{refl, ap, _∙_}
 use native.Mathlib.Omega.{arith}
 use lib.ListN.{length}
 use Rattle.records.specs.Put.{put}
-use Rattle.putting.specs.Written.{loopBytes}
-use Rattle.putting.specs.Desk.{recAt}
-use Rattle.putting.proofs.Ones.{place-small, kind-length, one-length, loop-here, loop-length, loop-plain, plain-wrote}
+use Rattle.desk.specs.Written.{loopBytes}
+use Rattle.desk.specs.Desk.{recAt}
+use Rattle.desk.proofs.Ones.{place-small, kind-length, one-length, loop-here, loop-length, loop-plain, plain-wrote}
 use Rattle.putting.proofs.write_loop.Statement.{statement}
 use Rattle.putting.proofs.write_loop.Tie as tie
 

@@ -7,11 +7,11 @@ use Rattle.kinds.specs.Kinds.{isContent}
 use Rattle.records.specs.Put.{put}
 use Rattle.records.specs.Records.{placeRecord}
 use Rattle.records.proofs.Putting.{part-put}
-use Rattle.putting.specs.Written.{recordBytes}
-use Rattle.putting.specs.Desk.{recAt}
-use Rattle.putting.proofs.Bytes.{shape-told}
-use Rattle.putting.proofs.Copy.{rest-room}
-use Rattle.putting.proofs.Ones.{place-small, kind-length, mark-size, mark-bytes, no-content, plain-wrote}
+use Rattle.desk.specs.Written.{recordBytes}
+use Rattle.desk.specs.Desk.{recAt}
+use Rattle.desk.proofs.Bytes.{shape-told}
+use Rattle.desk.proofs.Copy.{rest-room}
+use Rattle.desk.proofs.Ones.{place-small, kind-length, mark-size, mark-bytes, no-content, plain-wrote}
 use Rattle.putting.proofs.write_mark.Statement.{statement}
 use Rattle.putting.proofs.write_mark.Tie as tie
 

@@ -3,9 +3,9 @@ use borrow.Author.Needs.{needs}
 use Prim.Native.Nat.{_+_}
 use mathlib.Core.Path.{refl, ap}
 use native.Mathlib.Omega.{arith}
-use Rattle.putting.specs.Desk.{recAt}
-use Rattle.putting.proofs.Ones.{kind-length, number-plain, plain-wrote}
-use Rattle.putting.proofs.Numbers.{number-token}
+use Rattle.desk.specs.Desk.{recAt}
+use Rattle.desk.proofs.Ones.{kind-length, number-plain, plain-wrote}
+use Rattle.desk.proofs.Numbers.{number-token}
 use Rattle.putting.proofs.write_number.Statement.{statement}
 use Rattle.putting.proofs.write_number.Tie as tie
 

@@ -3,7 +3,7 @@ use mathlib.Core.Path.{_≡_, sym, _∙_}
 use borrow.Author.Needs.{needs}
 use borrow.Author.Tests.{eq-eqb, ne-eqb}
 use Rattle.values.specs.Finding.{foundAt}
-use Rattle.values.proofs.Choices.{not-value}
+use Rattle.found.proofs.Choices.{not-value}
 use Rattle.values.proofs.Packs.{found-packed}
 use Rattle.values.proofs.Alone.{bare-value, bare-other}
 use Rattle.readable.proofs.is_bare.Statement.{statement}

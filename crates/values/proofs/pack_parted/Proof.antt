@@ -1,6 +1,6 @@
 -- `values::pack_parted`: by the first byte. Assumes nothing.
 use mathlib.Core.Path.{refl, sym, _∙_}
-use Rattle.values.specs.Pieces.{Start}
+use Rattle.values.specs.Finding.{Start}
 use Rattle.values.proofs.Pieces.{found-end}
 use Rattle.values.proofs.First.{free-found}
 use Rattle.values.proofs.Packs.{packs}

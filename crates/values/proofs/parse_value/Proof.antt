@@ -4,7 +4,7 @@ use mathlib.Core.Path.{_≡_, sym, _∙_}
 use native.Mathlib.Omega.{arith}
 use Rattle.values.specs.Finding.{foundAt}
 use Rattle.values.proofs.Laws.{found-within, found-number, found-kind, value-token, value-quoted, value-number, value-over, value-missing}
-use Rattle.values.proofs.Choices.{over-left}
+use Rattle.found.proofs.Choices.{over-left}
 use Rattle.values.proofs.Packs.{found-packed}
 use borrow.Author.Needs.{needs}
 use Rattle.values.proofs.parse_value.Statement.{statement}

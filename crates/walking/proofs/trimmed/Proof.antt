@@ -2,7 +2,7 @@
 use borrow.Author.Needs.{needs}
 use mathlib.Core.Path.{ap}
 use Rattle.places.specs.declared.Place.{Place}
-use Rattle.putting.specs.Written.{placed}
+use Rattle.trimming.specs.Placed.{placed}
 use Rattle.walking.specs.Walk.{behindGap}
 use Rattle.walking.proofs.trimmed.Statement.{statement}
 use Rattle.walking.proofs.trimmed.Tie as tie

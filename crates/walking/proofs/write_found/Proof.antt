@@ -6,7 +6,7 @@ use borrow.Author.Tests.{leb-true, le-leb}
 use lib.Dec.{leb}
 use Rattle.text.proofs.Bools.{and-l, and-r}
 use Rattle.values.proofs.Laws.{found-lies, found-value}
-use Rattle.putting.proofs.Numbers.{text-kind}
+use Rattle.desk.proofs.Numbers.{text-kind}
 use Rattle.walking.proofs.Turns.{here-turn}
 use borrow.Author.Needs.{needs}
 use Rattle.walking.proofs.write_found.Statement.{statement}

@@ -2,7 +2,7 @@
 use borrow.Author.Needs.{needs}
 use Prim.Native.Nat.{_+_}
 use Rattle.places.proofs.Places.{place-offset}
-use Rattle.putting.specs.Desk.{desk}
+use Rattle.desk.specs.Desk.{desk}
 use Rattle.walking.proofs.SoFar.{room-first}
 use Rattle.walking.proofs.Items.{names-few, loop-names-room, loop-values-room, loop-token, loop-begun, loop-opened, loop-named, loop-valued, loop-ended}
 use Rattle.walking.proofs.write_loop_item.Statement.{statement}

@@ -5,8 +5,8 @@ use native.Mathlib.Omega.{arith}
 use lib.ListN.{length}
 use Rattle.kinds.specs.Kinds.{kindOf, shapeOf}
 use Rattle.gaps.proofs.Gaps.{gap-from}
-use Rattle.putting.specs.Desk.{desk}
-use Rattle.putting.proofs.Ones.{loop-tag-marked}
+use Rattle.desk.specs.Desk.{desk}
+use Rattle.desk.proofs.Ones.{loop-tag-marked}
 use Rattle.walking.specs.Walk.{namesFrom, behindNames}
 use Rattle.walking.proofs.SoFar.{SoFar, start}
 use Rattle.walking.proofs.Lists.{name-room, name-next, name-gap, name-last, gap-again}

@@ -5,8 +5,8 @@ use mathlib.Core.Path.{refl, ap}
 use native.Mathlib.Omega.{arith}
 use Rattle.words.proofs.Words.{word-from}
 use Rattle.kinds.specs.Kinds.{kindOf, shapeOf}
-use Rattle.putting.specs.Desk.{desk}
-use Rattle.putting.proofs.Ones.{tag-marked}
+use Rattle.desk.specs.Desk.{desk}
+use Rattle.desk.proofs.Ones.{tag-marked}
 use Rattle.walking.proofs.Items.{tag-token, tag-room, tag-value-room, tag-done}
 use Rattle.walking.proofs.write_tag_item.Statement.{statement}
 use Rattle.walking.proofs.write_tag_item.Tie as tie

@@ -1,7 +1,7 @@
 -- `walking::write_token`: by the kind. Assumes nothing.
 use borrow.Author.Needs.{needs}
-use Rattle.putting.proofs.Numbers.{mark-kind}
-use Rattle.putting.proofs.Ones.{kind-marked}
+use Rattle.desk.proofs.Numbers.{mark-kind}
+use Rattle.desk.proofs.Ones.{kind-marked}
 use Rattle.walking.proofs.write_token.Statement.{statement}
 use Rattle.walking.proofs.write_token.Tie as tie
 

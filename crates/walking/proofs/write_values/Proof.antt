@@ -6,9 +6,9 @@ use lib.ListN.{length}
 use Rattle.gaps.proofs.Gaps.{gap-from}
 use Rattle.text.specs.Limits.{limit}
 use Rattle.values.specs.Finding.{foundAt}
-use Rattle.values.proofs.Choices.{not-value}
+use Rattle.found.proofs.Choices.{not-value}
 use Rattle.values.proofs.Packs.{found-packed}
-use Rattle.putting.specs.Desk.{desk}
+use Rattle.desk.specs.Desk.{desk}
 use Rattle.walking.proofs.SoFar.{SoFar, start}
 use Rattle.walking.specs.Walk.{valuesFrom, behindValues}
 use Rattle.walking.proofs.Lists.{value-room, value-next, value-gap, value-last, trim-bare}

@@ -5,9 +5,9 @@ use mathlib.Core.Path.{ap}
 use native.Mathlib.Omega.{arith}
 use Rattle.places.proofs.Places.{is-start}
 use Rattle.words.proofs.Words.{word-from}
-use Rattle.putting.specs.declared.Cursor.{Cursor}
-use Rattle.putting.specs.Written.{placed}
-use Rattle.putting.proofs.Ones.{block-marked}
+use Rattle.desk.specs.declared.Cursor.{Cursor}
+use Rattle.trimming.specs.Placed.{placed}
+use Rattle.desk.proofs.Ones.{block-marked}
 use Rattle.writing.proofs.Block.{begun, begins, block-head, block-ahead, block-stored, block-copied}
 use Rattle.writing.proofs.write_block.Statement.{statement}
 use Rattle.writing.proofs.write_block.Tie as tie

@@ -6,8 +6,8 @@ use native.Mathlib.Omega.{arith}
 use lib.ListN.{length}
 use Rattle.words.proofs.Words.{word-from}
 use Rattle.text.specs.Limits.{limit}
-use Rattle.putting.specs.Desk.{desk}
-use Rattle.putting.proofs.Ones.{frame-marked}
+use Rattle.desk.specs.Desk.{desk}
+use Rattle.desk.proofs.Ones.{frame-marked}
 use Rattle.writing.proofs.Frames.{Inside, inside-start, inside-next, frame-all, frame-ahead, frame-moved, frame-item-here, frame-item-moved, frame-closing, frame-closed}
 use Rattle.writing.proofs.write_frame.Statement.{statement}
 use Rattle.writing.proofs.write_frame.Tie as tie

@@ -2,7 +2,7 @@
 use Prim.Native.Nat.{_-_}
 use native.Mathlib.Omega.{arith}
 use lib.ListN.{length}
-use Rattle.putting.specs.Desk.{desk}
+use Rattle.desk.specs.Desk.{desk}
 use Rattle.writing.proofs.Frames.{InBlock, block-start, block-next, block-ended}
 use Rattle.writing.proofs.write_items.Statement.{statement}
 use Rattle.writing.proofs.write_items.Tie as tie

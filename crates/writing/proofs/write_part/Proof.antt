@@ -4,8 +4,8 @@ use Prim.Native.Nat.{_-_}
 use mathlib.Core.Path.{sym, ap, _∙_}
 use native.Mathlib.Omega.{arith}
 use Rattle.words.proofs.Words.{word-from}
-use Rattle.putting.specs.Desk.{desk}
-use Rattle.putting.proofs.Ones.{block-marked}
+use Rattle.desk.specs.Desk.{desk}
+use Rattle.desk.proofs.Ones.{block-marked}
 use Rattle.writing.proofs.Frames.{further-ahead, further-moved, block-item-here, block-item-moved}
 use Rattle.writing.proofs.write_part.Statement.{statement}
 use Rattle.writing.proofs.write_part.Tie as tie

@@ -1,0 +1,1 @@
+// What the exported functions answer: definitions and laws, and no code.
