@@ -1,0 +1,13 @@
+pub mod Fresh
+pub mod Leads
+pub mod Selves
+pub mod Soles
+pub mod Itself
+pub mod Done
+pub mod Turned
+pub mod Swapped
+pub mod Twins
+pub mod ByKinds
+pub mod Said
+pub mod Judged
+pub mod Rendered
