@@ -7,7 +7,7 @@ use entries::Entry;
 use kinds::Kind;
 
 // Where a walk stands: a record, the frame it stands in, the first tag of its item, each by number and offset; how many
-// tags that has, and how many of its values stand before.
+// tags that has, how many of its values stand before, and the offset of the tag that the next one has.
 pub struct Here {
     pub at: usize,
     pub number: usize,
@@ -17,6 +17,7 @@ pub struct Here {
     pub from: usize,
     pub tags: usize,
     pub count: usize,
+    pub name: usize,
 }
 
 // A value: its record, its frame's and its tag's, each by number and offset, and its row. Frame 0 is the block.
@@ -49,6 +50,7 @@ pub fn start() -> Here
         from: 0,
         tags: 0,
         count: 0,
+        name: 0,
     }
 }
 
@@ -72,25 +74,19 @@ fn row_of(count: usize, tags: usize) -> usize
     count / tags
 }
 
-// The offset of the record so many behind the one at an offset; the store's end where there are not so many.
-fn offset_behind(store: &[u8], from: usize, n: usize) -> usize
-    ensures { λ r. ⌜ entriesAt (now (store .entry)) r ≡ drop n (entriesAt (now (store .entry)) from) ⌝ }
+// The offset of the record behind the one at an offset; the store's end where there is none.
+fn record_behind(store: &[u8], at: usize) -> usize
+    ensures { λ r. ⌜ entriesAt (now (store .entry)) r ≡ drop 1 (entriesAt (now (store .entry)) at) ⌝ }
 {
-    let mut at = from;
-    let mut left = n;
-    while 0 < left {
-        let Entry::Record {
-            kind: _,
-            fields: _,
-            next,
-        } = entries::read_record(store, at)
-        else {
-            return store.len();
-        };
-        at = next;
-        left -= 1;
-    }
-    at
+    let Entry::Record {
+        kind: _,
+        fields: _,
+        next,
+    } = entries::read_record(store, at)
+    else {
+        return store.len();
+    };
+    next
 }
 
 // The value at a spot.
@@ -105,9 +101,21 @@ fn value_at(store: &[u8], here: Here) -> Found
         frame: here.frame,
         outer: here.outer,
         tag: here.header + column,
-        name: offset_behind(store, here.from, column),
+        name: here.name,
         row: row_of(here.count, here.tags),
     }
+}
+
+// The offset of the tag of the value behind the one at a spot: the next one, or behind the last the first again.
+fn tag_behind(store: &[u8], here: Here) -> usize
+    requires { ⌜ Placed (now store) here × (here .count + 1 < 2 ^ 64) ⌝ }
+    ensures { λ r. ⌜ entriesAt (now (store .entry)) r ≡ drop ((here .count + 1) % here .tags) (entriesAt (now (store .entry)) (here .from)) ⌝ }
+{
+    let column = column_of(here.count, here.tags);
+    if column + 1 == here.tags {
+        return here.from;
+    }
+    record_behind(store, here.name)
 }
 
 // The spot behind a record that is no value.
@@ -133,6 +141,7 @@ fn behind(here: Here, kind: u8, tags: usize, next: usize) -> Here
         after.from = here.at;
         after.tags = 1;
         after.count = 0;
+        after.name = here.at;
         return after;
     }
     if kind == Kind::LOOP {
@@ -140,6 +149,7 @@ fn behind(here: Here, kind: u8, tags: usize, next: usize) -> Here
         after.from = next;
         after.tags = tags;
         after.count = 0;
+        after.name = next;
         return after;
     }
     after
@@ -163,6 +173,7 @@ pub fn next_value(store: &[u8], here: Here) -> Step
             after.at = next;
             after.number = spot.number + 1;
             after.count = spot.count + 1;
+            after.name = tag_behind(store, spot);
             return Step::Met { value, after };
         }
         spot = behind(spot, k, fields.number as usize, next);

@@ -58,14 +58,20 @@ add-after-2 c =
     let start = c .before .before .before .before .before .before .before .before .before .before .before .before .before in
     omega (arith, come-number _ _ _ _ (here .inv), here .inv .placed .counted, start .good .0 .0, c .before .before .before .before .before .before .before .before .before .before .loop-test .taken)
 
+tag-behind-requires : tie.Need-tag-behind-requires Inv-loop μ-loop
+tag-behind-requires c κs =
+    let here = c .before .before .before .before .before .before .before .before .before .before .before .loop in
+    let start = c .before .before .before .before .before .before .before .before .before .before .before .before .before in
+    (here .inv .placed, omega (arith, come-number _ _ _ _ (here .inv), here .inv .placed .counted, start .good .0 .0, c .before .before .before .before .before .before .before .before .before .before .loop-test .taken))
+
 returns-2 : tie.Need-returns-2 Inv-loop μ-loop
 returns-2 c =
-    let here = c .before .before .before .before .before .before .before .before .before .before .before .loop in
-    let got = c .before .before .before .before .before .before .before .kind .given in
-    let start = c .before .before .before .before .before .before .before .before .before .before .before .before .before in
-    let e : entryAt (start .args .store .now) (here .at) ≡ Record (got .0 .0) (got .0 .1 .0) (got .0 .1 .1 .0) = sym (c .before .before .before .before .before .before .before .before .before .read-record .ensures) ∙ got .1 in
-    let q : isValueKind (numberOf (got .0 .0)) ≡ true = rw (← c .before .before .before .before .before .number .ensures) (sym (c .before .before .before .before .is-value .ensures) ∙ c .before .before .before .if1 .taken) in
-    come-value _ _ _ (here .at) (here .inv) _ _ _ (c .before .before .before .before .before .before .before .before .before .before .loop-test .taken) e q _ (c .before .before .value-at .ensures)
+    let here = c .before .before .before .before .before .before .before .before .before .before .before .before .loop in
+    let got = c .before .before .before .before .before .before .before .before .kind .given in
+    let start = c .before .before .before .before .before .before .before .before .before .before .before .before .before .before in
+    let e : entryAt (start .args .store .now) (here .at) ≡ Record (got .0 .0) (got .0 .1 .0) (got .0 .1 .1 .0) = sym (c .before .before .before .before .before .before .before .before .before .before .read-record .ensures) ∙ got .1 in
+    let q : isValueKind (numberOf (got .0 .0)) ≡ true = rw (← c .before .before .before .before .before .before .number .ensures) (sym (c .before .before .before .before .before .is-value .ensures) ∙ c .before .before .before .before .if1 .taken) in
+    come-value _ _ _ (here .at) (here .inv) _ _ _ (c .before .before .before .before .before .before .before .before .before .before .before .loop-test .taken) e q _ (c .before .before .before .value-at .ensures) _ (c .tag-behind .ensures)
 
 cast-behind : tie.Need-cast-behind Inv-loop μ-loop
 cast-behind c = search needs
@@ -111,6 +117,7 @@ next-value-spec =
     value-at-requires
     add-after
     add-after-2
+    tag-behind-requires
     returns-2
     cast-behind
     behind-requires
