@@ -26,10 +26,12 @@ use Rattle.entries.proofs.Walking.{rest, rest-all, rest-over, rest-none, next-a
 use Rattle.kinds.specs.Kinds.{isValueKind}
 use Rattle.cells.specs.declared.Here.{Here}
 use Rattle.cells.specs.declared.Found.{Found}
+use Rattle.cells.specs.declared.Leap.{Leap}
+use Rattle.cells.specs.declared.Leap.the-variants.{Over, Nowhere}
 use Rattle.cells.specs.declared.Step.{Step}
 use Rattle.cells.specs.declared.Step.the-variants.{Met, End}
 use Rattle.cells.specs.Cells.{Cell, Under, outset, under, cell, cellsFrom, cells}
-use Rattle.cells.specs.Walk.{entriesAt, IsAt, underOf, cellsAt, first, Placed, opened, closed, tagged, looped, counted, passed, hereAfter, cellOf, Lies, Finds, listed, Kept, Ahead}
+use Rattle.cells.specs.Walk.{entriesAt, IsAt, underOf, cellsAt, first, Placed, opened, closed, tagged, looped, counted, passed, hereAfter, cellOf, Lies, Finds, listed, Kept, Ahead, leapOf, countOf}
 use Rattle.cells.proofs.Offsets.{entries-rest, at-first, at-next, at-behind}
 
 -- a kind of values
@@ -320,3 +322,43 @@ module _ (st : List ℕ) (from h : Here) (at : ℕ) (w : Comes st from h at) whe
           placed = placed-after st h k f next inside here (f .number) (w .placed);
           values = w .values ∙ cells-other st h k f next inside here q;
         }
+
+-- what a leap tells of the record
+pub record Leapt (e : Entry) (n next : ℕ) : Type 0 where
+  pub kind : Kind
+  pub fields : Fields
+  pub is : e ≡ Record kind fields next
+  pub number : numberOf kind ≡ n
+
+pub leapt : (e : Entry) (n next : ℕ) → leapOf e ≡ Over n next → Leapt e n next
+unfolding leapOf
+leapt (Record k f m) n next q =
+    let a : numberOf k ≡ n = cc in
+    let b : m ≡ next = cc in
+    record { kind = k; fields = f; is = ap (λ (z : ℕ). Record k f z) b; number = a }
+leapt Nothing n next q =
+    let z : _≡_ {A = ℕ} 0 1 = cc in
+    absurd (omega arith)
+
+pub leapt-none : (e : Entry) → leapOf e ≡ Nowhere → e ≡ Nothing
+unfolding leapOf
+leapt-none (Record k f m) q =
+    let z : _≡_ {A = ℕ} 0 1 = cc in
+    absurd (omega arith)
+leapt-none Nothing q = refl
+
+-- tags count for loops alone
+counts-loop : (k n next : ℕ) (h : Here) → hereAfter k (cond (eqb k 5) n 0) next h ≡ hereAfter k n next h
+unfolding hereAfter
+counts-loop k n next h = by (eqb k 5)
+  where
+    by :
+        (t : Bool) →
+        cond (eqb k 2) (opened next h) (cond (eqb k 3) (closed next h) (cond (eqb k 4) (tagged next h) (cond t (looped (cond t n 0) next h) (passed next h)))) ≡
+        cond (eqb k 2) (opened next h) (cond (eqb k 3) (closed next h) (cond (eqb k 4) (tagged next h) (cond t (looped n next h) (passed next h))))
+    by true = refl
+    by false = refl
+
+pub after-leap : (e : Entry) (n next : ℕ) (l : Leapt e n next) (h : Here) → hereAfter n (cond (eqb n 5) (countOf e) 0) next h ≡ hereAfter (numberOf (l .kind)) (l .fields .number) next h
+unfolding countOf
+after-leap e n next l h = counts-loop n (countOf e) next h ∙ rw (l .is, ← l .number)

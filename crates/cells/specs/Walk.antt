@@ -5,10 +5,14 @@ use mathlib.Core.Bool.{Bool, cond}
 use mathlib.Core.List.{List, [], _∷_}
 use lib.Dec.{eqb}
 use lib.ListN.{drop}
+use Rattle.kinds.specs.Kinds.{numberOf}
 use Rattle.entries.specs.declared.Entry.{Entry}
+use Rattle.entries.specs.declared.Entry.the-variants.{Record, Nothing}
 use Rattle.entries.specs.Walk.{entriesFrom, entries}
 use Rattle.cells.specs.declared.Here.{Here}
 use Rattle.cells.specs.declared.Found.{Found}
+use Rattle.cells.specs.declared.Leap.{Leap}
+use Rattle.cells.specs.declared.Leap.the-variants.{Over, Nowhere}
 use Rattle.cells.specs.declared.Step.{Step}
 use Rattle.cells.specs.declared.Step.the-variants.{Met, End}
 use Rattle.cells.specs.Cells.{Cell, Under, cell, cellsFrom}
@@ -95,3 +99,13 @@ Kept st End = Unit
 pub record Ahead (st : List ℕ) (h : Here) (r : Step) : Type 0 where
   pub values : cellsAt st h ≡ listed st r
   pub kept : Kept st r
+
+-- what is read of a record that is passed over
+unfoldable pub leapOf : Entry → Leap
+leapOf (Record k f next) = Over (numberOf k) next
+leapOf Nothing = Nowhere
+
+-- how many tags a record counts, if it is a loop's
+unfoldable pub countOf : Entry → ℕ
+countOf (Record k f next) = f .number
+countOf Nothing = 0

@@ -1,8 +1,11 @@
 // The values of a store, one after the other: each with its record, its frame, its tag and its row.
 ghost use mathlib.Core.Path.{_≡_};
+ghost use mathlib.Core.Bool.{cond};
 ghost use Prim.Native.Nat.{_+_, _/_, _%_, _<_, _^_};
+ghost use lib.Dec.{eqb};
 ghost use lib.ListN.{drop};
-ghost use Rattle.cells.specs.Walk.{entriesAt, Placed, Finds, Ahead, hereAfter, first};
+ghost use Rattle.entries.specs.Entries.{entryAt};
+ghost use Rattle.cells.specs.Walk.{entriesAt, Placed, Finds, Ahead, hereAfter, first, leapOf, countOf};
 use entries::Entry;
 use kinds::Kind;
 
@@ -35,6 +38,12 @@ pub struct Found {
 pub enum Step {
     Met { value: Found, after: Here },
     End,
+}
+
+// A record that is passed over.
+enum Leap {
+    Over { kind: u8, next: usize },
+    Nowhere,
 }
 
 // The spot of the first record.
@@ -74,19 +83,56 @@ fn row_of(count: usize, tags: usize) -> usize
     count / tags
 }
 
+// The record at an offset: its kind, and where the next one starts. Its fields are not read, as most are passed over.
+fn leap_from(store: &[u8], at: usize) -> Leap
+    ensures { λ r. ⌜ r ≡ leapOf (entryAt (now (store .entry)) at) ⌝ }
+{
+    if store.len() <= at {
+        return Leap::Nowhere;
+    }
+    let kind = Kind::of(store[at]);
+    let number = kind.number();
+    if number == 0 {
+        return Leap::Nowhere;
+    }
+    let body = at + 1;
+    let shape = kind.shape();
+    let length = shape.length();
+    if store.len() - body < length {
+        return Leap::Nowhere;
+    }
+    Leap::Over {
+        kind: number,
+        next: body + length,
+    }
+}
+
 // The offset of the record behind the one at an offset; the store's end where there is none.
 fn record_behind(store: &[u8], at: usize) -> usize
     ensures { λ r. ⌜ entriesAt (now (store .entry)) r ≡ drop 1 (entriesAt (now (store .entry)) at) ⌝ }
 {
-    let Entry::Record {
-        kind: _,
-        fields: _,
-        next,
-    } = entries::read_record(store, at)
-    else {
+    let Leap::Over { kind: _, next } = leap_from(store, at) else {
         return store.len();
     };
     next
+}
+
+// How many tags the record at an offset counts, where it is a loop's; any other counts none.
+fn tags_at(store: &[u8], at: usize, kind: u8) -> usize
+    ensures { λ r. ⌜ r ≡ cond (eqb kind 5) (countOf (entryAt (now (store .entry)) at)) 0 ⌝ }
+{
+    if kind != Kind::LOOP {
+        return 0;
+    }
+    let Entry::Record {
+        kind: _,
+        fields,
+        next: _,
+    } = entries::read_record(store, at)
+    else {
+        return 0;
+    };
+    fields.number as usize
 }
 
 // The value at a spot.
@@ -163,11 +209,10 @@ pub fn next_value(store: &[u8], here: Here) -> Step
     let mut spot = here;
     let mut at = here.at;
     while at < store.len() {
-        let Entry::Record { kind, fields, next } = entries::read_record(store, at) else {
+        let Leap::Over { kind, next } = leap_from(store, at) else {
             return Step::End;
         };
-        let k = kind.number();
-        if nesting::is_value(k) {
+        if nesting::is_value(kind) {
             let value = value_at(store, spot);
             let mut after = spot;
             after.at = next;
@@ -176,7 +221,7 @@ pub fn next_value(store: &[u8], here: Here) -> Step
             after.name = tag_behind(store, spot);
             return Step::Met { value, after };
         }
-        spot = behind(spot, k, fields.number as usize, next);
+        spot = behind(spot, kind, tags_at(store, at, kind), next);
         at = next;
     }
     Step::End
