@@ -5,11 +5,10 @@ use mathlib.Core.Bool.{Bool, true, false, cond, _&&_, _||_, true≢false}
 use mathlib.Core.List.{List, [], _∷_}
 use native.Mathlib.Omega.{arith}
 use native.Mathlib.Numerals.{add-one}
-use native.Mathlib.Nat.{zero-mod, mod-zero, mod-self, mod-lt, mod-eq-of-lt, mod-add-mod, div-zero}
+use native.Mathlib.Nat.{mod-zero, div-zero}
 use borrow.Author.Tests.{leb-true, leb-false, eqb-true, ne-eqb}
 use lib.Dec.{eqb, leb}
 use lib.ListN.{length, drop}
-use lib.Seq.{drop-drop}
 use Rattle.text.proofs.Bools.{or-cases, and-l}
 use Rattle.kinds.specs.declared.Kind.{Kind}
 use Rattle.kinds.specs.declared.Kind.the-variants.{NoKind, Block, FrameOpen, FrameClose, Tag, Loop, LoopTag}
@@ -26,12 +25,10 @@ use Rattle.entries.proofs.Walking.{rest, rest-all, rest-over, rest-none, next-a
 use Rattle.kinds.specs.Kinds.{isValueKind}
 use Rattle.cells.specs.declared.Here.{Here}
 use Rattle.cells.specs.declared.Found.{Found}
-use Rattle.cells.specs.declared.Leap.{Leap}
-use Rattle.cells.specs.declared.Leap.the-variants.{Over, Nowhere}
 use Rattle.cells.specs.declared.Step.{Step}
 use Rattle.cells.specs.declared.Step.the-variants.{Met, End}
 use Rattle.cells.specs.Cells.{Cell, Under, outset, under, cell, cellsFrom, cells}
-use Rattle.cells.specs.Walk.{entriesAt, IsAt, underOf, cellsAt, first, Placed, opened, closed, tagged, looped, counted, passed, hereAfter, cellOf, Lies, Finds, listed, Kept, Ahead, leapOf, countOf}
+use Rattle.cells.specs.Walk.{entriesAt, IsAt, underOf, cellsAt, first, Placed, opened, closed, tagged, looped, counted, passed, hereAfter, cellOf, Lies, Finds, listed, Kept, Ahead}
 use Rattle.cells.proofs.Offsets.{entries-rest, at-first, at-next, at-behind}
 
 -- a kind of values
@@ -66,23 +63,6 @@ column-none c t e = rw (e, mod-zero c)
 
 pub row-none : (c t : ℕ) → t ≡ 0 → _≡_ {A = ℕ} 0 (c / t)
 row-none c t e = rw (e, div-zero c)
-
--- the next column: the first one again behind the last
-column-next : (c t : ℕ) → (c % t + 1 ≡ t → ⊥) → (c + 1) % t ≡ c % t + 1
-column-next c zero d = mod-zero (c + 1) ∙ rw (mod-zero c)
-column-next c (suc t) d =
-    let l : c % suc t < suc t = mod-lt c (omega arith) in
-    sym (mod-add-mod c (suc t) 1) ∙ mod-eq-of-lt (omega arith)
-
-column-again : (c t : ℕ) → c % t + 1 ≡ t → (c + 1) % t ≡ 0
-column-again c t e = sym (mod-add-mod c t 1) ∙ ap (λ (z : ℕ). z % t) e ∙ mod-self t
-
--- its tag
-pub tag-again : (es : List Entry) (c t : ℕ) → c % t + 1 ≡ t → es ≡ drop ((c + 1) % t) es
-tag-again es c t e = rw (column-again c t e)
-
-pub tag-next : (es l m : List Entry) (c t : ℕ) → (c % t + 1 ≡ t → ⊥) → l ≡ drop (c % t) es → m ≡ drop 1 l → m ≡ drop ((c + 1) % t) es
-tag-next es l m c t d p q = q ∙ ap (drop 1) p ∙ drop-drop 1 (c % t) es ∙ rw (column-next c t d)
 
 -- a value counts
 pub under-value : (k n i : ℕ) (u : Under) → isValueKind k ≡ true → under k n i u ≡ record { frame = u .frame; header = u .header; tags = u .tags; count = suc (u .count) }
@@ -153,9 +133,9 @@ module _ (st : List ℕ) (h : Here) where
   cells-none l e = rw (entries-rest st (h .at), rest-none st (h .at) l e)
 
   module _ (k : Kind) (f : Fields) (next : ℕ) (l : h .at < length st) (e : entryAt st (h .at) ≡ Record k f next) where
-    pub cells-value : (name : ℕ) → isValueKind (numberOf k) ≡ true → cellsAt st h ≡ cell (h .number) (underOf h) ∷ cellsAt st (counted next name h)
+    pub cells-value : isValueKind (numberOf k) ≡ true → cellsAt st h ≡ cell (h .number) (underOf h) ∷ cellsAt st (counted next h)
     unfolding cellsAt cellsFrom underOf
-    cells-value name q = rw (entries-rest st (h .at), next-at st (h .at) k f next l e .here, q, under-value (numberOf k) (f .number) (h .number) (underOf h) q, ← add-one (h .number), ← add-one (h .count), entries-rest st next)
+    cells-value q = rw (entries-rest st (h .at), next-at st (h .at) k f next l e .here, q, under-value (numberOf k) (f .number) (h .number) (underOf h) q, ← add-one (h .number), ← add-one (h .count), entries-rest st next)
 
     cells-pass : isValueKind (numberOf k) ≡ false → cellsAt st h ≡ cellsFrom (rest st next) (suc (h .number)) (under (numberOf k) (f .number) (h .number) (underOf h))
     unfolding cellsAt cellsFrom
@@ -170,13 +150,12 @@ module _ (st : List ℕ) (h : Here) where
     pub onwards : h .at < next
     onwards = next-at st (h .at) k f next l e .onwards
 
-    pub placed-value : (name : ℕ) → entriesAt st name ≡ drop ((h .count + 1) % h .tags) (entriesAt st (h .from)) → Placed st h → Placed st (counted next name h)
-    placed-value name n p =
+    pub placed-value : Placed st h → Placed st (counted next h)
+    placed-value p =
         record {
           here = at-next st (h .at) (h .number) k f next l e (p .here);
           frame = p .frame;
           header = p .header;
-          column = n;
           counted = omega (arith, p .counted);
           within = omega (arith, p .within, onwards);
         }
@@ -191,19 +170,16 @@ module _ (st : List ℕ) (h : Here) where
         past : h .number + 1 ≤ next
         past = omega (arith, p .within, onwards)
 
-        none : (n : ℕ) (es : List Entry) → es ≡ drop (0 % n) es
-        none n es = rw (zero-mod n)
-
         by : (a b c d : Bool) → Placed st (cond a (opened next h) (cond b (closed next h) (cond c (tagged next h) (cond d (looped n next h) (passed next h)))))
-        by true b c d = record { here = on; frame = p .here; header = p .header; column = p .column; counted = omega (arith, p .counted); within = past }
-        by false true c d = record { here = on; frame = at-first st; header = p .header; column = p .column; counted = omega (arith, p .counted); within = past }
-        by false false true d = record { here = on; frame = p .frame; header = p .here; column = refl; counted = omega arith; within = past }
-        by false false false true = record { here = on; frame = p .frame; header = on; column = none n (entriesAt st next); counted = omega arith; within = past }
-        by false false false false = record { here = on; frame = p .frame; header = p .header; column = p .column; counted = omega (arith, p .counted); within = past }
+        by true b c d = record { here = on; frame = p .here; header = p .header; counted = omega (arith, p .counted); within = past }
+        by false true c d = record { here = on; frame = at-first st; header = p .header; counted = omega (arith, p .counted); within = past }
+        by false false true d = record { here = on; frame = p .frame; header = p .here; counted = omega arith; within = past }
+        by false false false true = record { here = on; frame = p .frame; header = on; counted = omega arith; within = past }
+        by false false false false = record { here = on; frame = p .frame; header = p .header; counted = omega (arith, p .counted); within = past }
 
 -- the walk starts with all values
 pub placed-first : (st : List ℕ) → Placed st first
-placed-first st = record { here = at-first st; frame = at-first st; header = at-first st; column = refl; counted = omega arith; within = omega arith }
+placed-first st = record { here = at-first st; frame = at-first st; header = at-first st; counted = omega arith; within = omega arith }
 
 pub cells-first : (st : List ℕ) → cells st ≡ cellsAt st first
 unfolding cells cellsAt underOf
@@ -270,15 +246,15 @@ pub cells-size : (st : List ℕ) → 17 * length (cells st) ≤ length st
 unfolding cells
 cells-size st = rw (rest-all st) (omega (arith, size-from (length st) st 0 0 outset (omega arith)))
 
--- the value at a spot, by its column and its row
+-- the value at a spot, by its column, the offset of its tag, and its row
 pub finds :
-    (st : List ℕ) (h : Here) (column row : ℕ) → Placed st h → column ≡ h .count % h .tags → row ≡ h .count / h .tags →
-    Finds st h (record { number = h .number; at = h .at; frame = h .frame; outer = h .outer; tag = h .header + column; name = h .name; row = row })
+    (st : List ℕ) (h : Here) (column name row : ℕ) → Placed st h → column ≡ h .count % h .tags → entriesAt st name ≡ drop column (entriesAt st (h .from)) → row ≡ h .count / h .tags →
+    Finds st h (record { number = h .number; at = h .at; frame = h .frame; outer = h .outer; tag = h .header + column; name = name; row = row })
 unfolding cell underOf
-finds st h column row p c r =
+finds st h column name row p c n r =
     record {
       value = rw (c, r);
-      lies = record { here = p .here; frame = p .frame; tag = at-behind st (h .from) (h .header) (h .name) column (p .header) (p .column ∙ rw (← c)) };
+      lies = record { here = p .here; frame = p .frame; tag = at-behind st (h .from) (h .header) name column (p .header) n };
     }
 
 -- a spot, at an offset, that a walk from another one has come to without a value between
@@ -308,12 +284,9 @@ module _ (st : List ℕ) (from h : Here) (at : ℕ) (w : Comes st from h at) whe
     pub come-onwards : at < next
     come-onwards = next-at st at k f next l e .onwards
 
-    pub come-value :
-        isValueKind (numberOf k) ≡ true → (x : Found) → Finds st h x → (name : ℕ) → entriesAt st name ≡ drop ((h .count + 1) % h .tags) (entriesAt st (h .from)) →
-        Ahead st from (Met x (counted next name h))
-    come-value q x f′ name n =
-        ahead-met st from x (counted next name h) (w .values ∙ cells-value st h k f next inside here name q ∙ ap (λ (c : Cell). c ∷ cellsAt st (counted next name h)) (sym (f′ .value))) (f′ .lies)
-        (placed-value st h k f next inside here name n (w .placed))
+    pub come-value : isValueKind (numberOf k) ≡ true → (x : Found) → Finds st h x → Ahead st from (Met x (counted next h))
+    come-value q x f′ =
+        ahead-met st from x (counted next h) (w .values ∙ cells-value st h k f next inside here q ∙ ap (λ (c : Cell). c ∷ cellsAt st (counted next h)) (sym (f′ .value))) (f′ .lies) (placed-value st h k f next inside here (w .placed))
 
     pub come-other : isValueKind (numberOf k) ≡ false → Comes st from (hereAfter (numberOf k) (f .number) next h) next
     come-other q =
@@ -322,43 +295,3 @@ module _ (st : List ℕ) (from h : Here) (at : ℕ) (w : Comes st from h at) whe
           placed = placed-after st h k f next inside here (f .number) (w .placed);
           values = w .values ∙ cells-other st h k f next inside here q;
         }
-
--- what a leap tells of the record
-pub record Leapt (e : Entry) (n next : ℕ) : Type 0 where
-  pub kind : Kind
-  pub fields : Fields
-  pub is : e ≡ Record kind fields next
-  pub number : numberOf kind ≡ n
-
-pub leapt : (e : Entry) (n next : ℕ) → leapOf e ≡ Over n next → Leapt e n next
-unfolding leapOf
-leapt (Record k f m) n next q =
-    let a : numberOf k ≡ n = cc in
-    let b : m ≡ next = cc in
-    record { kind = k; fields = f; is = ap (λ (z : ℕ). Record k f z) b; number = a }
-leapt Nothing n next q =
-    let z : _≡_ {A = ℕ} 0 1 = cc in
-    absurd (omega arith)
-
-pub leapt-none : (e : Entry) → leapOf e ≡ Nowhere → e ≡ Nothing
-unfolding leapOf
-leapt-none (Record k f m) q =
-    let z : _≡_ {A = ℕ} 0 1 = cc in
-    absurd (omega arith)
-leapt-none Nothing q = refl
-
--- tags count for loops alone
-counts-loop : (k n next : ℕ) (h : Here) → hereAfter k (cond (eqb k 5) n 0) next h ≡ hereAfter k n next h
-unfolding hereAfter
-counts-loop k n next h = by (eqb k 5)
-  where
-    by :
-        (t : Bool) →
-        cond (eqb k 2) (opened next h) (cond (eqb k 3) (closed next h) (cond (eqb k 4) (tagged next h) (cond t (looped (cond t n 0) next h) (passed next h)))) ≡
-        cond (eqb k 2) (opened next h) (cond (eqb k 3) (closed next h) (cond (eqb k 4) (tagged next h) (cond t (looped n next h) (passed next h))))
-    by true = refl
-    by false = refl
-
-pub after-leap : (e : Entry) (n next : ℕ) (l : Leapt e n next) (h : Here) → hereAfter n (cond (eqb n 5) (countOf e) 0) next h ≡ hereAfter (numberOf (l .kind)) (l .fields .number) next h
-unfolding countOf
-after-leap e n next l h = counts-loop n (countOf e) next h ∙ rw (l .is, ← l .number)

@@ -48,17 +48,29 @@ at-next st at n k f next h e i =
     let walk : drop n (entries st) ≡ Record k f (next - at) ∷ rest st next = sym i ∙ entries-rest st at ∙ next-at st at k f next h e .here in
     entries-rest st next ∙ sym (drop-next (entries st) n _ _ walk) ∙ rw (add-one n)
 
--- behind the last there is none
-pub behind-none : (st : List ℕ) (at : ℕ) → entryAt st at ≡ Nothing → entriesAt st (length st) ≡ drop 1 (entriesAt st at)
-behind-none st at e = entries-rest st (length st) ∙ rest-over st (length st) (omega arith) ∙ sym (ap (drop 1) (entries-rest st at) ∙ by (leb (length st) at) refl)
+-- so many on, there are no more
+pub behind-none : (st : List ℕ) (at n : ℕ) → 0 < n → entryAt st at ≡ Nothing → entriesAt st (length st) ≡ drop n (entriesAt st at)
+behind-none st at zero p e = absurd (omega arith)
+behind-none st at (suc n) p e = entries-rest st (length st) ∙ rest-over st (length st) (omega arith) ∙ sym (ap (drop (suc n)) (entries-rest st at) ∙ by (leb (length st) at) refl)
   where
-    by : (t : Bool) → leb (length st) at ≡ t → drop 1 (rest st at) ≡ []
+    by : (t : Bool) → leb (length st) at ≡ t → drop (suc n) (rest st at) ≡ []
     by true q = rw (rest-over st at (leb-true (length st) at q))
-    by false q = rw (rest-none st at (leb-false (length st) at q) e)
+    by false q = rw (rest-none st at (leb-false (length st) at q) e) (none n)
+      where
+        none : (n : ℕ) → _≡_ {A = List Entry} (drop n []) []
+        none zero = refl
+        none (suc n) = refl
 
--- behind any other the next
-pub behind-one : (st : List ℕ) (at : ℕ) (k : Kind) (f : Fields) (next : ℕ) → entryAt st at ≡ Record k f next → entriesAt st next ≡ drop 1 (entriesAt st at)
-behind-one st at k f next e = entries-rest st next ∙ sym (ap (drop 1) (entries-rest st at ∙ next-at st at k f next (found st at k f next e .here) e .here))
+-- one on
+pub behind-more : (st : List ℕ) (at n : ℕ) (k : Kind) (f : Fields) (next : ℕ) → 0 < n → entryAt st at ≡ Record k f next → drop n (entriesAt st at) ≡ drop (n - 1) (entriesAt st next)
+behind-more st at zero k f next p e = absurd (omega arith)
+behind-more st at (suc n) k f next p e =
+    let less : suc n - 1 ≡ n = omega arith in
+    let h = found st at k f next e .here in
+    ap (drop (suc n)) (entries-rest st at ∙ next-at st at k f next h e .here) ∙ rw (less, entries-rest st next)
+
+pub behind-done : (st : List ℕ) (at n : ℕ) → n ≡ 0 → entriesAt st at ≡ drop n (entriesAt st at)
+behind-done st at n e = rw e
 
 -- the record so many behind has a number larger by so many
 pub at-behind : (st : List ℕ) (at n r m : ℕ) → IsAt st at n → entriesAt st r ≡ drop m (entriesAt st at) → IsAt st r (n + m)

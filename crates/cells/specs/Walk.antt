@@ -1,18 +1,14 @@
 -- How the values of a store are walked: a spot and a value found have numbers of records and, beside each, the offset where that record stands. Assumes nothing.
-use Prim.Native.Nat.{ℕ, suc, _+_, _%_, _≤_}
+use Prim.Native.Nat.{ℕ, suc, _+_, _≤_}
 use mathlib.Core.Path.{_≡_}
 use mathlib.Core.Bool.{Bool, cond}
 use mathlib.Core.List.{List, [], _∷_}
 use lib.Dec.{eqb}
 use lib.ListN.{drop}
-use Rattle.kinds.specs.Kinds.{numberOf}
 use Rattle.entries.specs.declared.Entry.{Entry}
-use Rattle.entries.specs.declared.Entry.the-variants.{Record, Nothing}
 use Rattle.entries.specs.Walk.{entriesFrom, entries}
 use Rattle.cells.specs.declared.Here.{Here}
 use Rattle.cells.specs.declared.Found.{Found}
-use Rattle.cells.specs.declared.Leap.{Leap}
-use Rattle.cells.specs.declared.Leap.the-variants.{Over, Nowhere}
 use Rattle.cells.specs.declared.Step.{Step}
 use Rattle.cells.specs.declared.Step.the-variants.{Met, End}
 use Rattle.cells.specs.Cells.{Cell, Under, cell, cellsFrom}
@@ -35,35 +31,34 @@ cellsAt st h = cellsFrom (entriesAt st (h .at)) (h .number) (underOf h)
 
 -- the spot of the first record
 abbrev pub first : Here
-first = record { at = 0; number = 0; frame = 0; outer = 0; header = 0; from = 0; tags = 0; count = 0; name = 0 }
+first = record { at = 0; number = 0; frame = 0; outer = 0; header = 0; from = 0; tags = 0; count = 0 }
 
--- a spot's offsets are those of its records, the next value's tag among them; no more values of an item than records behind its first tag, no more records than bytes
+-- a spot's offsets are those of its records; no more values of an item than records behind its first tag, no more records than bytes
 pub record Placed (st : List ℕ) (h : Here) : Type 0 where
   pub here : IsAt st (h .at) (h .number)
   pub frame : IsAt st (h .outer) (h .frame)
   pub header : IsAt st (h .from) (h .header)
-  pub column : entriesAt st (h .name) ≡ drop (h .count % h .tags) (entriesAt st (h .from))
   pub counted : h .header + h .count ≤ h .number
   pub within : h .number ≤ h .at
 
--- the next spot, by what stands between: a frame opens, a frame closes, a single tag, a loop of n tags, a value with the offset of the next one's tag, or any other record
+-- the next spot, by what stands between: a frame opens, a frame closes, a single tag, a loop of n tags, a value, or any other record
 abbrev pub opened : ℕ → Here → Here
-opened next h = record { at = next; number = h .number + 1; frame = h .number; outer = h .at; header = h .header; from = h .from; tags = h .tags; count = h .count; name = h .name }
+opened next h = record { at = next; number = h .number + 1; frame = h .number; outer = h .at; header = h .header; from = h .from; tags = h .tags; count = h .count }
 
 abbrev pub closed : ℕ → Here → Here
-closed next h = record { at = next; number = h .number + 1; frame = 0; outer = 0; header = h .header; from = h .from; tags = h .tags; count = h .count; name = h .name }
+closed next h = record { at = next; number = h .number + 1; frame = 0; outer = 0; header = h .header; from = h .from; tags = h .tags; count = h .count }
 
 abbrev pub tagged : ℕ → Here → Here
-tagged next h = record { at = next; number = h .number + 1; frame = h .frame; outer = h .outer; header = h .number; from = h .at; tags = 1; count = 0; name = h .at }
+tagged next h = record { at = next; number = h .number + 1; frame = h .frame; outer = h .outer; header = h .number; from = h .at; tags = 1; count = 0 }
 
 abbrev pub looped : ℕ → ℕ → Here → Here
-looped n next h = record { at = next; number = h .number + 1; frame = h .frame; outer = h .outer; header = h .number + 1; from = next; tags = n; count = 0; name = next }
+looped n next h = record { at = next; number = h .number + 1; frame = h .frame; outer = h .outer; header = h .number + 1; from = next; tags = n; count = 0 }
 
-abbrev pub counted : ℕ → ℕ → Here → Here
-counted next name h = record { at = next; number = h .number + 1; frame = h .frame; outer = h .outer; header = h .header; from = h .from; tags = h .tags; count = h .count + 1; name = name }
+abbrev pub counted : ℕ → Here → Here
+counted next h = record { at = next; number = h .number + 1; frame = h .frame; outer = h .outer; header = h .header; from = h .from; tags = h .tags; count = h .count + 1 }
 
 abbrev pub passed : ℕ → Here → Here
-passed next h = record { at = next; number = h .number + 1; frame = h .frame; outer = h .outer; header = h .header; from = h .from; tags = h .tags; count = h .count; name = h .name }
+passed next h = record { at = next; number = h .number + 1; frame = h .frame; outer = h .outer; header = h .header; from = h .from; tags = h .tags; count = h .count }
 
 -- behind a record that is no value, of kind k and, if it is a loop's, with n tags
 unfoldable pub hereAfter : ℕ → ℕ → ℕ → Here → Here
@@ -99,13 +94,3 @@ Kept st End = Unit
 pub record Ahead (st : List ℕ) (h : Here) (r : Step) : Type 0 where
   pub values : cellsAt st h ≡ listed st r
   pub kept : Kept st r
-
--- what is read of a record that is passed over
-unfoldable pub leapOf : Entry → Leap
-leapOf (Record k f next) = Over (numberOf k) next
-leapOf Nothing = Nowhere
-
--- how many tags a record counts, if it is a loop's
-unfoldable pub countOf : Entry → ℕ
-countOf (Record k f next) = f .number
-countOf Nothing = 0

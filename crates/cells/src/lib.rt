@@ -1,16 +1,13 @@
 // The values of a store, one after the other: each with its record, its frame, its tag and its row.
 ghost use mathlib.Core.Path.{_≡_};
-ghost use mathlib.Core.Bool.{cond};
 ghost use Prim.Native.Nat.{_+_, _/_, _%_, _<_, _^_};
-ghost use lib.Dec.{eqb};
 ghost use lib.ListN.{drop};
-ghost use Rattle.entries.specs.Entries.{entryAt};
-ghost use Rattle.cells.specs.Walk.{entriesAt, Placed, Finds, Ahead, hereAfter, first, leapOf, countOf};
+ghost use Rattle.cells.specs.Walk.{entriesAt, Placed, Finds, Ahead, hereAfter, first};
 use entries::Entry;
 use kinds::Kind;
 
 // Where a walk stands: a record, the frame it stands in, the first tag of its item, each by number and offset; how many
-// tags that has, how many of its values stand before, and the offset of the tag that the next one has.
+// tags that has, and how many of its values stand before.
 pub struct Here {
     pub at: usize,
     pub number: usize,
@@ -20,7 +17,6 @@ pub struct Here {
     pub from: usize,
     pub tags: usize,
     pub count: usize,
-    pub name: usize,
 }
 
 // A value: its record, its frame's and its tag's, each by number and offset, and its row. Frame 0 is the block.
@@ -40,12 +36,6 @@ pub enum Step {
     End,
 }
 
-// A record that is passed over.
-enum Leap {
-    Over { kind: u8, next: usize },
-    Nowhere,
-}
-
 // The spot of the first record.
 pub fn start() -> Here
     ensures { λ r. ⌜ r ≡ first ⌝ }
@@ -59,7 +49,6 @@ pub fn start() -> Here
         from: 0,
         tags: 0,
         count: 0,
-        name: 0,
     }
 }
 
@@ -83,56 +72,25 @@ fn row_of(count: usize, tags: usize) -> usize
     count / tags
 }
 
-// The record at an offset: its kind, and where the next one starts. Its fields are not read, as most are passed over.
-fn leap_from(store: &[u8], at: usize) -> Leap
-    ensures { λ r. ⌜ r ≡ leapOf (entryAt (now (store .entry)) at) ⌝ }
+// The offset of the record so many behind the one at an offset; the store's end where there are not so many.
+fn offset_behind(store: &[u8], from: usize, n: usize) -> usize
+    ensures { λ r. ⌜ entriesAt (now (store .entry)) r ≡ drop n (entriesAt (now (store .entry)) from) ⌝ }
 {
-    if store.len() <= at {
-        return Leap::Nowhere;
+    let mut at = from;
+    let mut left = n;
+    while 0 < left {
+        let Entry::Record {
+            kind: _,
+            fields: _,
+            next,
+        } = entries::read_record(store, at)
+        else {
+            return store.len();
+        };
+        at = next;
+        left -= 1;
     }
-    let kind = Kind::of(store[at]);
-    let number = kind.number();
-    if number == 0 {
-        return Leap::Nowhere;
-    }
-    let body = at + 1;
-    let shape = kind.shape();
-    let length = shape.length();
-    if store.len() - body < length {
-        return Leap::Nowhere;
-    }
-    Leap::Over {
-        kind: number,
-        next: body + length,
-    }
-}
-
-// The offset of the record behind the one at an offset; the store's end where there is none.
-fn record_behind(store: &[u8], at: usize) -> usize
-    ensures { λ r. ⌜ entriesAt (now (store .entry)) r ≡ drop 1 (entriesAt (now (store .entry)) at) ⌝ }
-{
-    let Leap::Over { kind: _, next } = leap_from(store, at) else {
-        return store.len();
-    };
-    next
-}
-
-// How many tags the record at an offset counts, where it is a loop's; any other counts none.
-fn tags_at(store: &[u8], at: usize, kind: u8) -> usize
-    ensures { λ r. ⌜ r ≡ cond (eqb kind 5) (countOf (entryAt (now (store .entry)) at)) 0 ⌝ }
-{
-    if kind != Kind::LOOP {
-        return 0;
-    }
-    let Entry::Record {
-        kind: _,
-        fields,
-        next: _,
-    } = entries::read_record(store, at)
-    else {
-        return 0;
-    };
-    fields.number as usize
+    at
 }
 
 // The value at a spot.
@@ -147,21 +105,9 @@ fn value_at(store: &[u8], here: Here) -> Found
         frame: here.frame,
         outer: here.outer,
         tag: here.header + column,
-        name: here.name,
+        name: offset_behind(store, here.from, column),
         row: row_of(here.count, here.tags),
     }
-}
-
-// The offset of the tag of the value behind the one at a spot: the next one, or behind the last the first again.
-fn tag_behind(store: &[u8], here: Here) -> usize
-    requires { ⌜ Placed (now store) here × (here .count + 1 < 2 ^ 64) ⌝ }
-    ensures { λ r. ⌜ entriesAt (now (store .entry)) r ≡ drop ((here .count + 1) % here .tags) (entriesAt (now (store .entry)) (here .from)) ⌝ }
-{
-    let column = column_of(here.count, here.tags);
-    if column + 1 == here.tags {
-        return here.from;
-    }
-    record_behind(store, here.name)
 }
 
 // The spot behind a record that is no value.
@@ -187,7 +133,6 @@ fn behind(here: Here, kind: u8, tags: usize, next: usize) -> Here
         after.from = here.at;
         after.tags = 1;
         after.count = 0;
-        after.name = here.at;
         return after;
     }
     if kind == Kind::LOOP {
@@ -195,7 +140,6 @@ fn behind(here: Here, kind: u8, tags: usize, next: usize) -> Here
         after.from = next;
         after.tags = tags;
         after.count = 0;
-        after.name = next;
         return after;
     }
     after
@@ -209,19 +153,19 @@ pub fn next_value(store: &[u8], here: Here) -> Step
     let mut spot = here;
     let mut at = here.at;
     while at < store.len() {
-        let Leap::Over { kind, next } = leap_from(store, at) else {
+        let Entry::Record { kind, fields, next } = entries::read_record(store, at) else {
             return Step::End;
         };
-        if nesting::is_value(kind) {
+        let k = kind.number();
+        if nesting::is_value(k) {
             let value = value_at(store, spot);
             let mut after = spot;
             after.at = next;
             after.number = spot.number + 1;
             after.count = spot.count + 1;
-            after.name = tag_behind(store, spot);
             return Step::Met { value, after };
         }
-        spot = behind(spot, kind, tags_at(store, at, kind), next);
+        spot = behind(spot, k, fields.number as usize, next);
         at = next;
     }
     Step::End

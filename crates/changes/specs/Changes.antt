@@ -11,10 +11,7 @@ use Rattle.entries.specs.Walk.{entries}
 use Rattle.stores.specs.Content.{nth}
 use Rattle.cells.specs.Cells.{Cell, cells}
 use Rattle.cases.specs.Cases.{caseOf}
-use Rattle.cells.specs.declared.Found.{Found}
-use Rattle.cells.specs.Walk.{cellOf}
-use Rattle.partners.specs.declared.Partner.{Partner}
-use Rattle.partners.specs.Partners.{partner, Matched}
+use Rattle.partners.specs.Partners.{partner}
 use Rattle.changes.specs.declared.Change.{Change}
 
 -- an entry, unless the case is 0
@@ -60,7 +57,3 @@ changesBytes (c ∷ cs) = changeBytes c ++ changesBytes cs
 -- what one call answers: an entry, or none where the case is 0
 abbrev pub listed : Change → List Change
 listed c = change (c .case) (c .old) (c .new)
-
--- what a search for the partner of a value answered
-abbrev pub Partnered : List ℕ → List ℕ → List ℕ → List ℕ → Found → Partner → Type 0
-Partnered st ar st′ ar′ x p = Matched st′ p (partner st ar st′ ar′ (cellOf x))

@@ -6,8 +6,7 @@ ghost use lib.ListN.{length};
 ghost use Rattle.records.specs.Put.{put};
 ghost use Rattle.stores.specs.Soundness.{sound};
 ghost use Rattle.cells.specs.Walk.{cellOf, Lies};
-ghost use Rattle.soles.specs.Singular.{Singular};
-ghost use Rattle.changes.specs.Changes.{listed, ofSide, sideOf, changeBytes, changesBytes, Partnered};
+ghost use Rattle.changes.specs.Changes.{listed, ofSide, sideOf, changeBytes, changesBytes};
 use cells::Found;
 use cells::Step;
 use number_cases::ONLY_NEW;
@@ -26,9 +25,6 @@ pub struct Change {
 // The bytes of an entry.
 pub const ENTRY: usize = 17;
 
-// How many columns are remembered at a time.
-const SLOTS: usize = 128;
-
 // The entry of a value of the old store.
 fn of_old(
     reading: Reading,
@@ -37,11 +33,11 @@ fn of_old(
     x: Found,
     store2: &[u8],
     area2: &[u8],
-    partner: Partner,
 ) -> Change
-    requires { ⌜ (sound reading (now store) (now area) ≡ true) × (sound reading (now store2) (now area2) ≡ true) × Lies (now store) x × Partnered (now store) (now area) (now store2) (now area2) x partner ⌝ }
+    requires { ⌜ (sound reading (now store) (now area) ≡ true) × (sound reading (now store2) (now area2) ≡ true) × Lies (now store) x ⌝ }
     ensures { λ r. ⌜ listed r ≡ ofSide true (now (store .entry)) (now (area .entry)) (now (store2 .entry)) (now (area2 .entry)) (cellOf x) ⌝ }
 {
+    let partner = partners::find_partner(store, area, x, store2, area2);
     let Partner::Is { value } = partner else {
         return Change {
             case: ONLY_OLD,
@@ -57,17 +53,11 @@ fn of_old(
 }
 
 // The entry of a value of the new store.
-fn of_new(
-    store: &[u8],
-    area: &[u8],
-    x: Found,
-    store2: &[u8],
-    area2: &[u8],
-    partner: Partner,
-) -> Change
-    requires { ⌜ Partnered (now store) (now area) (now store2) (now area2) x partner ⌝ }
+fn of_new(store: &[u8], area: &[u8], x: Found, store2: &[u8], area2: &[u8]) -> Change
+    requires { ⌜ Lies (now store) x ⌝ }
     ensures { λ r. ⌜ listed r ≡ ofSide false (now (store .entry)) (now (area .entry)) (now (store2 .entry)) (now (area2 .entry)) (cellOf x) ⌝ }
 {
+    let partner = partners::find_partner(store, area, x, store2, area2);
     let Partner::Is { value: _ } = partner else {
         return Change {
             case: ONLY_NEW,
@@ -91,15 +81,14 @@ fn of_side(
     x: Found,
     store2: &[u8],
     area2: &[u8],
-    partner: Partner,
 ) -> Change
-    requires { ⌜ (sound reading (now store) (now area) ≡ true) × (sound reading (now store2) (now area2) ≡ true) × Lies (now store) x × Partnered (now store) (now area) (now store2) (now area2) x partner ⌝ }
+    requires { ⌜ (sound reading (now store) (now area) ≡ true) × (sound reading (now store2) (now area2) ≡ true) × Lies (now store) x ⌝ }
     ensures { λ r. ⌜ listed r ≡ ofSide old (now (store .entry)) (now (area .entry)) (now (store2 .entry)) (now (area2 .entry)) (cellOf x) ⌝ }
 {
     if old {
-        return of_old(reading, store, area, x, store2, area2, partner);
+        return of_old(reading, store, area, x, store2, area2);
     }
-    of_new(store, area, x, store2, area2, partner)
+    of_new(store, area, x, store2, area2)
 }
 
 // How many bytes the entries of a store's values take.
@@ -111,26 +100,17 @@ pub fn count_side(
     store2: &[u8],
     area2: &[u8],
 ) -> usize
-    requires { ⌜ (sound reading (now store) (now area) ≡ true) × (sound reading (now store2) (now area2) ≡ true) × Singular (now store2) (now area2) ⌝ }
+    requires { ⌜ (sound reading (now store) (now area) ≡ true) × (sound reading (now store2) (now area2) ≡ true) ⌝ }
     ensures { λ r. ⌜ r ≡ length (changesBytes (sideOf old (now (store .entry)) (now (area .entry)) (now (store2 .entry)) (now (area2 .entry)))) ⌝ }
 {
     let mut here = cells::start();
-    let mut last = cells::start();
-    let mut slots = [matching::empty(); SLOTS];
     let mut total = 0;
     loop {
         let Step::Met { value, after } = cells::next_value(store, here) else {
             return total;
         };
-        let column = value.tag % SLOTS;
-        let slot = slots[column];
-        let sought = matching::find(store, area, value, store2, area2, slot, last);
-        let partner = sought.partner;
-        let kept = sought.slot;
-        let change = of_side(reading, old, store, area, value, store2, area2, partner);
+        let change = of_side(reading, old, store, area, value, store2, area2);
         total += size_of(change);
-        slots[column] = kept;
-        last = sought.last;
         here = after;
     }
 }
@@ -177,27 +157,18 @@ pub fn write_side(
     list: &mut [u8],
     from: usize,
 )
-    requires { ⌜ (sound reading (now store) (now area) ≡ true) × (sound reading (now store2) (now area2) ≡ true) × Singular (now store2) (now area2) × (from + length (changesBytes (sideOf old (now store) (now area) (now store2) (now area2))) ≤ length (now list)) ⌝ }
+    requires { ⌜ (sound reading (now store) (now area) ≡ true) × (sound reading (now store2) (now area2) ≡ true) × (from + length (changesBytes (sideOf old (now store) (now area) (now store2) (now area2))) ≤ length (now list)) ⌝ }
     ensures { λ r. ⌜ now (list .exit) ≡ put from (changesBytes (sideOf old (now (store .entry)) (now (area .entry)) (now (store2 .entry)) (now (area2 .entry)))) (now (list .entry)) ⌝ }
 {
     let mut here = cells::start();
-    let mut last = cells::start();
-    let mut slots = [matching::empty(); SLOTS];
     let mut at = from;
     loop {
         let Step::Met { value, after } = cells::next_value(store, here) else {
             return;
         };
-        let column = value.tag % SLOTS;
-        let slot = slots[column];
-        let sought = matching::find(store, area, value, store2, area2, slot, last);
-        let partner = sought.partner;
-        let kept = sought.slot;
-        let change = of_side(reading, old, store, area, value, store2, area2, partner);
+        let change = of_side(reading, old, store, area, value, store2, area2);
         put_change(list, at, change);
         at += size_of(change);
-        slots[column] = kept;
-        last = sought.last;
         here = after;
     }
 }

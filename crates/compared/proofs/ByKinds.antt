@@ -19,7 +19,7 @@ use Rattle.nesting.specs.declared.Stand.{Stand}
 use Rattle.nesting.specs.declared.Stand.the-variants.{Stands, Falls}
 use Rattle.nesting.specs.Nesting.{standing, afterName, atNames, atValues, ended, follow, nestedFrom, nested}
 use Rattle.cells.specs.Cells.{Cell, Under, outset, under, cell, cellsFrom, cells}
-use Rattle.soles.proofs.Leads.{Leads, block, tag, loop, frame, close, name, last, value, end, single, leads}
+use Rattle.compared.proofs.Leads.{Leads, block, tag, loop, frame, close, name, last, value, end, single, leads}
 
 -- the kinds of entries, by number
 unfoldable pub kindsOf : List Entry → List ℕ

@@ -22,7 +22,7 @@ use Rattle.frames.specs.Frames.{framesFrom, frames, earlier, firstTwice, blocks
 use Rattle.comparing.specs.Comparing.{judged}
 use Rattle.written.specs.Sayings.{saying, sayings, SaySame}
 use Rattle.compared.proofs.ByKinds.{kindsOf}
-use Rattle.comparing.proofs.Answers.{judged-singular}
+use Rattle.compared.proofs.Itself.{Kept, kept}
 use Rattle.compared.proofs.Said.{kindsSaid, kinds-said, Alike, alike, shown, name-shape, frame-shape}
 
 -- equal lists of what is said, first and rest
@@ -105,5 +105,5 @@ module _ (r : Reading) (st ar st′ ar′ : List ℕ) (e : judged r st ar ≡ Di
   pub said-judged : judged r st′ ar′ ≡ Distinct
   unfolding judged isSingle firstTwice earlier namingOf
   said-judged =
-      let k = judged-singular r st ar e in
+      let k = kept r st ar e in
       rw (s, eq-eqb (blocksIn (entries st′)) 1 (sym same-blocks ∙ k .single), ← same-names, ← same-frames, k .tags, k .opens)

@@ -1,4 +1,7 @@
+pub mod Fresh
+pub mod Leads
 pub mod Selves
+pub mod Soles
 pub mod Itself
 pub mod Done
 pub mod Turned

@@ -30,12 +30,11 @@ use Rattle.cases.specs.Cases.{isText, caseOf}
 use Rattle.changes.specs.Changes.{changes}
 use Rattle.comparing.specs.Comparing.{judged}
 use Rattle.written.specs.Sayings.{Saying, says, nothing, contentIn, saying, sayings, SaySame}
-use Rattle.soles.specs.Members.{In, here, there}
-use Rattle.soles.specs.Singular.{Singular}
+use Rattle.compared.specs.Members.{In, here, there}
 use Rattle.compared.specs.Twins.{Twins}
 use Rattle.compared.proofs.Selves.{IsRecord, whole, value-record}
-use Rattle.soles.proofs.Soles.{nm, Told, told-all}
-use Rattle.comparing.proofs.Answers.{judged-singular}
+use Rattle.compared.proofs.Soles.{nm, Told, told-all}
+use Rattle.compared.proofs.Itself.{Kept, kept}
 use Rattle.compared.proofs.Twins.{twins-empty, case-twin}
 use Rattle.compared.proofs.ByKinds.{kindsOf, same-cells}
 
@@ -230,17 +229,14 @@ module _ (r : Reading) (st ar st′ ar′ : List ℕ) (e : judged r st ar ≡ Di
   unfolding sound
   nested-new = and-l (nested r (entries st′)) _ s
 
-  ready : Singular st ar
-  ready = judged-singular r st ar e
-
   told : (x : Cell) → In x (cells st) → Told st ar x
-  told x m = told-all st ar (ready .reading) (ready .whole) (ready .single) x m
+  told x m = told-all st ar r (kept r st ar e .whole) (kept r st ar e .single) x m
 
   twins : Twins st ar st′ ar′
   unfolding nameOf names frames nm
   twins =
       record {
-        same = same-cells (ready .reading) r st st′ (ready .whole) nested-new kinds-same;
+        same = same-cells r r st st′ (kept r st ar e .whole) nested-new kinds-same;
         tags = λ x m. name-same ar ar′ (nth (entries st) (x .tag)) (nth (entries st′) (x .tag)) (whole-store (entries st) _ (in-names (entries st) ar 0 0 0 _ (told x m .tagged))) (each (x .tag));
         opens = λ x m d. name-same ar ar′ (nth (entries st) (x .frame)) (nth (entries st′) (x .frame)) (whole-store (entries st) _ (in-frames (entries st) ar 0 _ (told x m .framed d))) (each (x .frame));
         values = λ x m. value-same ar ar′ (nth (entries st) (x .number)) (nth (entries st′) (x .number)) (value-record st x m) (each (x .number));

@@ -26,7 +26,7 @@ use Rattle.cases.specs.Cases.{isNumber, isText, unmarked, othersCase, caseOf}
 use Rattle.partners.specs.Partners.{sameFrame, meets, partnerIn, partner}
 use Rattle.changes.specs.declared.Change.{Change}
 use Rattle.changes.specs.Changes.{change, ofOld, ofNew, ofSide, ofAll, sideOf, changes}
-use Rattle.soles.specs.Members.{In, here, there, Sole}
+use Rattle.compared.specs.Members.{In, here, there, Sole}
 
 -- a record is the same as itself
 parts-self : (p : Parts) → sameParts p p ≡ true

@@ -18,10 +18,9 @@ use Rattle.partners.specs.Partners.{meets, partnerIn, partner}
 use Rattle.changes.specs.declared.Change.{Change}
 use Rattle.changes.specs.Changes.{change, ofOld, ofNew, ofSide, ofAll, sideOf, changes}
 use Rattle.comparing.specs.Comparing.{judged}
-use Rattle.soles.specs.Members.{In, here, there, Sole}
+use Rattle.compared.specs.Members.{In, here, there, Sole}
 use Rattle.compared.specs.Turned.{turnedCase, turned}
-use Rattle.soles.proofs.Meeting.{meets-turned, meets-through, partner-some, partner-is}
-use Rattle.compared.proofs.Turned.{case-turned}
+use Rattle.compared.proofs.Turned.{case-turned, meets-turned, meets-through}
 use Rattle.compared.proofs.Itself.{judged-sole}
 
 -- lists in a row
@@ -98,6 +97,36 @@ turned-some n d e = by (eqb n 1) (eqb n 2) (eqb n 4) (eqb n 5) e
     by false false true s e = omega arith
     by false false false true e = omega arith
     by false false false false e = d e
+
+-- partners
+record Found (st ar st′ ar′ : List ℕ) (ys : List Cell) (x y : Cell) : Type 0 where
+  among : In y ys
+  meet : meets st ar st′ ar′ x y ≡ true
+
+module _ (st ar st′ ar′ : List ℕ) (x : Cell) where
+  partner-some : (ys : List Cell) (y : Cell) → partnerIn st ar st′ ar′ ys x ≡ some y → Found st ar st′ ar′ ys x y
+  unfolding partnerIn
+  partner-some [] y e =
+      let z : _≡_ {A = ℕ} 0 1 = cc in
+      absurd (omega arith)
+  partner-some (z ∷ ys) y e = by (meets st ar st′ ar′ x z) refl e (λ q. partner-some ys y q)
+    where
+      by : (t : Bool) → meets st ar st′ ar′ x z ≡ t → cond t (some z) (partnerIn st ar st′ ar′ ys x) ≡ some y → (partnerIn st ar st′ ar′ ys x ≡ some y → Found st ar st′ ar′ ys x y) → Found st ar st′ ar′ (z ∷ ys) x y
+      by true q e again =
+          let same : z ≡ y = cc in
+          record { among = here same; meet = ap (meets st ar st′ ar′ x) (sym same) ∙ q }
+      by false q e again =
+          let f = again e in
+          record { among = there (f .among); meet = f .meet }
+
+  pub partner-is : (ys : List Cell) (y : Cell) → In y ys → meets st ar st′ ar′ x y ≡ true → ((z : Cell) → In z ys → meets st ar st′ ar′ x z ≡ true → y ≡ z) → partnerIn st ar st′ ar′ ys x ≡ some y
+  unfolding partnerIn
+  partner-is (z ∷ ys) y m e only = by (meets st ar st′ ar′ x z) refl m (λ q. partner-is ys y q e (λ w p s. only w (there p) s))
+    where
+      by : (t : Bool) → meets st ar st′ ar′ x z ≡ t → In y (z ∷ ys) → (In y ys → partnerIn st ar st′ ar′ ys x ≡ some y) → cond t (some z) (partnerIn st ar st′ ar′ ys x) ≡ some y
+      by true q m again = ap some (sym (only z (here refl) q))
+      by false q (here p) again = absurd (true≢false (sym e ∙ ap (meets st ar st′ ar′ x) (sym p) ∙ q))
+      by false q (there p) again = again p
 
 module _ (st ar st′ ar′ : List ℕ) (s : Sole st ar) where
   -- the partner of x has x for its own

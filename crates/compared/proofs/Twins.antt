@@ -25,10 +25,11 @@ use Rattle.partners.specs.Partners.{sameFrame, meets, partner}
 use Rattle.changes.specs.declared.Change.{Change}
 use Rattle.changes.specs.Changes.{change, ofOld, ofNew, ofSide, ofAll, sideOf, changes}
 use Rattle.comparing.specs.Comparing.{judged}
-use Rattle.soles.specs.Members.{In, here, there, Sole}
+use Rattle.compared.specs.Members.{In, here, there, Sole}
 use Rattle.compared.specs.Twins.{Twins}
 use Rattle.compared.proofs.Selves.{meets-self, numbers-self, others-self}
-use Rattle.soles.proofs.Meeting.{meets-turned, meets-through, partner-is}
+use Rattle.compared.proofs.Turned.{meets-turned, meets-through}
+use Rattle.compared.proofs.Swapped.{partner-is}
 use Rattle.compared.proofs.Itself.{judged-sole}
 
 module _ (st ar st′ ar′ : List ℕ) (s : Sole st ar) (t : Twins st ar st′ ar′) where

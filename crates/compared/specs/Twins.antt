@@ -7,7 +7,7 @@ use Rattle.entries.specs.Walk.{entries}
 use Rattle.stores.specs.Content.{nth}
 use Rattle.cells.specs.Cells.{Cell, cells, nameOf}
 use Rattle.cases.specs.Cases.{caseOf}
-use Rattle.soles.specs.Members.{In}
+use Rattle.compared.specs.Members.{In}
 
 pub record Twins (st ar st′ ar′ : List ℕ) : Type 0 where
   pub same : cells st ≡ cells st′

@@ -7,7 +7,6 @@ use native.Mathlib.Omega.{arith}
 use borrow.Author.Tests.{le-leb, lt-leb}
 use lib.Dec.{leb, ltb}
 use lib.ListN.{length, length-append}
-use Rattle.text.proofs.Bools.{and-l, and-r}
 use Rattle.rules.specs.declared.Reading.{Reading}
 use Rattle.records.specs.Put.{front, put}
 use Rattle.records.proofs.Putting.{front-next, put-zero, length-front}
@@ -17,8 +16,6 @@ use Rattle.naming.specs.declared.Naming.{Naming}
 use Rattle.naming.specs.declared.Naming.the-variants.{Distinct, NotSound, Repeated}
 use Rattle.naming.specs.Names.{Repeat, fresh, repeats, firstRepeat, namingOf, nameCheck}
 use Rattle.frames.specs.Frames.{frames, earlier, firstTwice, isSingle}
-use Rattle.soles.specs.Singular.{Singular}
-use Rattle.soles.proofs.Singular.{singular}
 use Rattle.changes.specs.Changes.{changes, sideOf, changesBytes}
 use Rattle.changes.proofs.Changes.{bytes-append, side-fits}
 use Rattle.comparing.specs.declared.Comparing.{Comparing}
@@ -64,38 +61,6 @@ module _ (r : Reading) (st ar : List ℕ) where
       by false t q =
           let z : _≡_ {A = ℕ} 0 1 = cc in
           absurd (omega arith)
-
-both-fresh : (a b : Repeat) → namingOf (earlier a b) ≡ Distinct → (a ≡ fresh) × (b ≡ fresh)
-unfolding earlier namingOf
-both-fresh fresh fresh e = (refl, refl)
-both-fresh fresh (repeats k l) e =
-    let z : _≡_ {A = ℕ} 0 1 = cc in
-    absurd (omega arith)
-both-fresh (repeats i j) fresh e =
-    let z : _≡_ {A = ℕ} 0 1 = cc in
-    absurd (omega arith)
-both-fresh (repeats i j) (repeats k l) e = by (ltb l j) e
-  where
-    by : (t : Bool) → namingOf (cond t (repeats k l) (repeats i j)) ≡ Distinct → (repeats i j ≡ fresh) × (repeats k l ≡ fresh)
-    by true e =
-        let z : _≡_ {A = ℕ} 0 1 = cc in
-        absurd (omega arith)
-    by false e =
-        let z : _≡_ {A = ℕ} 0 1 = cc in
-        absurd (omega arith)
-
--- and may be compared
-pub judged-singular : (r : Reading) (st ar : List ℕ) → judged r st ar ≡ Distinct → Singular st ar
-unfolding judged firstTwice
-judged-singular r st ar e = by (sound r st ar && isSingle st) refl e
-  where
-    by : (t : Bool) → (sound r st ar && isSingle st) ≡ t → cond t (namingOf (firstTwice st ar)) NotSound ≡ Distinct → Singular st ar
-    by true q e =
-        let names-fresh = both-fresh (firstRepeat (names st ar)) (firstRepeat (frames st ar)) e in
-        singular r st ar (and-l (sound r st ar) _ q) (and-r (sound r st ar) _ q) (names-fresh .0) (names-fresh .1)
-    by false q e =
-        let z : _≡_ {A = ℕ} 0 1 = cc in
-        absurd (omega arith)
 
 -- BOTH
 pub refusal-none : (a b : Naming) → refusalOf a b ≡ Distinct → (a ≡ Distinct) × (b ≡ Distinct)
@@ -165,7 +130,7 @@ module _ (r : Reading) (st ar st′ ar′ l : List ℕ) (n : Naming) (e : n ≡ 
   both-distinct : n ≡ Distinct → (judged r st ar ≡ Distinct) × (judged r st′ ar′ ≡ Distinct)
   both-distinct q = refusal-none (judged r st ar) (judged r st′ ar′) (sym e ∙ q)
 
-  pub both-ready : n ≡ Distinct → (sound r st ar ≡ true) × (sound r st′ ar′ ≡ true) × Singular st ar × Singular st′ ar′
-  both-ready q =
+  pub both-sound : n ≡ Distinct → (sound r st ar ≡ true) × (sound r st′ ar′ ≡ true)
+  both-sound q =
       let d = both-distinct q in
-      (judged-sound r st ar (d .0), judged-sound r st′ ar′ (d .1), judged-singular r st ar (d .0), judged-singular r st′ ar′ (d .1))
+      (judged-sound r st ar (d .0), judged-sound r st′ ar′ (d .1))

@@ -2,7 +2,6 @@
 ghost use mathlib.Core.Path.{_≡_};
 ghost use mathlib.Core.Bool.{true};
 ghost use Rattle.stores.specs.Soundness.{sound};
-ghost use Rattle.soles.specs.Singular.{Singular};
 ghost use Rattle.comparing.specs.Comparing.{judged, refusalOf, comparingReport, Compares};
 ghost use Rattle.comparing.specs.Steps.{reported, earlierOf, Writes};
 use naming::Naming;
@@ -121,7 +120,7 @@ fn write_list(
     area2: &[u8],
     list: &mut [u8],
 ) -> Comparing
-    requires { ⌜ (sound reading (now store) (now area) ≡ true) × (sound reading (now store2) (now area2) ≡ true) × Singular (now store) (now area) × Singular (now store2) (now area2) ⌝ }
+    requires { ⌜ (sound reading (now store) (now area) ≡ true) × (sound reading (now store2) (now area2) ≡ true) ⌝ }
     ensures { λ r. ⌜ Writes (now (store .entry)) (now (area .entry)) (now (store2 .entry)) (now (area2 .entry)) (now (list .entry)) r (now (list .exit)) ⌝ }
 {
     let first = changes::count_side(reading, true, store, area, store2, area2);

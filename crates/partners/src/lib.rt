@@ -1,12 +1,13 @@
-// Whether a value of one store meets a value of another: the same scope, name and row.
+// The value of another store that a value meets: the same scope, name and row.
 ghost use mathlib.Core.Path.{_≡_};
 ghost use Rattle.folding.specs.Folding.{sameName};
 ghost use Rattle.steps.specs.Steps.{heldAt};
 ghost use Rattle.cells.specs.Walk.{IsAt, cellOf, Lies};
-ghost use Rattle.partners.specs.Partners.{sameFrame, meets};
+ghost use Rattle.partners.specs.Partners.{sameFrame, meets, partner, Matched};
 use cells::Found;
+use cells::Step;
 
-// What a search for the value that one meets answers.
+// What a search for a partner answers.
 pub enum Partner {
     Is { value: Found },
     Missing,
@@ -36,7 +37,7 @@ fn same_frame(store: &[u8], area: &[u8], x: Found, store2: &[u8], area2: &[u8], 
 }
 
 // Whether two values meet.
-pub fn do_meet(store: &[u8], area: &[u8], x: Found, store2: &[u8], area2: &[u8], y: Found) -> bool
+fn do_meet(store: &[u8], area: &[u8], x: Found, store2: &[u8], area2: &[u8], y: Found) -> bool
     requires { ⌜ Lies (now store) x × Lies (now store2) y ⌝ }
     ensures { λ r. ⌜ r ≡ meets (now (store .entry)) (now (area .entry)) (now (store2 .entry)) (now (area2 .entry)) (cellOf x) (cellOf y) ⌝ }
 {
@@ -47,4 +48,21 @@ pub fn do_meet(store: &[u8], area: &[u8], x: Found, store2: &[u8], area2: &[u8],
         return false;
     }
     same_frame(store, area, x, store2, area2, y)
+}
+
+// The first value of the other store that a value meets.
+pub fn find_partner(store: &[u8], area: &[u8], x: Found, store2: &[u8], area2: &[u8]) -> Partner
+    requires { ⌜ Lies (now store) x ⌝ }
+    ensures { λ r. ⌜ Matched (now (store2 .entry)) r (partner (now (store .entry)) (now (area .entry)) (now (store2 .entry)) (now (area2 .entry)) (cellOf x)) ⌝ }
+{
+    let mut here = cells::start();
+    loop {
+        let Step::Met { value, after } = cells::next_value(store2, here) else {
+            return Partner::Missing;
+        };
+        if do_meet(store, area, x, store2, area2, value) {
+            return Partner::Is { value };
+        }
+        here = after;
+    }
 }

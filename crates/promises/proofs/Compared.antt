@@ -21,7 +21,7 @@ use Rattle.exports.specs.Exports.{exported, noReading}
 use Rattle.answers.specs.Answers.{readGives, readBy, storeLeft, storeBy, areaLeft, areaBy, renderGives, renderBy, renderLeft, renderedBy, compareBy, compareGives, comparedBy, listLeft}
 use Rattle.written.specs.Results.{storeBytes, areaBytes}
 use Rattle.round_trip.specs.Claims.{renderedBytes, Renderable}
-use Rattle.soles.specs.Members.{In}
+use Rattle.compared.specs.Members.{In}
 use Rattle.compared.specs.Turned.{turned}
 use Rattle.compared.proofs.Itself.{itself-empty, empty-compared, empty-kept}
 use Rattle.compared.proofs.Done.{Done, done, done-list}

@@ -9,7 +9,7 @@ use Rattle.changes.specs.declared.Change.{Change}
 use Rattle.changes.specs.Changes.{changes, changesBytes}
 use Rattle.exports.specs.Exports.{exported}
 use Rattle.answers.specs.Answers.{compareGives, listLeft}
-use Rattle.soles.specs.Members.{In}
+use Rattle.compared.specs.Members.{In}
 use Rattle.compared.specs.Turned.{turned}
 
 -- a store with its area may be compared: with itself, and without any room, it is not refused

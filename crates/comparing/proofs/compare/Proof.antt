@@ -1,7 +1,7 @@
 -- `comparing::compare`: what both stores say, then the list. Assumes nothing.
 use borrow.Author.Needs.{needs}
 use mathlib.Core.Path.{_≡_, _∙_}
-use Rattle.comparing.proofs.Answers.{compared-unsound, compared-twice, compared-list, both-ready}
+use Rattle.comparing.proofs.Answers.{compared-unsound, compared-twice, compared-list, both-sound}
 use Rattle.comparing.proofs.compare.Statement.{statement}
 use Rattle.comparing.proofs.compare.Tie as tie
 
@@ -24,7 +24,7 @@ enum-told-2 : tie.Need-enum-told-2
 enum-told-2 c = search needs
 
 write-list-requires : tie.Need-write-list-requires
-write-list-requires c κs = both-ready _ _ _ _ _ (c .before .before .before .before .before .before .before .before .before .before .before .args .list .now) _ (c .before .before .before .refusal .ensures ∙ rw (c .before .before .before .before .before .judge .ensures, c .before .before .before .before .judge2 .ensures)) (c .before .enum-told2 .given .1)
+write-list-requires c κs = both-sound _ _ _ _ _ (c .before .before .before .before .before .before .before .before .before .before .before .args .list .now) _ (c .before .before .before .refusal .ensures ∙ rw (c .before .before .before .before .before .judge .ensures, c .before .before .before .before .judge2 .ensures)) (c .before .enum-told2 .given .1)
 
 returns : tie.Need-returns
 returns c = compared-unsound _ _ _ _ _ _ _ (c .before .before .refusal .ensures ∙ rw (c .before .before .before .before .judge .ensures, c .before .before .before .judge2 .ensures)) (c .enum-told .given .1)

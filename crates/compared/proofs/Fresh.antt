@@ -9,7 +9,7 @@ use Rattle.folding.proofs.Same.{same-folded, folded-same}
 use Rattle.names.specs.Names.{Name, sameBoth}
 use Rattle.names.proofs.Same.{same-scope, same-bytes, same-within}
 use Rattle.naming.specs.Names.{Repeat, fresh, repeats, firstSame, repeatOr, repeatFrom, firstRepeat}
-use Rattle.soles.specs.Members.{In, here, there}
+use Rattle.compared.specs.Members.{In, here, there}
 
 in-left : {x : Name} {xs : List Name} (ys : List Name) → In x xs → In x (xs ++ ys)
 in-left ys (here e) = here e

@@ -5,7 +5,7 @@ use mathlib.Core.Path.{_≡_, refl, sym, ap, ap₂, subst, _∙_}
 use mathlib.Core.Bool.{Bool, true, false, cond, _&&_, _||_, true≢false}
 use mathlib.Core.List.{List, [], _∷_}
 use native.Mathlib.Omega.{arith}
-use native.Mathlib.Nat.{mod-lt, div-add-mod', add-mod-right, div-eq-of-lt, div-eq-sub-div}
+use native.Mathlib.Nat.{mod-lt, div-add-mod'}
 use borrow.Author.Tests.{eq-eqb, ne-eqb, eqb-true, eqb-false, leb-true, leb-false}
 use lib.Dec.{eqb, leb}
 use lib.ListN.{drop}
@@ -33,9 +33,9 @@ use Rattle.frames.specs.Frames.{framesFrom, frames, blocksIn}
 use Rattle.cells.specs.Cells.{Cell, Under, outset, under, cell, cellsFrom, cells, nameOf}
 use Rattle.cells.proofs.Cells.{under-value}
 use Rattle.partners.specs.Partners.{sameFrame, meets}
-use Rattle.soles.specs.Members.{In, here, there, Sole}
-use Rattle.soles.proofs.Fresh.{fresh-sole}
-use Rattle.soles.proofs.Leads.{Leads, block, tag, loop, frame, close, name, last, value, end, single, leads}
+use Rattle.compared.specs.Members.{In, here, there, Sole}
+use Rattle.compared.proofs.Fresh.{fresh-sole}
+use Rattle.compared.proofs.Leads.{Leads, block, tag, loop, frame, close, name, last, value, end, single, leads}
 
 -- what stands behind record number n
 unfoldable pub underAt : List Entry → ℕ → Under → ℕ → Under
@@ -44,7 +44,7 @@ underAt (Nothing ∷ es) i u n = u
 underAt (Record k f m ∷ es) i u n = let more = underAt es (suc i) (under (numberOf k) (f .number) i u) n in cond (eqb n i) (under (numberOf k) (f .number) i u) more
 
 -- a list with or without its first
-with-first : {A : Type 0} (t : Bool) (x y : A) (ys : List A) → In x ys → In x (cond t (y ∷ ys) ys)
+with-first : (t : Bool) (x y : Name) (ys : List Name) → In x ys → In x (cond t (y ∷ ys) ys)
 with-first true x y ys m = there m
 with-first false x y ys m = m
 
@@ -81,26 +81,6 @@ scope-under k n i u d = rw (ne-eqb k 1 d) (by (eqb k 2) (eqb k 3) (eqb k 4) (eqb
     by false false false false true = refl
     by false false false false false = refl
 
--- rows and columns, one row up
-row-above : (j all row : ℕ) → j / all ≡ suc row → all ≤ j
-row-above j all row e = by (leb all j) refl
-  where
-    by : (t : Bool) → leb all j ≡ t → all ≤ j
-    by true q = leb-true all j q
-    by false q =
-        let z : j / all ≡ 0 = div-eq-of-lt (leb-false all j q) in
-        absurd (omega arith)
-
-column-above : (j all : ℕ) → all ≤ j → (j - all) % all ≡ j % all
-column-above j all l =
-    let z : j - all + all ≡ j = omega arith in
-    sym (add-mod-right (j - all) all) ∙ ap (λ (n : ℕ). n % all) z
-
-row-less : (j all row : ℕ) → 0 < all → all ≤ j → j / all ≡ suc row → (j - all) / all ≡ row
-row-less j all row s l e =
-    let z : j / all ≡ (j - all) / all + 1 = div-eq-sub-div s l in
-    omega arith
-
 module _ (st ar : List ℕ) where
   unfoldable pub nm : ℕ → ℕ → Name
   nm n s = record { number = n; scope = s; bytes = nameOf st ar n }
@@ -115,17 +95,11 @@ module _ (st ar : List ℕ) where
   unfoldable pub placeOf : ℕ → ℕ → ℕ
   placeOf n row = headerAt n + tagsAt n + (row * tagsAt n + (n - headerAt n))
 
-  -- a tag has a value in a row
-  pub record Has (tag frame row : ℕ) : Type 0 where
-    pub number : ℕ
-    pub among : In (record { number = number; frame = frame; tag = tag; row = row }) (cells st)
-
-  -- what is to be shown of each value: its tag and its frame are named, they and the row lead to it, and the row before has one too
+  -- what is to be shown of each value
   pub record Told (y : Cell) : Type 0 where
     pub tagged : In (nm (y .tag) (y .frame)) (names st ar)
     pub framed : (y .frame ≡ 0 → ⊥) → In (nm (y .frame) 0) (frames st ar)
     pub placed : y .number ≡ placeOf (y .tag) (y .row)
-    pub before : (row : ℕ) → y .row ≡ suc row → Has (y .tag) (y .frame) row
 
   -- what the rest of a store has to do with the whole
   record Common (es : List Entry) (i : ℕ) (u : Under) : Type 0 where
@@ -134,7 +108,6 @@ module _ (st ar : List ℕ) where
     opens : (x : Name) → In x (framesFrom es ar i) → In x (frames st ar)
     records : drop i (entries st) ≡ es
     framed : (u .frame ≡ 0 → ⊥) → In (nm (u .frame) 0) (frames st ar)
-    values : (x : Cell) → In x (cellsFrom es i u) → In x (cells st)
 
   module _ (k : Kind) (f : Fields) (m : ℕ) (es : List Entry) (i : ℕ) (u : Under) (c : Common (Record k f m ∷ es) i u) where
     name-here : nameOf st ar i ≡ contentBytes ar k f
@@ -161,7 +134,7 @@ module _ (st ar : List ℕ) where
     frame-after d false false p q h = rw (ne-eqb (numberOf k) 1 d, p, q) (c .framed (λ e. h (rw (ne-eqb (numberOf k) 1 d, p, q) e)))
 
     common-step : (numberOf k ≡ 1 → ⊥) → Common es (suc i) (under (numberOf k) (f .number) i u)
-    unfolding underAt namesFrom framesFrom blockAfter cellsFrom
+    unfolding underAt namesFrom framesFrom blockAfter
     common-step d =
         let same : scopeAfter (numberOf k) i 0 (u .frame) ≡ under (numberOf k) (f .number) i u .frame = scope-under (numberOf k) (f .number) i u d in
         record {
@@ -170,7 +143,6 @@ module _ (st ar : List ℕ) where
           opens = λ x q. c .opens x (with-first (eqb (numberOf k) 2) x (record { number = i; scope = 0; bytes = contentBytes ar k f }) _ q);
           records = drop-one (entries st) i _ es (c .records);
           framed = λ h. rw (← same) (frame-after d (eqb (numberOf k) 2) (eqb (numberOf k) 3) refl refl (λ e. h (sym same ∙ e)));
-          values = λ x q. c .values x (with-first (isValueKind (numberOf k)) x (cell i u) (cellsFrom es (suc i) (under (numberOf k) (f .number) i u)) q);
         }
 
   -- one of the tags of an item
@@ -194,7 +166,6 @@ module _ (st ar : List ℕ) where
     tags : u .tags ≡ all
     count : u .count ≡ j
     items : (c : ℕ) → c < all → Item u (u .header + c)
-    earlier : (c : ℕ) → c < j → Has (u .header + c % all) (u .frame) (c / all)
 
   Fit : Where → ℕ → Under → Type 0
   Fit Start i u = Unit
@@ -202,15 +173,6 @@ module _ (st ar : List ℕ) where
   Fit (Names all left) i u = Opening all left i u
   Fit (Values all j) i u = Filling all j i u
   Fit Wants i u = Filling 1 0 i u
-
-  -- the row before has as many values less
-  row-before : (all j : ℕ) {i : ℕ} (u : Under) → Filling all j i u → (row : ℕ) → j / all ≡ suc row → Has (u .header + u .count % u .tags) (u .frame) row
-  row-before all j u f row e =
-      let l : all ≤ j = row-above j all row e in
-      let less : j - all < j = omega (arith, f .some) in
-      let column : (j - all) % all ≡ u .count % u .tags = column-above j all l ∙ sym (rw (f .count, f .tags)) in
-      let one : (j - all) / all ≡ row = row-less j all row (f .some) l e in
-      subst (λ (n : ℕ). Has (u .header + n) (u .frame) row) column (subst (λ (n : ℕ). Has (u .header + (j - all) % all) (u .frame) n) one (f .earlier (j - all) less))
 
   -- a value of an item
   told-value : (all j i : ℕ) (u : Under) → Filling all j i u → ((u .frame ≡ 0 → ⊥) → In (nm (u .frame) 0) (frames st ar)) → Told (cell i u)
@@ -224,7 +186,6 @@ module _ (st ar : List ℕ) where
         tagged = it .named;
         framed = h;
         placed = f .at ∙ sym (rw (it .header, it .tags, back, whole, f .count, f .tags));
-        before = λ row e. row-before all j u f row (sym (rw (f .count, f .tags)) ∙ e);
       }
 
   -- one tag more of a loop
@@ -266,20 +227,6 @@ module _ (st ar : List ℕ) where
     met t again (here e) = subst Told e t
     met t again (there q) = again q
 
-    -- this value too
-    earlier-more : (all j : ℕ) → Filling all j i u → isValueKind (numberOf k) ≡ true → (n : ℕ) → n < suc j → Has (u .header + n % all) (u .frame) (n / all)
-    unfolding cellsFrom cell more v
-    earlier-more all j ft q n l = by (leb j n) refl
-      where
-        it : Has (u .header + u .count % u .tags) (u .frame) (u .count / u .tags)
-        it = record { number = i; among = c .values (cell i u) (rw q (here refl)) }
-
-        by : (t : Bool) → leb j n ≡ t → Has (u .header + n % all) (u .frame) (n / all)
-        by true e =
-            let z : n ≡ u .count = omega (arith, leb-true j n e, ft .count) in
-            rw (z, ← ft .tags) it
-        by false e = ft .earlier n (leb-false j n e)
-
     step : (w w′ : Where) → Leads w (numberOf k) (f .number) w′ → (numberOf k ≡ 1 → ⊥) → Fit w i u → (Fit w′ (suc i) v → In y more → Told y) → In y (cond (isValueKind (numberOf k)) (cell i u ∷ more) more) → Told y
     unfolding Fit v under isValueKind
     step w (Items e) (block q) d ft again p = absurd (d q)
@@ -296,7 +243,6 @@ module _ (st ar : List ℕ) where
           items = λ n l.
               let z : i + n ≡ i = omega arith in
               rw z it;
-          earlier = λ n l. absurd (omega arith);
         } in
         again (subst (λ (z : Under). Filling 1 0 (suc i) z) (sym e) fill) (passes (rw q) p)
     step (Items b) (Names all left) (loop q) d ft again p =
@@ -316,7 +262,7 @@ module _ (st ar : List ℕ) where
         let e : v ≡ u = rw q in
         let it : Item u i = here-is u e (rw q) refl (header-here u e) (tags-here u e) in
         let fill : Filling all 0 (suc i) u =
-        record { some = omega (arith, ft .few); at = omega (arith, ft .few, ft .at); tags = ft .tags; count = ft .count; items = λ n l. items-more all 0 i u ft it n (omega arith); earlier = λ n l. absurd (omega arith) } in
+        record { some = omega (arith, ft .few); at = omega (arith, ft .few, ft .at); tags = ft .tags; count = ft .count; items = λ n l. items-more all 0 i u ft it n (omega arith) } in
         again (subst (λ (z : Under). Filling all 0 (suc i) z) (sym e) fill) (passes (rw q) p)
     step (Values all j) (Values all₂ j₂) (value q) d ft again p =
         let w : Under = record { frame = u .frame; header = u .header; tags = u .tags; count = suc (u .count) } in
@@ -328,7 +274,6 @@ module _ (st ar : List ℕ) where
           tags = ft .tags;
           count = ap suc (ft .count);
           items = λ n l. record { named = ft .items n l .named; header = ft .items n l .header; tags = ft .items n l .tags };
-          earlier = earlier-more all j ft q;
         } in
         met (told-value all j i u ft (c .framed)) (again (subst (λ (z : Under). Filling all (suc j) (suc i) z) (sym e) fill)) (counts q p)
     step (Values all j) (Items a) (end q) d ft again p = again tt (passes (rw q) p)
@@ -358,7 +303,7 @@ module _ (st ar : List ℕ) where
 
   -- behind the block's own record
   common-first : (k : Kind) (f : Fields) (m : ℕ) (es : List Entry) → entries st ≡ Record k f m ∷ es → numberOf k ≡ 1 → Common es 1 outset
-  unfolding underAt under isValueKind names namesFrom frames framesFrom blockAfter scopeAfter cells cellsFrom
+  unfolding underAt under isValueKind names namesFrom frames framesFrom blockAfter scopeAfter
   common-first k f m es e q =
       record {
         after = λ n l. rw (e, q, ne-eqb n 0 (λ (z : n ≡ 0). omega arith));
@@ -366,7 +311,6 @@ module _ (st ar : List ℕ) where
         opens = λ x p. rw (e, q) p;
         records = rw e;
         framed = λ h. absurd (h refl);
-        values = λ x p. rw (e, q) p;
       }
 
   block-first : {k n : ℕ} {w : Where} → Leads Start k n w → (k ≡ 1) × Fit w 1 outset
@@ -396,7 +340,7 @@ module _ (st ar : List ℕ) where
       by (Record k f m ∷ es) e n b p = told-first r k f m es e (standing r false Start (numberOf k) (f .number)) refl n b y p
 
   -- frames of the same name are one
-  pub frames-one :
+  frames-one :
       firstRepeat (frames st ar) ≡ fresh → (n m : ℕ) → ((n ≡ 0 → ⊥) → In (nm n 0) (frames st ar)) → ((m ≡ 0 → ⊥) → In (nm m 0) (frames st ar)) → sameFrame st ar st ar n m ≡ true → n ≡ m
   unfolding sameFrame sameBoth nm
   frames-one e n m p q s = by (eqb n 0) (eqb m 0) refl refl s
@@ -410,7 +354,7 @@ module _ (st ar : List ℕ) where
           ap (λ (z : Name). z .number) one
 
   -- tags of the same name and scope are one
-  pub tags-one : firstRepeat (names st ar) ≡ fresh → (n m s t : ℕ) → In (nm n s) (names st ar) → In (nm m t) (names st ar) → s ≡ t → sameName (nameOf st ar n) (nameOf st ar m) ≡ true → n ≡ m
+  tags-one : firstRepeat (names st ar) ≡ fresh → (n m s t : ℕ) → In (nm n s) (names st ar) → In (nm m t) (names st ar) → s ≡ t → sameName (nameOf st ar n) (nameOf st ar m) ≡ true → n ≡ m
   unfolding sameBoth nm
   tags-one e n m s t p q h x =
       let one : nm n s ≡ nm m t = fresh-sole (names st ar) e (nm n s) (nm m t) p q (ap₂ (λ (a b : Bool). a && b) (eq-eqb s t h) x) in
