@@ -1,4 +1,3 @@
 pub mod Filling
 pub mod Looking
 pub mod Records
-pub mod Numbered

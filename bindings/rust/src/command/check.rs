@@ -21,10 +21,7 @@ fn file(reading: Reading, name: &OsStr) -> Status {
     let message = match Document::read_as(reading, &input.text) {
         Err(refusal) => message::refused(reading, &input, &refusal),
         Ok(document) => match document.check_names() {
-            Err(refusal) => {
-                let records = refusal.records.unwrap_or_default();
-                message::named_twice(&input, &document, records)
-            }
+            Err(refusal) => message::named_twice(&input, &document, &refusal),
             Ok(()) => return Status::Done,
         },
     };

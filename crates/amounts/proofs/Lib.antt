@@ -1,4 +1,0 @@
-pub mod Laws
-pub mod Kept
-pub mod Total
-pub mod Examples

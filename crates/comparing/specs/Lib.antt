@@ -1,2 +1,0 @@
-pub mod Comparing
-pub mod Steps
