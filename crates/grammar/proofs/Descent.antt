@@ -277,6 +277,7 @@ values-after r d t (u ∷ us) f out n ns vs h e = rw (add-zero, e.moves) (by (is
     by : (b : Bool) → follow (cond b (stop (refused 9 u.at 0)) (loop_ends r t.at (length (n ∷ ns)) (length vs) f out ((rec 5 t ∷ n ∷ ns) ++ vs) u)) (λ c. run r us c) ≡ item_run r d f out (cond b (broken 9 u.at 0) (rows r t (n ∷ ns) vs (u ∷ us)))
     by true = unfold item_run follow in refl
     by false = rows_run r d t u us f out n ns vs
+values-after r d t [] f out n ns vs h e = elim h [ ]
 
 -- from its names on, where no further one stands
 valued-after : (r : Reading) (d : ℕ) (t u : Tok) (us : List Tok) (f : Option ℕ) (out ns : List Rec) → Ends (u ∷ us) → follow (no_more_names r t.at (length ns) f out (rec 5 t ∷ ns) u) (λ c. run r us c) ≡ item_run r d f out (loop_valued r t ns (u ∷ us))
@@ -293,6 +294,7 @@ names-after r d t (u ∷ us) f out ns h e = rw (add-zero, e.moves) (by (is_tag u
     by : (b : Bool) → follow (cond b (stop (refused 17 u.at 0)) (no_more_names r t.at (length ns) f out (rec 5 t ∷ ns) u)) (λ c. run r us c) ≡ item_run r d f out (cond b (broken 17 u.at 0) (loop_valued r t ns (u ∷ us)))
     by true = unfold item_run follow in refl
     by false = valued-after r d t u us f out ns h
+names-after r d t [] f out ns h e = elim h [ ]
 
 loop-run : (r : Reading) (d : ℕ) (t : Tok) (ts : List Tok) (f : Option ℕ) (out : List Rec) → Ends ts → run r ts (config (names t.at 0) f out (rec 5 t ∷ [])) ≡ item_run r d f out (loop_item r t (name_recs r ts) (after_names r ts))
 loop-run r d t ts f out h = names-run r ts t.at 0 f out (rec 5 t ∷ []) ∙ names-after r d t (after_names r ts) f out (name_recs r ts) (names-ends r h) (not-name r ts)
@@ -311,6 +313,7 @@ single-run r d t u us f out (nothing w) = failed-run r d 6 t.at (reason (nothing
 valued-run : (r : Reading) (d : ℕ) (t : Tok) (ts : List Tok) (f : Option ℕ) (out : List Rec) → Ends ts → run r ts (config (wants t.at) f out (rec 4 t ∷ [])) ≡ item_run r d f out (tag_valued r t ts)
 unfolding run move config tag_valued
 valued-run r d t (u ∷ us) f out h = single-run r d t u us f out u.class
+valued-run r d t [] f out h = elim h [ ]
 
 tag-run : (r : Reading) (d : ℕ) (t : Tok) (ts : List Tok) (f : Option ℕ) (out : List Rec) → Ends ts → follow (named (fits_tag r t.size) t (go (config (wants t.at) f out (rec 4 t ∷ [])))) (λ c. run r ts c) ≡ item_run r d f out (tag_item r t ts)
 unfolding tag_item

@@ -38,10 +38,10 @@ module _ (f : ℕ → Bool) (tens : all_below (λ k. f (48 + k)) 10 ≡ true) (r
   all_append [] y p q = q
   all_append (b ∷ x) y p q = rw (and_l (f b) (all f x) p, all_append x y (and_r (f b) (all f x) p) q)
 
-  all_digits : (ds : List ℕ) → all_digits ds ≡ true → all f ds ≡ true
+  all-each_digit : (ds : List ℕ) → all_digits ds ≡ true → all f ds ≡ true
   unfolding all all_digits
-  all_digits [] a = refl
-  all_digits (d ∷ ds) a = rw (digit-is f tens d (and_l (is_digit d) (all_digits ds) a), all_digits ds (and_r (is_digit d) (all_digits ds) a))
+  all-each_digit [] a = refl
+  all-each_digit (d ∷ ds) a = rw (digit-is f tens d (and_l (is_digit d) (all_digits ds) a), all-each_digit ds (and_r (is_digit d) (all_digits ds) a))
 
   all-sign : {sg : List ℕ} → Sign sg → all f sg ≡ true
   unfolding all others
@@ -52,18 +52,18 @@ module _ (f : ℕ → Bool) (tens : all_below (λ k. f (48 + k)) 10 ≡ true) (r
   all-bracket : {w : List ℕ} {u : Part} → Bracket w u → all f w ≡ true
   unfolding all others
   all-bracket unbracketed = refl
-  all-bracket (bracketed ds a) = rw (other 5 (omega arith), all_append ds (41 ∷ []) (all_digits ds a) (rw (other 6 (omega arith))))
+  all-bracket (bracketed ds a) = rw (other 5 (omega arith), all_append ds (41 ∷ []) (all-each_digit ds a) (rw (other 6 (omega arith))))
 
   all-exponent : {w : List ℕ} {e u : Part} → Exponent w e u → all f w ≡ true
   unfolding all others
   all-exponent (unscaled k) = all-bracket k
   all-exponent (scaled c {sg} {w} ds l s a n k) =
-      rw (or_is (λ x. f x ≡ true) 101 69 (other 3 (omega arith)) (other 4 (omega arith)) c l, all_append sg (ds ++ w) (all-sign s) (all_append ds w (all_digits ds a) (all-bracket k)))
+      rw (or_is (λ x. f x ≡ true) 101 69 (other 3 (omega arith)) (other 4 (omega arith)) c l, all_append sg (ds ++ w) (all-sign s) (all_append ds w (all-each_digit ds a) (all-bracket k)))
 
   all-point : {w g : List ℕ} {e u : Part} → Point w g e u → all f w ≡ true
   unfolding all others
   all-point (whole x) = all-exponent x
-  all-point (pointed {w} ds a x) = rw (other 2 (omega arith), all_append ds w (all_digits ds a) (all-exponent x))
+  all-point (pointed {w} ds a x) = rw (other 2 (omega arith), all_append ds w (all-each_digit ds a) (all-exponent x))
 
   pub number-made : (w : List ℕ) → is_number (parts w) ≡ true → all f w ≡ true
   unfolding is_number parts
@@ -75,4 +75,4 @@ module _ (f : ℕ → Bool) (tens : all_below (λ k. f (48 + k)) 10 ≡ true) (r
       let q = bracket-view e.left (and_l (is_empty (bracket e.left).left) (not (is_empty i.got && is_empty g.got)) h) in
       let j : w ≡ s.got ++ (i.got ++ i.left) = sign-split w ∙ ap (λ r. s.got ++ r) (digits-split s.left) in
       subst (λ r. all f r ≡ true) (sym j)
-      (all_append s.got _ (all-sign (sign-got w)) (all_append i.got _ (all_digits i.got (digits-got s.left)) (all-point (point-view i.left (exponent-view g.left q)))))
+      (all_append s.got _ (all-sign (sign-got w)) (all_append i.got _ (all-each_digit i.got (digits-got s.left)) (all-point (point-view i.left (exponent-view g.left q)))))

@@ -71,6 +71,7 @@ part-inside r (Record k f n ∷ es) ar zero from size (more h o) p = by (is_cont
         let z : ◌≡◌ {A = ℕ} 0 1 = cc in
         absurd (omega arith)
 part-inside r (Record k f n ∷ es) ar (suc i) from size (more h o) p = part-inside r es ar i from size o p
+part-inside r (Nothing ∷ es) ar i from size o p = elim o [ ]
 
 pub content-inside : (r : Reading) (st ar : List ℕ) (i from size : ℕ) → content_at r st ar i ≡ Part from size → from + size ≤ length ar
 unfolding content_at

@@ -71,3 +71,4 @@ owned-nth r ar (Record j g m ∷ es) zero k f next (more h o) e =
     let b : g ≡ f = cc in
     rw (← a, ← b) h
 owned-nth r ar (Record j g m ∷ es) (suc i) k f next (more h o) e = owned-nth r ar es i k f next o e
+owned-nth r ar (Nothing ∷ es) i k f next o e = elim o [ ]

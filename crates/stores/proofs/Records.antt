@@ -97,6 +97,7 @@ walk-owned r st ar (Whole k f n ∷ es) at q (more h o) =
     let s = starts-of st at k f n es q in
     let here : walked_at st ar at ≡ answered k f (at + n) = unfold walked_at in rw s.entry (kept-answered r ar k f (at + n) h) in
     step st ar at (at + n) k f (answers (at + n) es) here (walk-owned r st ar es (at + n) s.more o)
+walk-owned r st ar (Nothing ∷ es) at q x4 = elim x4 [ ]
 
 pub walk-sound : (r : Reading) (st ar : List ℕ) → sound r st ar ≡ true → Walks st ar 0 (answers 0 (entries st))
 walk-sound r st ar e = walk-owned r st ar (entries st) 0 (sym (rest_all st)) (owned-sound r st ar e)

@@ -62,14 +62,14 @@ either-piece false x y = refl
 
 -- the word at an offset
 module _ (r : Reading) (s : List ℕ) (o : ℕ) where
-  whole_word : (other : Found) → judged_or other (word (drop o s)) (number_of r (take (word (drop o s)) (drop o s))) ≡ number_at r other s o (end_of_word s o)
+  judged-whole : (other : Found) → judged_or other (word (drop o s)) (number_of r (take (word (drop o s)) (drop o s))) ≡ number_at r other s o (end_of_word s o)
   unfolding number_at
-  whole_word other = rw (word_size s o)
+  judged-whole other = rw (word_size s o)
 
   whole-piece : found_of (whole_word r (drop o s)) ≡ word_at r s o
   unfolding word_at lexed wanted
   whole-piece =
-      word_piece r (drop o s) (lexed (value 10) (word (drop o s))) ∙ whole_word (Value 10 (word (drop o s)))
+      word_piece r (drop o s) (lexed (value 10) (word (drop o s))) ∙ judged-whole (Value 10 (word (drop o s)))
       ∙ ap (λ (n : ℕ). number_at r (Value 10 n) s o (end_of_word s o)) (sym (word_size s o))
 
 -- `.` or `?` alone, or as the start of a word
@@ -88,7 +88,7 @@ unknown-piece Strict s o = alone-piece 9 s o
 first_piece : (s : List ℕ) (o : ℕ) → drop o s ≡ 46 ∷ drop (suc o) s → (t : Bool) → is_digit (get_or s (o + 1) 0) ≡ t
     → judged_or (Value 8 1) (word (drop o s)) (number_of First (take (word (drop o s)) (drop o s))) ≡ cond t (number_at First (Value 8 1) s o (end_of_word s o)) (Value 8 1)
 unfolding judged_or
-first_piece s o l true d = whole_word First s o (Value 8 1)
+first_piece s o l true d = judged-whole First s o (Value 8 1)
 first_piece s o l false d =
     let k : suc o + 0 ≡ o + 1 = omega arith in
     let f : is_digit (get_or (drop (suc o) s) 0 0) ≡ false = rw (get_or-drop (suc o) s 0 0, k) d in
