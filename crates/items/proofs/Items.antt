@@ -179,6 +179,7 @@ values-answer r t ts (u ∷ us) n ns p z e h = rw (e, eqb-suc-zero (length ns)) 
     by : (b : Bool) → is_over u.class ≡ b → item_answer (cond b (broken 9 u.at 0) (rows r t (n ∷ ns) (value_recs ts) (u ∷ us))) ≡ cond b (Broken OverLimit u.at) (rows_of r t.at named counted)
     by true q = unfold item_answer in refl
     by false q = rows-answer r t u us (n ∷ ns) (value_recs ts) p (is_over u.class) z
+values-answer r t ts [] n ns p z e h = elim h [ ]
 
 valued-answer : (r : Reading) (t : Tok) (us : List Tok) (ns : List Rec) (p : ℕ) → t.size ≡ 5 → Ends us
     → item_answer (loop_valued r t ns us) ≡ loop_answer r t.at (record { count = length ns; next = p; sizes = sizes_of ns; last = last_at ns }) false (values_of us)

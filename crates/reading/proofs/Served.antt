@@ -18,7 +18,7 @@ use Rattle.sizes.specs.Sizes.{store_size, area_size}
 use Rattle.deciding.proofs.Told.{sizes-of, outline-read}
 use Rattle.walking.specs.Writing.{store_of, area_of}
 use Rattle.writing.specs.Block.{Fits, store_bytes, area_bytes}
-use Rattle.writing.proofs.Answers.{read_fits, store_bytes, area-bytes}
+use Rattle.writing.proofs.Answers.{read_fits, store-records, area-bytes}
 use Rattle.refusals.specs.declared.Refusal.{Refusal}
 use Rattle.reading.specs.declared.Stored.TheVariants.{Done, Refused, StoreFull, AreaFull}
 use Rattle.refusals.specs.Answers.{written_if}
@@ -70,7 +70,7 @@ module _ (g : Reading) (s : List ℕ) (z : Sizes) (i : IsRead g s z) where
   read-asks l a h k = read_fits g s i.records text.1 l a text.0 (omega (arith, need-store g s z i)) (omega (arith, need-area g s z i))
 
   pub stored : (l m : List ℕ) → m ≡ front (store_bytes g true s) l → m ≡ front (store_of true s 0 i.records) l
-  stored l m e = e ∙ ap (λ (x : List ℕ). front x l) (store_bytes g s i.records text.1 true)
+  stored l m e = e ∙ ap (λ (x : List ℕ). front x l) (store-records g s i.records text.1 true)
 
   pub copied : (l m : List ℕ) → m ≡ front (area_bytes g true s) l → m ≡ front (area_of s i.records) l
   copied l m e = e ∙ ap (λ (x : List ℕ). front x l) (area-bytes g s i.records text.1)

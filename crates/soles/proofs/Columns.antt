@@ -124,6 +124,7 @@ module _ (st ar st' ar' : List ℕ) (x : Cell) where
           omega arith
       by false q e (here w) again = true≢false (sym s ∙ ap (meets st ar st' ar' x) (sym w) ∙ q)
       by false q e (there w) again = again e w
+  none_never [] e y m s = elim m [ ]
 
 module _ (st ar st' ar' : List ℕ) (g : Singular st' ar') where
   -- WHAT MEETS A VALUE IS ITS PARTNER

@@ -30,6 +30,7 @@ none_before (z ∷ zs) x e y m = by (same_both z x) refl e m (λ q p. none_befor
         absurd (omega arith)
     by false q e (here p) again = ap (λ (n : Name). same_both n x) (sym p) ∙ q
     by false q e (there p) again = again e p
+none_before [] x e y m = elim m [ ]
 
 fresh-none : (o : Option ℕ) (j : ℕ) (rest : Repeat) → repeat_or o j rest ≡ fresh → (o ≡ none) × (rest ≡ fresh)
 unfolding repeat_or
@@ -42,6 +43,7 @@ apart_from : (before xs : List Name) → repeat_from before xs ≡ fresh → (y 
 unfolding repeat_from
 apart_from before (z ∷ xs) e y x m (here p) = ap (same_both y) (sym p) ∙ none_before before z (fresh-none (first_same before z) z.number _ e).0 y m
 apart_from before (z ∷ xs) e y x m (there p) = apart_from (before ++ (z ∷ [])) xs (fresh-none (first_same before z) z.number _ e).1 y x (in_left (z ∷ []) m) p
+apart_from before [] e y x m x5 = elim x5 [ ]
 
 same-turned : (x y : Name) → same_both x y ≡ true → same_both y x ≡ true
 same-turned x y e = sym (same-within y x (sym (same-scope x y e))) ∙ folded-same y.bytes x.bytes (sym (same-folded x.bytes y.bytes (same_bytes x y e)))
@@ -54,6 +56,7 @@ sole-from before (z ∷ xs) e x y (here p) (there q) s =
 sole-from before (z ∷ xs) e x y (there p) (here q) s =
     absurd (true≢false (sym (same-turned x y s) ∙ ap (λ (n : Name). same_both n x) (sym q) ∙ apart_from (before ++ (z ∷ [])) xs (fresh-none (first_same before z) z.number _ e).1 z x (in-last before z) p))
 sole-from before (z ∷ xs) e x y (there p) (there q) s = sole-from (before ++ (z ∷ [])) xs (fresh-none (first_same before z) z.number _ e).1 x y p q s
+sole-from before [] e x y x6 _ s = elim x6 [ ]
 
 pub fresh-sole : (xs : List Name) → first_repeat xs ≡ fresh → (x y : Name) → In x xs → In y xs → same_both x y ≡ true → x ≡ y
 unfolding first_repeat

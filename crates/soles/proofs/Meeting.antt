@@ -105,3 +105,4 @@ module _ (st ar st' ar' : List ℕ) (x : Cell) where
       by true q m again = ap some (sym (only z (here refl) q))
       by false q (here p) again = absurd (true≢false (sym e ∙ ap (meets st ar st' ar' x) (sym p) ∙ q))
       by false q (there p) again = again p
+  partner-is [] y m e only = elim m [ ]

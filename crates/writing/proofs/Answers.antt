@@ -34,9 +34,9 @@ module _ (r : Reading) (s : List ℕ) (rs : List Rec) (e : decided r s ≡ done 
   outline-fits l a h m = fits false l a h m (λ t. absurd (false≢true t))
 
   -- the store's bytes are those of the text's records
-  pub store_bytes : (full : Bool) → store_bytes r full s ≡ store_of full s 0 rs
+  pub store-records : (full : Bool) → store_bytes r full s ≡ store_of full s 0 rs
   unfolding store_bytes
-  store_bytes full = ap (store_of full s 0) records-are
+  store-records full = ap (store_of full s 0) records-are
 
   -- the area's are their contents
   pub area-bytes : area_bytes r true s ≡ area_of s rs
