@@ -1,4 +1,6 @@
 // The exact order of two numbers as they are stored: of their values, and of their uncertainties.
+#![tactic(auto)]
+
 ghost use Rattle.std.specs.Prelude.{◌≡◌, ◌≤◌};
 ghost use Rattle.amounts.specs.Exact.{Kept, raised as raised_of, value_order, uncertainty_order};
 ghost use Rattle.amounts.specs.Sizes.{size_of, doubt_of};

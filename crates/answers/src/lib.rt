@@ -1,1 +1,2 @@
 // What the exported functions answer: definitions and laws, and no code.
+#![tactic(auto)]

@@ -1,4 +1,6 @@
 // What two values are to each other.
+#![tactic(auto)]
+
 ghost use Rattle.std.specs.Prelude.{◌≡◌, ◌+◌, ◌≤◌, ◌&&◌};
 ghost use Rattle.text.specs.Parts.{part};
 ghost use Rattle.entries.specs.Entries.{entry_at};

@@ -1,4 +1,6 @@
 // The values of a store, one after the other: each with its record, its frame, its tag and its row.
+#![tactic(auto)]
+
 ghost use Rattle.std.specs.Prelude.{◌≡◌, cond, ◌+◌, ◌/◌, ◌%◌, ◌<◌, ◌^◌, eqb, drop};
 ghost use Rattle.entries.specs.Entries.{entry_at};
 ghost use Rattle.cells.specs.Walk.{entries_at, Placed, Finds, Ahead, here_after, first, leap_of, count_of};
@@ -8,7 +10,7 @@ use kinds::Kind;
 
 // Where a walk stands: a record, the frame it stands in, the first tag of its item, each by number and offset; how many
 // tags that has, how many of its values stand before, and the offset of the tag that the next one has.
-#[derive(Drop)]
+#[derive(Clone, Copy)]
 pub struct Here {
     pub at: usize,
     pub number: usize,
@@ -22,7 +24,7 @@ pub struct Here {
 }
 
 // A value: its record, its frame's and its tag's, each by number and offset, and its row. Frame 0 is the block.
-#[derive(Drop)]
+#[derive(Clone, Copy)]
 pub struct Found {
     pub number: usize,
     pub at: usize,
@@ -34,14 +36,14 @@ pub struct Found {
 }
 
 // A step of the walk: the next value, and the spot behind it.
-#[derive(Drop)]
+#[derive(Clone, Copy)]
 pub enum Step {
     Met { value: Found, after: Here },
     End,
 }
 
 // A record that is passed over.
-#[derive(Drop)]
+#[derive(Clone, Copy)]
 enum Leap {
     Over { kind: u8, next: usize },
     Nowhere,

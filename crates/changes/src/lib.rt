@@ -1,4 +1,6 @@
 // The list of changes, one store's values after the other: counted, and written.
+#![tactic(auto)]
+
 ghost use Rattle.std.specs.Prelude.{◌≡◌, true, false, ◌+◌, ◌≤◌, length};
 ghost use Rattle.records.specs.Put.{put};
 ghost use Rattle.stores.specs.Soundness.{sound};
@@ -12,7 +14,7 @@ use partners::Partner;
 use rules::Reading;
 
 // An entry: the case, and the numbers of the records, 0 where there is none.
-#[derive(Drop)]
+#[derive(Clone, Copy)]
 pub struct Change {
     pub case: u8,
     pub old: usize,

@@ -6,6 +6,8 @@
 //
 // It is written back with the answer: of Read its number, of Compare all numbers and, where it is done, each entry: its case and both record numbers. Lines that are empty
 // or start with `#` are written back as they are.
+#![tactic(auto)]
+
 mod lists;
 
 use harness::parts::part;

@@ -1,5 +1,7 @@
 // Runs worked vectors through the leaves. Each line of standard input is a letter that names the leaf, a space and a text, in which `\` and two hexadecimal digits stand
 // for a byte; it is written back with what the leaf answers. Lines that are empty or start with `#` are written back as they are.
+#![tactic(auto)]
+
 mod leaves;
 
 use harness::{lines as vectors, parts, say};

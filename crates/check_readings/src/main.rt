@@ -1,6 +1,8 @@
 // Runs whole texts through Read and Outline. Each line of standard input is a letter that names the service, a space and a text, in which `\` and two hexadecimal digits stand
 // for a byte. It is written back, and below it the answer in document 01's numbers (refusal number, offset, line, column, detail, both lengths), whether all bytes that are not
 // counted kept their values, the records of the store, field by field, and the area. Lines that are empty or start with `#` are written back as they are.
+#![tactic(auto)]
+
 mod shown;
 
 use harness::{lines as vectors, parts, say};

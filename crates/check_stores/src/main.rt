@@ -7,6 +7,8 @@
 // c NUMBER: a record's content.   m: the name check.   r ROOM: the rendering.   w OFFSET: the record at an offset.   d: the damage.
 //
 // It is written back with the answer. Lines that are empty or start with `#` are written back as they are.
+#![tactic(auto)]
+
 mod answers;
 mod damage;
 mod services;

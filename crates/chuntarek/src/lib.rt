@@ -1,5 +1,7 @@
 // The functions that C and Rust call. Each hands its slices to the service of its name, in the reading that the first number names,
 // and its answer on as numbers; where that number names no reading, the answer is 24 and nothing is written.
+#![tactic(auto)]
+
 ghost use Rattle.std.specs.Prelude.{◌≡◌};
 ghost use Rattle.answers.specs.Answers.{read_gives, store_left, area_left, outline_gives, outline_left, render_gives, render_left};
 ghost use Rattle.answers.specs.Answers.{names_give, compare_gives, list_left, content_gives, part_given, record_given};

@@ -1,4 +1,6 @@
 // Where a frame ends: by the `save_` that closes it, or by what leaves it open.
+#![tactic(auto)]
+
 ghost use Rattle.std.specs.Prelude.{◌≡◌, ◌≤◌, length};
 ghost use Rattle.sizes.specs.Sizes.{Upto};
 ghost use Rattle.text.specs.Limits.{limit};

@@ -1,5 +1,7 @@
 // The byte before an offset: it tells whether a line starts there, and whether space parts what stands there from what
 // stands before.
+#![tactic(auto)]
+
 ghost use Rattle.std.specs.Prelude.{◌≡◌, ◌≤◌, length};
 ghost use Rattle.columns.specs.Before.{byte_before, is_parted};
 

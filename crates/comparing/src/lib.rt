@@ -1,4 +1,6 @@
 // Compare: what changed from one store to another.
+#![tactic(auto)]
+
 ghost use Rattle.std.specs.Prelude.{◌≡◌, true};
 ghost use Rattle.stores.specs.Soundness.{sound};
 ghost use Rattle.soles.specs.Singular.{Singular};
@@ -10,7 +12,7 @@ use places::Report;
 use rules::Reading;
 
 // Compare's answer: the length written; 12; 13 with two record numbers; 10 with the length needed.
-#[derive(Drop)]
+#[derive(Clone, Copy)]
 pub enum Comparing {
     Compared(usize),
     Unsound,

@@ -1,5 +1,7 @@
 // One record by itself: whether its content could be read as its kind and lies inside the area, and whether its
 // decimal parts keep the limits.
+#![tactic(auto)]
+
 ghost use Rattle.std.specs.Prelude.{◌≡◌, true, ◌+◌, ◌^◌, ◌≤◌, ◌<◌, length};
 ghost use Rattle.kinds.specs.Kinds.{shape_of, is_content};
 ghost use Rattle.readable.specs.Tokens.{is_led};

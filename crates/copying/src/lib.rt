@@ -1,4 +1,6 @@
 // Writing a record with content: its bytes into the store, its content into the area.
+#![tactic(auto)]
+
 ghost use Rattle.std.specs.Prelude.{◌≡◌, true, cond, [], ◌+◌, ◌≤◌, length, take, drop};
 ghost use Rattle.records.specs.Put.{put};
 ghost use Rattle.desk.specs.Written.{content_bytes};

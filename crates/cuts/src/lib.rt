@@ -1,11 +1,13 @@
 // Where the parts of a word lie that may be a number, and the digits in it.
+#![tactic(auto)]
+
 ghost use Rattle.std.specs.Prelude.{◌≡◌, ◌-◌, ◌≤◌, ◌<◌, true, get_or};
 ghost use Rattle.cuts.specs.Digits.{value, piece, after, digits_end, digits_at, Run};
 ghost use Rattle.cuts.specs.Cuts.{nowhere as nowhere_of, starts_exponent, exponent_at, bracket_at, cuts_of};
 
 // Where an optional part lies: its sign starts at `sign`, its digits at `digits` and end at `end`, and what follows it
 // starts at `next`.
-#[derive(Drop)]
+#[derive(Clone, Copy)]
 pub struct Extent {
     pub here: bool,
     pub sign: usize,
@@ -15,14 +17,14 @@ pub struct Extent {
 }
 
 // Digits of a word: where they end, and the number that they write.
-#[derive(Drop)]
+#[derive(Clone, Copy)]
 pub struct Digits {
     pub end: usize,
     pub value: u64,
 }
 
 // Where a word's parts lie: the ends of sign, integer, point and fraction, then the exponent and the bracket.
-#[derive(Drop)]
+#[derive(Clone, Copy)]
 pub struct Cuts {
     pub sign: usize,
     pub integer: usize,

@@ -1,4 +1,6 @@
 // Frames, the blocks and the whole text: what it is refused for, or how much room its records take.
+#![tactic(auto)]
+
 ghost use Rattle.std.specs.Prelude.{◌≡◌, true, ◌≤◌, ◌<◌, length};
 ghost use Rattle.text.specs.Limits.{limit};
 ghost use Rattle.grammar.specs.Tokens.{save_at, data_at};

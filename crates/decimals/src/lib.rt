@@ -1,4 +1,6 @@
 // Numbers without an exponent, read in one pass: most numbers are such.
+#![tactic(auto)]
+
 ghost use Rattle.std.specs.Prelude.{◌≡◌, ◌-◌, ◌<◌, true};
 ghost use Rattle.numbers.specs.Parts.{parts, within, minus};
 ghost use Rattle.cuts.specs.Digits.{value};

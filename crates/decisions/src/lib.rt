@@ -1,4 +1,6 @@
 // What a text comes to, and what one item or one heading of it does.
+#![tactic(auto)]
+
 ghost use Rattle.std.specs.Prelude.{◌≡◌, ◌≤◌, length};
 ghost use Rattle.items.specs.Answers.{Ready, Here, item_at};
 ghost use Rattle.decisions.specs.Onward.{absent_of, in_block_of, in_frame_of, heading_of};
@@ -9,7 +11,7 @@ use rules::Reading;
 use sizes::Sizes;
 
 // What a text comes to: the room for its records, or what it is refused for, and the offset of that.
-#[derive(Drop)]
+#[derive(Clone, Copy)]
 pub enum Decision {
     Fits { sizes: Sizes },
     Refused { cause: Cause, at: usize },
@@ -17,7 +19,7 @@ pub enum Decision {
 
 // What an item, a heading or a frame is in the block: read, with why its list of values ended if it is a loop; or the reading's
 // end.
-#[derive(Drop)]
+#[derive(Clone, Copy)]
 pub enum Step {
     Read {
         next: usize,
@@ -31,7 +33,7 @@ pub enum Step {
 }
 
 // What an item is in a frame: read; dropped, with the offset where it stopped; or the reading's end.
-#[derive(Drop)]
+#[derive(Clone, Copy)]
 pub enum Inside {
     Read { next: usize, sizes: Sizes },
     Dropped { stop: usize },

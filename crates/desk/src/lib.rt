@@ -1,4 +1,6 @@
 // Where writing stands, and what each record takes of it: the P of a token, the bytes of a record, the place behind a token.
+#![tactic(auto)]
+
 ghost use Rattle.std.specs.Prelude.{◌≡◌, ◌+◌, ◌≤◌, ◌<◌, ◌^◌};
 ghost use Rattle.places.specs.Places.{IsPlace, place_at};
 ghost use Rattle.desk.specs.Written.{token_at};
@@ -9,7 +11,7 @@ use places::Place;
 use records::Token;
 
 // Where writing stands: the place in the text, and the offsets in the store and in the area.
-#[derive(Drop)]
+#[derive(Clone, Copy)]
 pub struct Cursor {
     pub place: Place,
     pub at: usize,

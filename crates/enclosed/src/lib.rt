@@ -1,4 +1,6 @@
 // Values between marks: quoted ones and text fields.
+#![tactic(auto)]
+
 ghost use Rattle.std.specs.Prelude.{◌≡◌, false, ◌<◌, ◌^◌, length};
 ghost use Rattle.rules.specs.declared.Reading.TheVariants.{Strict};
 ghost use Rattle.text.specs.Bytes.{is_eol};

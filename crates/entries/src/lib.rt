@@ -1,4 +1,6 @@
 // Records read back: what stands at an offset of any bytes.
+#![tactic(auto)]
+
 ghost use Rattle.std.specs.Prelude.{◌≡◌, ◌+◌, ◌*◌, ◌≤◌, ◌<◌, length, drop};
 ghost use Rattle.kinds.specs.Kinds.{shape_length};
 ghost use Rattle.entries.specs.Entries.{de32, de64, token_of, parts_of, no_parts, no_fields, plain_fields};
@@ -10,7 +12,7 @@ use records::Token;
 
 // Decimal parts as they are stored: the sign byte, the fraction digits and the exponent's two's complement are not
 // judged.
-#[derive(Drop)]
+#[derive(Clone, Copy)]
 pub struct Parts {
     pub sign: u8,
     pub integer: u32,
@@ -21,7 +23,7 @@ pub struct Parts {
 }
 
 // What a record holds: P, the area offset or the number of tags, and decimal parts; 0 where its shape has none.
-#[derive(Drop)]
+#[derive(Clone, Copy)]
 pub struct Fields {
     pub token: Token,
     pub number: u32,
@@ -29,7 +31,7 @@ pub struct Fields {
 }
 
 // What stands at an offset of a store.
-#[derive(Drop)]
+#[derive(Clone, Copy)]
 pub enum Entry {
     // A whole record; the next one starts at `next`.
     Record {

@@ -1,4 +1,6 @@
 // Whether two stretches of bytes are equal.
+#![tactic(auto)]
+
 ghost use Rattle.std.specs.Prelude.{◌≡◌, ◌+◌, ◌≤◌, length};
 ghost use Rattle.text.specs.Parts.{part};
 ghost use Rattle.folding.specs.Folding.{equal_bytes};

@@ -1,4 +1,6 @@
 // What C and Rust get: the structs of the exported functions' answers, and how a service's answer fills them.
+#![tactic(auto)]
+
 ghost use Rattle.std.specs.Prelude.{◌≡◌, cond, eqb};
 ghost use Rattle.exports.specs.Exports.{exported, exported_part, exported_record, exported_fields};
 ghost use Rattle.exports.specs.Exports.{no_reading, no_part, no_record, is_negative, magnitude};
@@ -10,7 +12,7 @@ use stores::{Content, Walked};
 
 // chuntarek_answer.
 #[repr(C)]
-#[derive(Drop)]
+#[derive(Clone, Copy)]
 pub struct Answer {
     pub number: u64,
     pub offset: u64,
@@ -23,7 +25,7 @@ pub struct Answer {
 
 // chuntarek_part.
 #[repr(C)]
-#[derive(Drop)]
+#[derive(Clone, Copy)]
 pub struct Part {
     pub start: u64,
     pub length: u64,
@@ -31,7 +33,7 @@ pub struct Part {
 
 // chuntarek_record.
 #[repr(C)]
-#[derive(Drop)]
+#[derive(Clone, Copy)]
 pub struct Record {
     pub number: u64,
     pub kind: u64,

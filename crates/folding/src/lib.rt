@@ -1,4 +1,6 @@
 // Letter case: A to Z taken as a to z, and names that are the same once that is done.
+#![tactic(auto)]
+
 ghost use Rattle.std.specs.Prelude.{◌≡◌, ◌+◌, ◌≤◌, length};
 ghost use Rattle.text.specs.Parts.{part};
 ghost use Rattle.folding.specs.Folding.{lower, same_name};

@@ -1,4 +1,6 @@
 // What is found where a value may stand, packed into one number and taken apart again; and a bare word, the plainest value.
+#![tactic(auto)]
+
 ghost use Rattle.std.specs.Prelude.{◌≡◌, ◌-◌, ◌<◌, ◌^◌, length};
 ghost use Rattle.words.specs.Words.{end_of_word};
 ghost use Rattle.found.specs.Packing.{number_of_why, pack, why_of_number, unpacked_of};
@@ -6,7 +8,7 @@ ghost use Rattle.found.specs.Packing.{number_of_why, pack, why_of_number, unpack
 use kinds::Kind;
 
 // Why no value stands here; in the strict reading also since no space parts it from the token before.
-#[derive(Drop)]
+#[derive(Clone, Copy)]
 pub enum Why {
     AtEnd,
     Reserved,
@@ -17,7 +19,7 @@ pub enum Why {
 }
 
 // What stands where a value may: one, by its kind and length; a number over a digit limit; none.
-#[derive(Drop)]
+#[derive(Clone, Copy)]
 pub enum Found {
     Value { kind: u8, size: usize },
     Over,

@@ -1,4 +1,6 @@
 // Frames and blocks of a store: whether a frame's name stands twice, and whether there is one block only.
+#![tactic(auto)]
+
 ghost use Rattle.std.specs.Prelude.{◌≡◌, cond, eqb, take};
 ghost use Rattle.names.specs.Parts.{name_of, Inside};
 ghost use Rattle.naming.specs.Names.{first_same, first_repeat, naming_of};
@@ -10,7 +12,7 @@ use names::Named;
 use naming::Naming;
 
 // Where a walk over frames stands: a record's offset and number, and how many frames stand before it.
-#[derive(Drop)]
+#[derive(Clone, Copy)]
 pub struct Mark {
     pub at: usize,
     pub number: usize,
@@ -18,14 +20,14 @@ pub struct Mark {
 }
 
 // A step of the walk: the next frame's name, and the mark behind it.
-#[derive(Drop)]
+#[derive(Clone, Copy)]
 pub enum Frame {
     Met { name: Named, after: Mark },
     End,
 }
 
 // The record number of an earlier frame of the same name.
-#[derive(Drop)]
+#[derive(Clone, Copy)]
 enum Seen {
     At(usize),
     Missing,

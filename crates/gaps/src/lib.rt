@@ -1,4 +1,6 @@
 // Space and comments: where they end, and the place behind them.
+#![tactic(auto)]
+
 ghost use Rattle.std.specs.Prelude.{◌≡◌, ◌+◌, ◌-◌, ◌<◌};
 ghost use Rattle.text.specs.Bytes.{is, space};
 ghost use Rattle.text.specs.Runs.{span_end};

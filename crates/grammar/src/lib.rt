@@ -1,10 +1,12 @@
 // The grammar over tokens is a definition alone (specs/); what a text is refused for is said here once, for every reader above.
+#![tactic(auto)]
+
 ghost use Rattle.std.specs.Prelude.{◌≡◌};
 ghost use Rattle.grammar.specs.Causes.{cause_number, cause_detail};
 
 // What a text is refused for at a place in it, 2 to 9, and in the strict reading 15 to 18. The reason says why no value stands behind a tag, or where the loop directly
 // before ended; 0 where none stands there.
-#[derive(Drop)]
+#[derive(Clone, Copy)]
 pub enum Cause {
     NotAscii,
     NoData,

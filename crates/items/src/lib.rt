@@ -1,4 +1,6 @@
 // Items: a tag and its value, or a loop of names and values; what they fail by, or how much room their records take.
+#![tactic(auto)]
+
 ghost use Rattle.std.specs.Prelude.{◌≡◌, true, ◌+◌, ◌*◌, ◌≤◌, ◌<◌, length};
 ghost use Rattle.sizes.specs.Sizes.{Upto};
 ghost use Rattle.text.specs.Limits.{limit};
@@ -15,7 +17,7 @@ use sizes::Sizes;
 // What reading an item comes to: read, with the offset behind it and the space and comments there, a loop with why its list of
 // values ended; failed by 5 or 6 in the first reading, with the offset where it stopped; absent, where none starts; or broken,
 // by what ends the whole reading.
-#[derive(Drop)]
+#[derive(Clone, Copy)]
 pub enum Item {
     Loop {
         next: usize,
@@ -41,7 +43,7 @@ pub enum Item {
 }
 
 // The names of a loop: how many, the offset behind them and the space and comments there, and that of the last.
-#[derive(Drop)]
+#[derive(Clone, Copy)]
 struct Names {
     count: usize,
     next: usize,
@@ -50,7 +52,7 @@ struct Names {
 }
 
 // The values of a loop, and why the list ended.
-#[derive(Drop)]
+#[derive(Clone, Copy)]
 struct Values {
     count: usize,
     next: usize,

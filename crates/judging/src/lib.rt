@@ -1,4 +1,6 @@
 // What a text comes to before any room is looked at: its refusal with its place, or the room that its records need.
+#![tactic(auto)]
+
 ghost use Rattle.std.specs.Prelude.{◌≡◌, ◌≤◌, length};
 ghost use Rattle.rules.specs.declared.Reading.TheVariants.{Strict};
 ghost use Rattle.text.specs.Limits.{limit};
@@ -19,7 +21,7 @@ use sizes::Sizes;
 const LIMIT: usize = 16777216;
 
 // What a text comes to before any room is looked at.
-#[derive(Drop)]
+#[derive(Clone, Copy)]
 pub enum Judged {
     Fits { sizes: Sizes },
     Declines { refusal: Refusal },

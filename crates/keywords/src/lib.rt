@@ -1,4 +1,6 @@
 // Keywords: in any letter case, as prefixes; in the strict reading three of them as whole words alone.
+#![tactic(auto)]
+
 ghost use Rattle.std.specs.Prelude.{◌≡◌, ◌<◌, drop};
 ghost use Rattle.keywords.specs.Keywords.{starts_at, key_data, key_save, is_word, stands, reserved, is_free_letter};
 

@@ -1,10 +1,12 @@
 // The kinds of records, and the shapes of their bodies.
+#![tactic(auto)]
+
 ghost use Rattle.std.specs.Prelude.{◌≡◌, ◌+◌, length};
 ghost use Rattle.kinds.specs.Kinds.{kind_of, number_of, shape_of, shape_length, marks_of, opening as opening_of};
 ghost use Rattle.kinds.specs.Kinds.{body_length, outline_length};
 
 // The kinds of records, as document 01 and document 02 number them; `NoKind` stands for every other number.
-#[derive(Drop)]
+#[derive(Clone, Copy)]
 pub enum Kind {
     NoKind,
     Block,
@@ -27,7 +29,7 @@ pub enum Kind {
 
 // The shapes of bodies: nothing; a place; a place and an area offset; a place and a count of tags; a place and decimal
 // parts, without and with uncertainty.
-#[derive(Drop)]
+#[derive(Clone, Copy)]
 pub enum Shape {
     Empty,
     Place,

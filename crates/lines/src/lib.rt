@@ -1,4 +1,6 @@
 // What the strict reading asks of a text before it reads tokens: no line is too long, and no control byte stands in it.
+#![tactic(auto)]
+
 ghost use Rattle.std.specs.Prelude.{◌≡◌, ◌+◌, ◌≤◌, ◌<◌, length};
 ghost use Rattle.text.specs.Runs.{span, runs};
 ghost use Rattle.lines.specs.Ends.{behind_last};
@@ -11,7 +13,7 @@ pub const LONGEST: usize = 2048;
 const DELETE: u8 = 127;
 
 // What is found: nothing; the first byte that is one too many on its line; a control byte.
-#[derive(Drop)]
+#[derive(Clone, Copy)]
 pub enum Screen {
     Fine,
     LongLine { at: usize },

@@ -1,5 +1,7 @@
 // The partner of a value, looked for where it is likely to stand: directly behind the last one that was found, behind the last of its column, or
 // further on. What is remembered decides the time that a search takes, never its answer.
+#![tactic(auto)]
+
 ghost use Rattle.std.specs.Prelude.{◌≡◌, true};
 ghost use Rattle.cells.specs.Walk.{cell_of, Lies, Placed};
 ghost use Rattle.soles.specs.Singular.{Singular};
@@ -10,7 +12,7 @@ use partners::Partner;
 
 // What is remembered of a column: its tag and frame, the last row that was looked for, and whether that had no partner;
 // if it had one, the spot behind it.
-#[derive(Drop)]
+#[derive(Clone, Copy)]
 pub struct Slot {
     pub tag: usize,
     pub frame: usize,
@@ -20,7 +22,7 @@ pub struct Slot {
 }
 
 // A partner, with what is remembered of the column and the spot behind the last partner.
-#[derive(Drop)]
+#[derive(Clone, Copy)]
 pub struct Sought {
     pub partner: Partner,
     pub slot: Slot,
@@ -28,7 +30,7 @@ pub struct Sought {
 }
 
 // What a search from a spot on answers.
-#[derive(Drop)]
+#[derive(Clone, Copy)]
 pub enum Seen {
     At { value: Found, after: Here },
     Nowhere,

@@ -1,4 +1,6 @@
 // Names of a store: which records hold one, when two are the same, which comes first, and the number by which they are spread.
+#![tactic(auto)]
+
 ghost use Rattle.std.specs.Prelude.{◌≡◌, ℕ, ◌+◌, ◌≤◌, length};
 ghost use Rattle.text.specs.Parts.{part};
 ghost use Rattle.names.specs.Names.{same_both, block_after, scope_after, is_name_kind};
@@ -9,7 +11,7 @@ ghost use Rattle.names.specs.Parts.{name_of, Inside};
 use kinds::Kind;
 
 // A name: its record's offset and number, its scope, and the part of the area that holds it.
-#[derive(Drop)]
+#[derive(Clone, Copy)]
 pub struct Named {
     pub at: usize,
     pub number: usize,

@@ -1,4 +1,6 @@
 // The name check: within one scope no name stands twice.
+#![tactic(auto)]
+
 ghost use Rattle.std.specs.Prelude.{◌≡◌, ℕ, take};
 ghost use Rattle.places.specs.Reports.{refused_bare};
 ghost use Rattle.names.specs.Names.{names};
@@ -13,7 +15,7 @@ use rules::Reading;
 use steps::{Next, Spot};
 
 // The name check's answer: no name stands twice; 12; or 13 with two record numbers.
-#[derive(Drop)]
+#[derive(Clone, Copy)]
 pub enum Naming {
     Distinct,
     NotSound,
@@ -42,7 +44,7 @@ impl Naming {
 }
 
 // The record number of an earlier name that is the same.
-#[derive(Drop)]
+#[derive(Clone, Copy)]
 enum Earlier {
     At(usize),
     Missing,

@@ -1,4 +1,6 @@
 // Whether a store is whole records, nested as the reading has them: a machine over their kinds.
+#![tactic(auto)]
+
 ghost use Rattle.std.specs.Prelude.{◌≡◌, ◌+◌, ◌%◌, ◌^◌, ◌<◌, eqb};
 ghost use Rattle.entries.specs.Walk.{entries};
 ghost use Rattle.kinds.specs.Kinds.{is_value_kind};
@@ -10,7 +12,7 @@ use kinds::Kind;
 use rules::Reading;
 
 // What may stand next in a store.
-#[derive(Drop)]
+#[derive(Clone, Copy)]
 pub enum Where {
     // The block.
     Start,
@@ -25,7 +27,7 @@ pub enum Where {
 }
 
 // Where a record leads, in a frame or not; or that it may not stand there.
-#[derive(Drop)]
+#[derive(Clone, Copy)]
 pub enum Stand {
     Stands { frame: bool, place: Where },
     Falls,

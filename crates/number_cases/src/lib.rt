@@ -1,4 +1,6 @@
 // What two numbers are to each other.
+#![tactic(auto)]
+
 ghost use Rattle.std.specs.Prelude.{◌≡◌, false, ◌&&◌, eqb};
 ghost use Rattle.amounts.specs.Exact.{Kept};
 ghost use Rattle.number_cases.specs.Numbers.{same_parts, equal_case, numbers_case};

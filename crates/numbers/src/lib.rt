@@ -1,4 +1,6 @@
 // Numbers: whether a word is one, and what it means.
+#![tactic(auto)]
+
 ghost use Rattle.std.specs.Prelude.{◌≡◌, ◌-◌, ◌<◌, true, not, ◌&&◌, ◌||◌, eqb, ltb};
 ghost use Rattle.numbers.specs.Parts.{parts, is_number, written, counts_as, within, minus};
 ghost use Rattle.numbers.specs.Meaning.{meaning, number_of};
@@ -11,7 +13,7 @@ use rules::Reading;
 
 // What a number means: its sign, integer, fraction and how many digits that has, sign and size of the exponent, and
 // uncertainty.
-#[derive(Drop)]
+#[derive(Clone, Copy)]
 pub struct Decimal {
     pub minus: bool,
     pub integer: u32,
@@ -24,7 +26,7 @@ pub struct Decimal {
 }
 
 // What a word says: it is no number, it is one, or it is one that breaks a digit limit.
-#[derive(Drop)]
+#[derive(Clone, Copy)]
 pub enum Number {
     Not,
     Is(Decimal),

@@ -1,4 +1,6 @@
 // Numbers as bytes: a decimal written into a lent text, and how long it is.
+#![tactic(auto)]
+
 ghost use Rattle.std.specs.Prelude.{◌≡◌, [], ◌∷◌, ◌+◌, ◌-◌, ◌≤◌, ◌<◌, ◌^◌, length};
 ghost use Rattle.numbers.specs.Spelling.{padded, plain, sign_bytes, frac_bytes, exp_bytes, unc_bytes, render_number};
 ghost use Rattle.numerals.specs.Written.{Wrote, Short};

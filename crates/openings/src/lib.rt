@@ -1,5 +1,7 @@
 // What opens an item, a frame or a block, by the reading: in the strict one `loop_` is a whole word, and space parts each token from
 // the one before. The bytes are looked at first, since they tell most offsets.
+#![tactic(auto)]
+
 ghost use Rattle.std.specs.Prelude.{◌≡◌, ◌≤◌, length};
 ghost use Rattle.grammar.specs.Tokens.{tag_at, loop_at, save_at, close_at, data_at};
 ghost use Rattle.openings.specs.Openings.{name_end};

@@ -1,10 +1,12 @@
 // The order of sizes: of numbers without sign, each a count of units that are powers of ten, however far those lie apart.
+#![tactic(auto)]
+
 ghost use Rattle.std.specs.Prelude.{◌≡◌, ◌*◌, ◌^◌, ◌<◌};
 ghost use Rattle.orders.specs.Order.{order_of, flipped};
 ghost use Rattle.orders.specs.Sizes.{Fits, pair_of, size_order, is_none, apart};
 
 // How one number stands to another.
-#[derive(Drop)]
+#[derive(Clone, Copy)]
 pub enum Order {
     Less,
     Same,
@@ -12,7 +14,7 @@ pub enum Order {
 }
 
 // A size: `high` times 10^18 and `low`, so many units of ten to the power of `unit`.
-#[derive(Drop)]
+#[derive(Clone, Copy)]
 pub struct Size {
     pub high: u64,
     pub low: u64,

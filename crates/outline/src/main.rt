@@ -1,4 +1,6 @@
 // Document 01's outline program: the records of the text on standard input, a line for each, or the refusal.
+#![tactic(auto)]
+
 ghost use Rattle.std.specs.Prelude.{◌+◌, ◌≤◌, length};
 
 use libc::{STDIN_FILENO, STDOUT_FILENO};

@@ -1,4 +1,6 @@
 // The service Outline: a text in, kinds and places out.
+#![tactic(auto)]
+
 ghost use Rattle.std.specs.Prelude.{◌≡◌, length};
 ghost use Rattle.outlining.specs.Outlining.{outline_answer, outline_store, outlined_report};
 ghost use Rattle.judging.specs.Judging.{IsRead};
@@ -10,7 +12,7 @@ use rules::Reading;
 use sizes::Sizes;
 
 // Outline's answer.
-#[derive(Drop)]
+#[derive(Clone, Copy)]
 pub enum Outlined {
     Written { store: usize },
     Declined { refusal: Refusal },

@@ -1,4 +1,6 @@
 // Whether a value of one store meets a value of another: the same scope, name and row.
+#![tactic(auto)]
+
 ghost use Rattle.std.specs.Prelude.{◌≡◌};
 ghost use Rattle.folding.specs.Folding.{same_name};
 ghost use Rattle.steps.specs.Steps.{held_at};
@@ -8,7 +10,7 @@ ghost use Rattle.partners.specs.Partners.{same_frame, meets};
 use cells::Found;
 
 // What a search for the value that one meets answers.
-#[derive(Drop)]
+#[derive(Clone, Copy)]
 pub enum Partner {
     Is { value: Found },
     Missing,

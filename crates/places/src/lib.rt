@@ -1,4 +1,6 @@
 // Lines and places: where a line ends, and the line and column of an offset.
+#![tactic(auto)]
+
 ghost use Rattle.std.specs.Prelude.{◌≡◌, ◌+◌, ◌-◌, ◌≤◌, ◌<◌, ◌^◌, length};
 ghost use Rattle.text.specs.Bytes.{is};
 ghost use Rattle.text.specs.Runs.{runs};
@@ -6,7 +8,7 @@ ghost use Rattle.places.specs.Lines.{in_line, line_end, feed as feed_of, feeds_o
 ghost use Rattle.places.specs.Places.{step as step_of, along as along_of, place_at, IsPlace};
 
 // Where a byte stands in a text.
-#[derive(Drop)]
+#[derive(Clone, Copy)]
 pub struct Place {
     pub offset: usize,
     pub line: usize,
@@ -15,7 +17,7 @@ pub struct Place {
 
 // An answer in document 01's numbers: the refusal number, its place (or two record numbers), its detail, and the two
 // lengths.
-#[derive(Drop)]
+#[derive(Clone, Copy)]
 pub struct Report {
     pub number: usize,
     pub offset: usize,
@@ -44,7 +46,7 @@ pub fn line_end(s: &[u8], from: usize) -> usize
 }
 
 // Line and column so far, and half: the last byte, where it is an LF or CR that began a line end, else 0.
-#[derive(Drop)]
+#[derive(Clone, Copy)]
 pub struct Scan {
     pub line: usize,
     pub column: usize,

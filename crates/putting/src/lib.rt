@@ -1,4 +1,6 @@
 // Writing a record without content: its bytes into the store, and the place behind its token.
+#![tactic(auto)]
+
 ghost use Rattle.std.specs.Prelude.{◌≡◌, ◌+◌, ◌≤◌, ◌<◌, length};
 ghost use Rattle.records.specs.Put.{put};
 ghost use Rattle.grammar.specs.Machine.{loop_end};

@@ -1,4 +1,6 @@
 // Quoted values and text fields: where they close.
+#![tactic(auto)]
+
 ghost use Rattle.std.specs.Prelude.{◌≡◌, false, ◌<◌, drop};
 ghost use Rattle.text.specs.Bytes.{is, is_eol, semicolon};
 ghost use Rattle.text.specs.Runs.{span_end};
@@ -9,7 +11,7 @@ ghost use Rattle.quotes.specs.Answers.{mark_end, quote_end, field_end};
 use rules::Reading;
 
 // What a search for a closing mark finds: the offset behind it, or nothing.
-#[derive(Drop)]
+#[derive(Clone, Copy)]
 pub enum Closing {
     Behind(usize),
     Nothing,

@@ -1,4 +1,6 @@
 // Whether a content could be read as its kind, by its own bytes, its marks left out; here by the first reading, and what is alike in both.
+#![tactic(auto)]
+
 ghost use Rattle.std.specs.Prelude.{◌≡◌, ◌∷◌, [], ◌++◌, ◌^◌, ◌<◌, length};
 ghost use Rattle.quotes.specs.Content.{plain};
 ghost use Rattle.values.specs.Alone.{is_alone};

@@ -1,4 +1,6 @@
 // Whether a content could be read as its kind in the strict reading, by its own bytes, its marks left out.
+#![tactic(auto)]
+
 ghost use Rattle.std.specs.Prelude.{◌≡◌, false, ◌&&◌, ◌^◌, ◌≤◌, ◌<◌, length, drop};
 ghost use Rattle.kinds.specs.declared.Kind.TheVariants.{Block, Tag, Bare, Quoted};
 ghost use Rattle.text.specs.Bytes.{is_space};

@@ -1,4 +1,6 @@
 // The service Read: a text in, records and copied contents out.
+#![tactic(auto)]
+
 ghost use Rattle.std.specs.Prelude.{◌≡◌, length};
 ghost use Rattle.reading.specs.Services.{read_answer, read_store, read_area, reading_report};
 ghost use Rattle.judging.specs.Judging.{IsRead};
@@ -10,7 +12,7 @@ use rules::Reading;
 use sizes::Sizes;
 
 // Read's answer: done, with the lengths written; a refusal of the text; or no room, with the lengths needed.
-#[derive(Drop)]
+#[derive(Clone, Copy)]
 pub enum Stored {
     Done { store: usize, area: usize },
     Refused { refusal: Refusal },

@@ -1,4 +1,6 @@
 // One record as its line: its token and LF, written into a lent text, and how long it is.
+#![tactic(auto)]
+
 ghost use Rattle.std.specs.Prelude.{◌≡◌, true, ◌+◌, ◌-◌, ◌≤◌, ◌<◌, length, take, drop};
 ghost use Rattle.entries.specs.declared.Entry.TheVariants.{Record};
 ghost use Rattle.readable.specs.Tokens.{mark};

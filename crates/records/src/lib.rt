@@ -1,4 +1,6 @@
 // Records written: their bytes in a lent store.
+#![tactic(auto)]
+
 ghost use Rattle.std.specs.Prelude.{◌≡◌, ◌+◌, ◌≤◌, ◌<◌, [], ◌∷◌, length};
 ghost use Rattle.records.specs.Bytes.{le32, le64, signed32, flag};
 ghost use Rattle.records.specs.Put.{front, put};
@@ -9,7 +11,7 @@ use kinds::Kind;
 use numbers::Decimal;
 
 // Where a token lies: document 01's P.
-#[derive(Drop)]
+#[derive(Clone, Copy)]
 pub struct Token {
     pub offset: u32,
     pub length: u32,

@@ -1,4 +1,6 @@
 // What a text is refused for, in an enum and in document 01's numbers.
+#![tactic(auto)]
+
 ghost use Rattle.std.specs.Prelude.{◌≡◌};
 ghost use Rattle.places.specs.Reports.{refused_at, no_room};
 ghost use Rattle.refusals.specs.Answers.{refusal_report};
@@ -7,7 +9,7 @@ use grammar::Cause;
 use places::{Place, Report};
 
 // What a text is refused for, 1 to 9: only 1 has no place.
-#[derive(Drop)]
+#[derive(Clone, Copy)]
 pub enum Refusal {
     TooLong,
     At { cause: Cause, place: Place },

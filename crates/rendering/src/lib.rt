@@ -1,4 +1,6 @@
 // The service Render: a sound store and its area, as a text again.
+#![tactic(auto)]
+
 ghost use Rattle.std.specs.Prelude.{◌≡◌, ◌+◌, ◌-◌, ◌≤◌, ◌<◌, length};
 ghost use Rattle.places.specs.Reports.{no_room};
 ghost use Rattle.records.specs.Put.{front};
@@ -11,7 +13,7 @@ use places::Report;
 use rules::Reading;
 
 // Render's answer: done, with the length written; 12; 1; or 11 with the length needed.
-#[derive(Drop)]
+#[derive(Clone, Copy)]
 pub enum Rendered {
     Done { length: usize },
     NotSound,

@@ -1,5 +1,7 @@
 // Replays the fixed list of the source's answers: each of its texts goes through Read and Outline, and what they answer is held to the list and to each other. Each entry that
 // differs is named; at the end the passed ones are counted by their answers.
+#![tactic(auto)]
+
 mod floats;
 mod list;
 mod same;

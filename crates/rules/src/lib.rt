@@ -1,17 +1,19 @@
 // Whose rules a text is read by. Where they differ a definition, or a function, goes by cases on the reading; all else
 // is said once.
+#![tactic(auto)]
+
 ghost use Rattle.std.specs.Prelude.{◌≡◌};
 ghost use Rattle.rules.specs.Rules.{named};
 
 // The reading that a call names: document 01's own, or the standard's (document 02, Three).
-#[derive(Drop)]
+#[derive(Clone, Copy)]
 pub enum Reading {
     First,
     Strict,
 }
 
 // What a number names: a reading, or none.
-#[derive(Drop)]
+#[derive(Clone, Copy)]
 pub enum Named {
     Known { reading: Reading },
     Unknown,

@@ -1,4 +1,6 @@
 // The names of a store by scopes, block by block: those of each frame are compared with each other, and so are the block's own.
+#![tactic(auto)]
+
 ghost use Rattle.std.specs.Prelude.{◌≡◌, ◌||◌, ℕ, eqb, ltb};
 ghost use Rattle.steps.specs.Steps.{Reached};
 ghost use Rattle.scopes.specs.Scopes.{Stretch, Framed, Frames, Fresh};
@@ -7,7 +9,7 @@ use slots::SLOTS;
 use steps::{Next, Spot};
 
 // How far the names of a block got: the spot behind them, and the highest of their scopes.
-#[derive(Drop)]
+#[derive(Clone, Copy)]
 struct Blocked {
     end: Spot,
     top: usize,

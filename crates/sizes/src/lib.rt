@@ -1,4 +1,6 @@
 // The room that records take: in the store, in the outline and in the area.
+#![tactic(auto)]
+
 ghost use Rattle.std.specs.Prelude.{◌≡◌, true, ◌*◌, ◌≤◌};
 ghost use Rattle.sizes.specs.Sizes.{content_size, no_sizes, grown, added, joined, Upto};
 ghost use Rattle.text.specs.Limits.{limit};
@@ -7,7 +9,7 @@ ghost use Rattle.kinds.specs.Kinds.{kind_of, marks_of, is_value_kind};
 use kinds::{Kind, Shape};
 
 // The room that records take.
-#[derive(Drop)]
+#[derive(Clone, Copy)]
 pub struct Sizes {
     pub store: usize,
     pub outline: usize,

@@ -1,4 +1,6 @@
 // A table of marks: which numbers were met. It answers "perhaps" where it cannot tell, and never "no" for a number that it took in.
+#![tactic(auto)]
+
 ghost use Rattle.std.specs.Prelude.{◌≡◌, ℕ, ◌+◌, ◌≤◌};
 ghost use Rattle.slots.specs.Slots.{slot_of, mark_of, holds_in, free_in, known, entered};
 

@@ -1,4 +1,6 @@
 // Names in order: a table of record offsets, sorted by the names that the records hold, in which a name is found by halving.
+#![tactic(auto)]
+
 ghost use Rattle.std.specs.Prelude.{◌≡◌, ℕ, ◌≤◌, ◌<◌};
 ghost use Rattle.names.specs.Parts.{name_of, Inside};
 ghost use Rattle.sorted.specs.Found.{passed, place_of, find_in};

@@ -1,4 +1,6 @@
 // The walk from name to name through a store, and the name of the record at an offset.
+#![tactic(auto)]
+
 ghost use Rattle.std.specs.Prelude.{◌≡◌, ℕ, ◌-◌, min};
 ghost use Rattle.steps.specs.Steps.{Holds, HeldAt, Counted, first, Ahead, Before};
 
@@ -7,7 +9,7 @@ use kinds::Kind;
 use names::Named;
 
 // Where a walk stands: the offset, number, block and scope of a record, and how many names stand before it.
-#[derive(Drop)]
+#[derive(Clone, Copy)]
 pub struct Spot {
     pub at: usize,
     pub number: usize,
@@ -17,7 +19,7 @@ pub struct Spot {
 }
 
 // A step of the walk: the next name, and the spot behind it.
-#[derive(Drop)]
+#[derive(Clone, Copy)]
 pub enum Next {
     Met { name: Named, after: Spot },
     End,

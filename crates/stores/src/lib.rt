@@ -1,4 +1,6 @@
 // Stores: judging whether one is sound by a reading's rules, looking contents up, and walking from record to record.
+#![tactic(auto)]
+
 ghost use Rattle.std.specs.Prelude.{◌≡◌, ◌+◌, ◌<◌};
 ghost use Rattle.entries.specs.Walk.{entries};
 ghost use Rattle.stores.specs.Soundness.{follows, kept, takes, filled, sound};
@@ -71,7 +73,7 @@ pub fn is_sound(reading: Reading, store: &[u8], area: &[u8]) -> bool
 }
 
 // Content's answer: the part of the area that holds it, 12, or 14.
-#[derive(Drop)]
+#[derive(Clone, Copy)]
 pub enum Content {
     Part { from: usize, size: usize },
     NotSound,
@@ -80,7 +82,7 @@ pub enum Content {
 
 // The record at an offset: its kind's number, what it holds, the part of the area that holds its content, and where
 // the next one starts; or 14.
-#[derive(Drop)]
+#[derive(Clone, Copy)]
 pub enum Walked {
     Record {
         number: u8,

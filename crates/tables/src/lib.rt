@@ -1,4 +1,6 @@
 // A table of names of one scope: the names of a window go into it, or are found there, and those behind them are asked for.
+#![tactic(auto)]
+
 ghost use Rattle.std.specs.Prelude.{◌≡◌, ℕ, ◌≤◌};
 ghost use Rattle.names.specs.Parts.{name_of, Inside};
 ghost use Rattle.steps.specs.Steps.{Reached};
@@ -9,7 +11,7 @@ use slots::SLOTS;
 use steps::{Next, Spot};
 
 // How a table is asked for a name: by marks, of many names or a few, or by halving among so many sorted offsets.
-#[derive(Drop)]
+#[derive(Clone, Copy)]
 pub struct Way {
     pub many: bool,
     pub sorted: bool,

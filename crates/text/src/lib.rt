@@ -1,4 +1,6 @@
 // Bytes: their classes, and runs of bytes of one class.
+#![tactic(auto)]
+
 ghost use Rattle.std.specs.Prelude.{◌≡◌, ◌+◌, ◌-◌, ◌<◌};
 ghost use Rattle.text.specs.Bytes.{is, is_ascii, is_digit, is_eol, is_space, ends_word};
 ghost use Rattle.text.specs.Runs.{span, runs};

@@ -1,4 +1,6 @@
 // The place behind space and comments, found the quickest way that what stands there allows.
+#![tactic(auto)]
+
 ghost use Rattle.std.specs.Prelude.{◌≡◌, ◌<◌, length};
 ghost use Rattle.places.specs.Places.{IsPlace, place_at};
 ghost use Rattle.gaps.specs.Gaps.{gap_end};

@@ -1,4 +1,6 @@
 // Values that stand between no marks: a number, bare text, `.` and `?`.
+#![tactic(auto)]
+
 ghost use Rattle.std.specs.Prelude.{◌≡◌, ◌≤◌, ◌<◌, ◌^◌, length};
 ghost use Rattle.found.specs.declared.Found.TheVariants.{Value as FoundValue};
 ghost use Rattle.found.specs.Packing.{packed_of};

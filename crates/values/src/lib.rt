@@ -1,4 +1,6 @@
 // One way to find a value: by its first byte, its kind and length, or why none stands here; on top of it, what a number means.
+#![tactic(auto)]
+
 ghost use Rattle.std.specs.Prelude.{◌≡◌, true, false, ◌<◌, ◌^◌, length, get_or};
 ghost use Rattle.rules.specs.declared.Reading.TheVariants.{Strict};
 ghost use Rattle.values.specs.Answers.{value_at};
@@ -10,7 +12,7 @@ use numbers::Decimal;
 use rules::Reading;
 
 // What stands where a value may, and what a number means: a token of kinds 8 to 13 or 21, a number, a number over a digit limit, or no value.
-#[derive(Drop)]
+#[derive(Clone, Copy)]
 pub enum Value {
     Token { kind: u8, size: usize },
     Number { decimal: Decimal, size: usize },

@@ -1,4 +1,6 @@
 // Writing from token to token: values and names, one item.
+#![tactic(auto)]
+
 ghost use Rattle.std.specs.Prelude.{◌≡◌, true, ◌&&◌, leb, ◌+◌, ◌≤◌, ◌<◌, length};
 ghost use Rattle.places.specs.Places.{IsPlace};
 ghost use Rattle.grammar.specs.Tokens.{tag_at, loop_at};

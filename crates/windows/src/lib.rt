@@ -1,4 +1,6 @@
 // Names of one scope, compared with each other a window at a time: the window's own names go into a table, and all behind it are looked for there.
+#![tactic(auto)]
+
 ghost use Rattle.std.specs.Prelude.{◌≡◌, ℕ, ◌≤◌, ◌<◌};
 ghost use Rattle.steps.specs.Steps.{Reached};
 ghost use Rattle.windows.specs.Windows.{Windowed, Ran};
@@ -9,7 +11,7 @@ use steps::{Next, Spot};
 use tables::Way;
 
 // What a window reached: the spot behind its own names, and the one behind those that were looked for among them.
-#[derive(Drop)]
+#[derive(Clone, Copy)]
 struct Reach {
     own: Spot,
     end: Spot,

@@ -1,4 +1,6 @@
 // Words, and the bytes that start a bare value.
+#![tactic(auto)]
+
 ghost use Rattle.std.specs.Prelude.{◌≡◌, ◌<◌};
 ghost use Rattle.words.specs.Words.{in_word, end_of_word, is_ordinary};
 ghost use Rattle.words.specs.Names.{name_fits, fits_tag, heading_fits};

@@ -1,5 +1,7 @@
 // Writing the records of a text that is known to be good, into a store and an area that are known to have room: headings,
 // frames, and the blocks.
+#![tactic(auto)]
+
 ghost use Rattle.std.specs.Prelude.{◌≡◌, true, ◌<◌, length};
 ghost use Rattle.records.specs.Put.{front};
 ghost use Rattle.std.proofs.Math.Option.{none};
@@ -15,7 +17,7 @@ use kinds::Kind;
 use rules::Reading;
 
 // What stands next in a frame: an item that is read, or where the last one stopped.
-#[derive(Drop)]
+#[derive(Clone, Copy)]
 pub enum Next {
     Item,
     Stop { at: usize },
