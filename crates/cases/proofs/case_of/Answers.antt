@@ -16,18 +16,14 @@ returns-in_default-read_record c = case-alone _ _ _ _ _ _ _ (sym c.read_record.e
 
 pub numbers_case-requires : goal.numbers_case-requires
 numbers_case-requires c =
-    let k = c.kind-1.given in
-    let j = c.kind2-1.given in
     let pre = c.requires in
-    let t : (is_number (number_of k.0.0) && is_number (number_of j.0.0)) ≡ true = rw (← c.number-k.ensures, ← c.number-j.ensures) (sym c.are_numbers.ensures ∙ c.if-are_numbers.true) in
-    (orderly-parts _ _ _ _ (sym c.read_record.ensures ∙ k.1) pre.0 (and_l _ _ t), orderly-parts _ _ _ _ (sym c.read_record-2.ensures ∙ j.1) pre.1 (and_r (is_number (number_of k.0.0)) _ t))
+    let t : (is_number (number_of c.in-Record.kind) && is_number (number_of c.in-Record-read_record.kind2)) ≡ true = rw (← c.number-k.ensures, ← c.number-j.ensures) (sym c.are_numbers.ensures ∙ c.if-are_numbers.true) in
+    (orderly-parts _ _ _ _ (sym c.read_record.ensures ∙ c.in-Record.is) pre.0 (and_l _ _ t), orderly-parts _ _ _ _ (sym c.read_record-2.ensures ∙ c.in-Record-read_record.is) pre.1 (and_r (is_number (number_of c.in-Record.kind)) _ t))
 
 pub returns-then-are_numbers : goal.returns-then-are_numbers
 returns-then-are_numbers c =
-    let k = c.kind-1.given in
-    let j = c.kind2-1.given in
-    let t : (is_number (number_of k.0.0) && is_number (number_of j.0.0)) ≡ true = rw (← c.number-k.ensures, ← c.number-j.ensures) (sym c.are_numbers.ensures ∙ c.if-are_numbers.true) in
-    c.numbers_case.ensures ∙ rw (c.number-k.ensures, c.number-j.ensures) (sym (case-numbers _ _ _ _ _ _ _ (sym c.read_record.ensures ∙ k.1) _ _ _ (sym c.read_record-2.ensures ∙ j.1) t))
+    let t : (is_number (number_of c.in-Record.kind) && is_number (number_of c.in-Record-read_record.kind2)) ≡ true = rw (← c.number-k.ensures, ← c.number-j.ensures) (sym c.are_numbers.ensures ∙ c.if-are_numbers.true) in
+    c.numbers_case.ensures ∙ rw (c.number-k.ensures, c.number-j.ensures) (sym (case-numbers _ _ _ _ _ _ _ (sym c.read_record.ensures ∙ c.in-Record.is) _ _ _ (sym c.read_record-2.ensures ∙ c.in-Record-read_record.is) t))
 
 pub others_case-requires : goal.others_case-requires
 others_case-requires c = (c.name_at-x.ensures.inside, c.name_at-y.ensures.inside)
@@ -35,7 +31,5 @@ others_case-requires c = (c.name_at-x.ensures.inside, c.name_at-y.ensures.inside
 pub returns : goal.returns
 unfolding held_at
 returns c =
-    let k = c.kind-1.given in
-    let j = c.kind2-1.given in
-    let t : (is_number (number_of k.0.0) && is_number (number_of j.0.0)) ≡ false = rw (← c.number-k.ensures, ← c.number-j.ensures) (sym c.are_numbers.ensures ∙ c.if-are_numbers.false) in
-    c.others_case.ensures ∙ rw (c.number-k.ensures, c.number-j.ensures) (case-others _ _ _ _ _ _ _ (sym c.read_record.ensures ∙ k.1) _ _ _ (sym c.read_record-2.ensures ∙ j.1) t c.name_at-x.result c.name_at-y.result c.name_at-x.ensures.bytes c.name_at-y.ensures.bytes)
+    let t : (is_number (number_of c.in-Record.kind) && is_number (number_of c.in-Record-read_record.kind2)) ≡ false = rw (← c.number-k.ensures, ← c.number-j.ensures) (sym c.are_numbers.ensures ∙ c.if-are_numbers.false) in
+    c.others_case.ensures ∙ rw (c.number-k.ensures, c.number-j.ensures) (case-others _ _ _ _ _ _ _ (sym c.read_record.ensures ∙ c.in-Record.is) _ _ _ (sym c.read_record-2.ensures ∙ c.in-Record-read_record.is) t c.name_at-x.result c.name_at-y.result c.name_at-x.ensures.bytes c.name_at-y.ensures.bytes)

@@ -1,4 +1,5 @@
 -- `contents::is_led`: only a bare value may be, by its first byte. Assumes nothing.
+use borrow.Enum.Refused.{opened}
 use Prim.Native.Nat.{◌+◌, ◌-◌}
 use mathlib.Core.Path.{◌≡◌, refl, sym}
 use mathlib.Core.Bool.{true, false}
@@ -28,7 +29,7 @@ returns-in_default c =
     let content = content_bytes given.area.now given.kind given.fields in
     sym
     (led-other given.reading given.kind content
-    (sym (told (λ k. is_bare_field k content) false 0 (1 ∷ 2 ∷ 3 ∷ 4 ∷ 5 ∷ 6 ∷ 7 ∷ 8 ∷ 9 ∷ 11 ∷ 12 ∷ 13 ∷ 14 ∷ 15 ∷ 16 ∷ []) refl given.kind c.in_default.in_default-own.keys2)))
+    (sym (told (λ k. is_bare_field k content) false 0 (1 ∷ 2 ∷ 3 ∷ 4 ∷ 5 ∷ 6 ∷ 7 ∷ 8 ∷ 9 ∷ 11 ∷ 12 ∷ 13 ∷ 14 ∷ 15 ∷ 16 ∷ []) refl given.kind (opened c.in_default.in_default-own.keys2))))
 
 pub overflow_add-end : goal.overflow_add-end
 overflow_add-end c =

@@ -1,4 +1,5 @@
 -- `items::count_values`: the values counted, and those from here on, are those from the start on. Assumes nothing.
+use borrow.Enum.Refused.{opened}
 use Prim.Native.Nat.{◌-◌, ◌*◌}
 use mathlib.Core.Path.{◌≡◌, sym, ◌∙◌}
 use native.Mathlib.Omega.{arith}
@@ -24,8 +25,8 @@ returns-in_default-found c =
       found-packed _ _ _ _ _ c.pack_value.ensures c.of-found.ensures in
     let l = c.loop-kind in
     let f = c.of-found.result in
-    rw (over-left f c.in_default.in_default-own.keys2 c.in_default-found.in_default-found-own.keys2)
-    at (values-all _ _ _ l.at l.count l.sizes f l.invariant (found) (not-value f c.in_default.in_default-own.keys2))
+    rw (over-left f (opened c.in_default.in_default-own.keys2) (opened c.in_default-found.in_default-found-own.keys2))
+    at (values-all _ _ _ l.at l.count l.sizes f l.invariant (found) (not-value f (opened c.in_default.in_default-own.keys2)))
 
 pub returns-in_default : goal.returns-in_default
 returns-in_default c =
@@ -33,7 +34,7 @@ returns-in_default c =
       found-packed _ _ _ _ _ c.pack_value.ensures c.of-found.ensures in
     let l = c.loop-kind in
     let f = c.of-found.result in
-    rw c.in-Missing.is at (values-all _ _ _ l.at l.count l.sizes f l.invariant (found) (not-value f c.in_default.in_default-own.keys2))
+    rw c.in-Missing.is at (values-all _ _ _ l.at l.count l.sizes f l.invariant (found) (not-value f (opened c.in_default.in_default-own.keys2)))
 
 pub add_value-sizes-requires : goal.add_value-sizes-requires
 unfolding limit

@@ -1,4 +1,5 @@
 -- `items::parse_tag`: by its name, and by what is found behind it. Assumes nothing.
+use borrow.Enum.Refused.{opened}
 use Prim.Native.Nat.{◌*◌, ◌-◌}
 use mathlib.Core.Path.{sym, ◌∙◌}
 use native.Mathlib.Omega.{arith}
@@ -122,8 +123,8 @@ returns-in_default-found c =
       stops = c.gap_end-stop.ensures;
       finds = found-packed _ _ _ _ _ c.pack_value.ensures c.of-found.ensures;
     } in
-    rw (over-left c.of-found.result c.in_default.in_default-own.keys2 c.in_default-found.in_default-found-own.keys2)
-    at (tag-alone (tag_read) (not-value c.of-found.result c.in_default.in_default-own.keys2))
+    rw (over-left c.of-found.result (opened c.in_default.in_default-own.keys2) (opened c.in_default-found.in_default-found-own.keys2))
+    at (tag-alone (tag_read) (not-value c.of-found.result (opened c.in_default.in_default-own.keys2)))
 
 pub returns : goal.returns
 unfolding alone_answer
@@ -138,4 +139,4 @@ returns c =
       stops = c.gap_end-stop.ensures;
       finds = found-packed _ _ _ _ _ c.pack_value.ensures c.of-found.ensures;
     } in
-    c.failed.ensures ∙ rw c.number.ensures (rw c.in-Missing.is at (tag-alone (tag_read) (not-value c.of-found.result c.in_default.in_default-own.keys2)))
+    c.failed.ensures ∙ rw c.number.ensures (rw c.in-Missing.is at (tag-alone (tag_read) (not-value c.of-found.result (opened c.in_default.in_default-own.keys2))))

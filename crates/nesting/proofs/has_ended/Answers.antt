@@ -1,4 +1,5 @@
 -- `nesting::has_ended`: by what may stand next. Assumes nothing.
+use borrow.Enum.Refused.{opened}
 use Rattle.nesting.specs.Nesting.{ended}
 use Rattle.nesting.proofs.Nesting.{ended-other}
 use Rattle.nesting.proofs.has_ended.Goals as goal
@@ -8,4 +9,4 @@ unfolding ended
 returns-in-Items c = rw c.in-Items.is
 
 pub returns-in_default : goal.returns-in_default
-returns-in_default c = ended-other _ c.args.place c.in_default.in_default-own.keys2
+returns-in_default c = ended-other _ c.args.place (opened c.in_default.in_default-own.keys2)

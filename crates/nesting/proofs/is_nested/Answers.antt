@@ -28,30 +28,26 @@ pub returns-in_default-stand : goal.returns-in_default-stand
 returns-in_default-stand c =
     let st = c.args.store.now in
     let here = c.loop-at in
-    let got = c.kind-1.given in
-    let e : entry_at st here.at ≡ Record got.0.0 got.0.1.0 got.0.1.1.0 = sym c.read_record.ensures ∙ got.1 in
-    let s : standing c.args.reading here.frame here.place (number_of got.0.0) got.0.1.0.number ≡ Falls = rw (← c.number.ensures) (sym c.standing-stand.ensures ∙ c.in_default-stand.is) in
+    let e : entry_at st here.at ≡ Record c.in-Record.kind c.in-Record.fields c.in-Record.next = sym c.read_record.ensures ∙ c.in-Record.is in
+    let s : standing c.args.reading here.frame here.place (number_of c.in-Record.kind) c.in-Record.fields.number ≡ Falls = rw (← c.number.ensures) (sym c.standing-stand.ensures ∙ c.in_default-stand.is) in
     sym (here.invariant.2 ∙ nest-falls _ st here.at here.frame here.place _ _ _ c.loop-at-test.true e s)
 
 pub loop-at-smaller : goal.loop-at-smaller
 loop-at-smaller c =
     let st = c.args.store.now in
     let here = c.loop-at in
-    let got = c.kind-1.given in
-    let far = next-at st here.at got.0.0 got.0.1.0 got.0.1.1.0 (omega arith) (sym c.read_record.ensures ∙ got.1) in
+    let far = next-at st here.at c.in-Record.kind c.in-Record.fields c.in-Record.next (omega arith) (sym c.read_record.ensures ∙ c.in-Record.is) in
     omega (arith, far.onwards, far.within)
 
 pub loop-at-preserved : goal.loop-at-preserved
 loop-at-preserved c =
     let st = c.args.store.now in
     let here = c.loop-at in
-    let got = c.kind-1.given in
-    let then = c.stand-1.given in
     let inside : here.at < length st = omega arith in
-    let e : entry_at st here.at ≡ Record got.0.0 got.0.1.0 got.0.1.1.0 = sym c.read_record.ensures ∙ got.1 in
-    let s : standing c.args.reading here.frame here.place (number_of got.0.0) got.0.1.0.number ≡ Stands then.0.0 then.0.1.0 = rw (← c.number.ensures) (sym c.standing-stand.ensures ∙ then.1) in
+    let e : entry_at st here.at ≡ Record c.in-Record.kind c.in-Record.fields c.in-Record.next = sym c.read_record.ensures ∙ c.in-Record.is in
+    let s : standing c.args.reading here.frame here.place (number_of c.in-Record.kind) c.in-Record.fields.number ≡ Stands c.in-Stands.within c.in-Stands.then = rw (← c.number.ensures) (sym c.standing-stand.ensures ∙ c.in-Stands.is) in
     let far = next-at st here.at _ _ _ inside e in
-    let more = counted-one _ _ here.place _ _ _ then.0.1.0 s in
+    let more = counted-one _ _ here.place _ _ _ c.in-Stands.then s in
     (far.within, omega (arith, more, here.invariant.1, far.onwards), here.invariant.2 ∙ nest-stands _ st here.at here.frame here.place _ _ _ inside e _ _ s)
 
 pub returns : goal.returns

@@ -1,12 +1,12 @@
 -- `quotes::parse_multiline_string`: from `;` to `;`, to one behind a line end. Assumes nothing.
-use Prim.Native.Nat.{◌-◌}
-use mathlib.Core.Path.{sym, ◌∙◌}
-use mathlib.Core.Logic.{⊎_elim}
+use Prim.Native.Nat.{◌+◌, ◌-◌}
+use mathlib.Core.Path.{◌≡◌, sym, ◌∙◌}
 use native.Mathlib.Omega.{arith}
 use Rattle.text.proofs.Runs.{span-from}
 use Rattle.text.specs.Blocks.{clear}
-use Rattle.quotes.proofs.Quotes.{past-start, past-last, past-here, past_first, past-plain}
+use Rattle.quotes.proofs.Quotes.{field_past, past-start, past-last, past-here, past_first, past-plain}
 use Rattle.quotes.proofs.parse_multiline_string.Goals as goal
+use Rattle.quotes.proofs.parse_multiline_string.Goals.{then-from-at+else-is_eol, else-from-at}
 
 pub loop-at-init : goal.loop-at-init
 loop-at-init c = (omega arith, past-start _ _)
@@ -31,7 +31,11 @@ loop-at-preserved c =
     let l = c.loop-at in
     let e = c.next_semicolon-at.ensures in
     let h = c.if-s-at.false in
-    (omega (arith, l.invariant.0, e, span-from (clear 0 59) c.args.s.now l.at), l.invariant.1 ∙ ⊎_elim (λ w. past-plain _ _ _ _ l.invariant.0 e h (sym w.2.ensures ∙ w.3.left)) (λ w. past_first _ _ _ _ l.invariant.0 e h w.left) c.if-from-at.branch)
+    let on : field_past c.args.s.now c.args.from l.at ≡ field_past c.args.s.now c.args.from (c.next_semicolon-at.result + 1) =
+      elim c.if-from-at.branch [
+        then-from-at+else-is_eol w ↦ past-plain _ _ _ _ l.invariant.0 e h (sym w.is_eol.ensures ∙ w.if-is_eol.false)
+      | else-from-at w ↦ past_first _ _ _ _ l.invariant.0 e h w.if-from-at.false ] in
+    (omega (arith, l.invariant.0, e, span-from (clear 0 59) c.args.s.now l.at), l.invariant.1 ∙ on)
 
 pub overflow_add-result : goal.overflow_add-result
 overflow_add-result c = omega arith

@@ -1,4 +1,5 @@
 -- `readable::is_bare`: by the value that stands there. Assumes nothing.
+use borrow.Enum.Refused.{opened}
 use mathlib.Core.Path.{◌≡◌, sym, ◌∙◌}
 use borrow.Author.Tests.{eq-eqb, ne_eqb}
 use Rattle.values.specs.Finding.{found_at}
@@ -11,7 +12,7 @@ pub returns-in_default : goal.returns-in_default
 returns-in_default c =
     let found : c.of.result ≡ found_at c.args.reading c.args.content.now 0 =
       found-packed _ _ _ _ _ c.pack_value.ensures c.of.ensures in
-    sym (bare-other _ _ (λ k n q. not-value c.of.result c.in_default.in_default-own.keys2 k n (found ∙ q)))
+    sym (bare-other _ _ (λ k n q. not-value c.of.result (opened c.in_default.in_default-own.keys2) k n (found ∙ q)))
 
 pub returns-then-kind-ne-BARE : goal.returns-then-kind-ne-BARE
 returns-then-kind-ne-BARE c =

@@ -1,4 +1,5 @@
 -- `readable_strict::column_of`: each arm is its kinds' case of the definition. Assumes nothing.
+use borrow.Enum.Refused.{opened}
 use mathlib.Core.Path.{refl, sym, ◌∙◌}
 use mathlib.Core.List.{[], ◌∷◌}
 use Rattle.kinds.specs.Kinds.{kind_of}
@@ -23,4 +24,4 @@ returns-else-is_led c = rw (c.in-Bare.is, sym c.is_led.ensures ∙ c.if-is_led.f
 pub returns-in_default : goal.returns-in_default
 unfolding kind_of
 returns-in_default c =
-    told (λ k. column_of k c.args.content.now) 0 0 (3 ∷ 5 ∷ 7 ∷ 8 ∷ 9 ∷ 11 ∷ 12 ∷ 14 ∷ 15 ∷ []) refl c.args.kind c.in_default.in_default-own.keys4
+    told (λ k. column_of k c.args.content.now) 0 0 (3 ∷ 5 ∷ 7 ∷ 8 ∷ 9 ∷ 11 ∷ 12 ∷ 14 ∷ 15 ∷ []) refl c.args.kind (opened c.in_default.in_default-own.keys4)

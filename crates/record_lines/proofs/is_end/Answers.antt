@@ -1,4 +1,5 @@
 -- `record_lines::is_end` meets its contract. Assumes nothing.
+use borrow.Enum.Refused.{opened}
 use mathlib.Core.Path.{refl}
 use mathlib.Core.Bool.{true, false}
 use mathlib.Core.List.{[], ◌∷◌}
@@ -13,4 +14,4 @@ returns-in-NoKind c = told is_end true 0 (7 ∷ []) refl c.args.kind c.in-NoKind
 
 pub returns-in_default : goal.returns-in_default
 unfolding kind_of is_end
-returns-in_default c = told is_end false 1 (2 ∷ 3 ∷ 4 ∷ 5 ∷ 6 ∷ 8 ∷ 9 ∷ 10 ∷ 11 ∷ 12 ∷ 13 ∷ 14 ∷ 15 ∷ 16 ∷ []) refl c.args.kind c.in_default.in_default-own.keys2
+returns-in_default c = told is_end false 1 (2 ∷ 3 ∷ 4 ∷ 5 ∷ 6 ∷ 8 ∷ 9 ∷ 10 ∷ 11 ∷ 12 ∷ 13 ∷ 14 ∷ 15 ∷ 16 ∷ []) refl c.args.kind (opened c.in_default.in_default-own.keys2)

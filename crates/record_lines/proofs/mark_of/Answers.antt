@@ -1,4 +1,5 @@
 -- `record_lines::mark_of` meets its contract. Assumes nothing.
+use borrow.Enum.Refused.{opened}
 use mathlib.Core.Path.{refl}
 use mathlib.Core.List.{[], ◌∷◌}
 use Rattle.kinds.specs.Kinds.{kind_of}
@@ -32,4 +33,4 @@ returns-in-Multiline c = told mark_of 59 13 [] refl c.args.kind c.in-Multiline.i
 
 pub returns-in_default : goal.returns-in_default
 unfolding kind_of mark_of
-returns-in_default c = told mark_of 0 0 (1 ∷ 2 ∷ 3 ∷ 5 ∷ 7 ∷ 10 ∷ 14 ∷ 15 ∷ 16 ∷ []) refl c.args.kind c.in_default.in_default-own.keys7
+returns-in_default c = told mark_of 0 0 (1 ∷ 2 ∷ 3 ∷ 5 ∷ 7 ∷ 10 ∷ 14 ∷ 15 ∷ 16 ∷ []) refl c.args.kind (opened c.in_default.in_default-own.keys7)

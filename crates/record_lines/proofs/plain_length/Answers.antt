@@ -1,4 +1,5 @@
 -- `record_lines::plain_length` meets its contract: each arm at once for its kinds' numbers. Assumes nothing.
+use borrow.Enum.Refused.{opened}
 use mathlib.Core.Path.{refl, ap, ◌∙◌}
 use mathlib.Core.Bool.{true, false}
 use mathlib.Core.List.{[], ◌∷◌}
@@ -61,4 +62,4 @@ returns-in-Uncertain c = rw (c.in-Uncertain.is, c.number_length-in-Uncertain.ens
 
 pub returns-in_default : goal.returns-in_default
 unfolding kind_of plain_length
-returns-in_default c = told (λ k. plain_length k c.args.fields) _ 1 (2 ∷ 4 ∷ 6 ∷ 10 ∷ 11 ∷ 12 ∷ 13 ∷ 16 ∷ []) refl c.args.kind c.in_default.in_default-own.keys6
+returns-in_default c = told (λ k. plain_length k c.args.fields) _ 1 (2 ∷ 4 ∷ 6 ∷ 10 ∷ 11 ∷ 12 ∷ 13 ∷ 16 ∷ []) refl c.args.kind (opened c.in_default.in_default-own.keys6)

@@ -1,4 +1,5 @@
 -- `record_lines::put_body` meets its contract: by the shape of the record. Assumes nothing.
+use borrow.Enum.Refused.{opened}
 use Prim.Native.Nat.{◌-◌}
 use mathlib.Core.Path.{sym, ap, ◌∙◌}
 use mathlib.Core.Bool.{true, false}
@@ -61,4 +62,4 @@ returns-in-PartsUncertain c =
 pub returns-in_default : goal.returns-in_default
 unfolding body_text
 returns-in_default c =
-    wrote_as (sym (rw (← c.shape-shape.ensures) (body-none c.shape-shape.result _ _ c.in_default.in_default-own.keys4))) (wrote_none _ _)
+    wrote_as (sym (rw (← c.shape-shape.ensures) (body-none c.shape-shape.result _ _ (opened c.in_default.in_default-own.keys4)))) (wrote_none _ _)

@@ -1,4 +1,5 @@
 -- `record_lines::put_closing` meets its contract: each arm at once for its kinds' numbers. Assumes nothing.
+use borrow.Enum.Refused.{opened}
 use Prim.Native.Nat.{◌-◌}
 use mathlib.Core.Path.{refl, sym, ap}
 use mathlib.Core.Bool.{true}
@@ -45,7 +46,7 @@ put_byte-requires-in-Quoted c =
 pub put_byte-requires-in_default : goal.put_byte-requires-in_default
 unfolding kind_of closing_text
 put_byte-requires-in_default c =
-    room_as _ _ (sym (told (λ k. closing_text k (content_bytes c.args.area.now c.args.kind c.args.fields)) (10 ∷ []) 0 (1 ∷ 2 ∷ 3 ∷ 4 ∷ 5 ∷ 6 ∷ 7 ∷ 8 ∷ 9 ∷ 10 ∷ 14 ∷ 15 ∷ []) refl c.args.kind c.in_default.in_default-own.keys3)) c.requires.1
+    room_as _ _ (sym (told (λ k. closing_text k (content_bytes c.args.area.now c.args.kind c.args.fields)) (10 ∷ []) 0 (1 ∷ 2 ∷ 3 ∷ 4 ∷ 5 ∷ 6 ∷ 7 ∷ 8 ∷ 9 ∷ 10 ∷ 14 ∷ 15 ∷ []) refl c.args.kind (opened c.in_default.in_default-own.keys3))) c.requires.1
 
 pub returns-in-SingleQuoted : goal.returns-in-SingleQuoted
 unfolding kind_of closing_text
@@ -64,4 +65,4 @@ returns-in-Quoted c =
 pub returns-in_default : goal.returns-in_default
 unfolding kind_of closing_text
 returns-in_default c =
-    wrote_as (told (λ k. closing_text k (content_bytes c.args.area.now c.args.kind c.args.fields)) (10 ∷ []) 0 (1 ∷ 2 ∷ 3 ∷ 4 ∷ 5 ∷ 6 ∷ 7 ∷ 8 ∷ 9 ∷ 10 ∷ 14 ∷ 15 ∷ []) refl c.args.kind c.in_default.in_default-own.keys3) c.put_byte-in_default.ensures
+    wrote_as (told (λ k. closing_text k (content_bytes c.args.area.now c.args.kind c.args.fields)) (10 ∷ []) 0 (1 ∷ 2 ∷ 3 ∷ 4 ∷ 5 ∷ 6 ∷ 7 ∷ 8 ∷ 9 ∷ 10 ∷ 14 ∷ 15 ∷ []) refl c.args.kind (opened c.in_default.in_default-own.keys3)) c.put_byte-in_default.ensures

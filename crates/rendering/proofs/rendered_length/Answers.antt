@@ -22,10 +22,9 @@ pub line_length-line-requires : goal.line_length-line-requires
 line_length-line-requires c =
     let a = c.args in
     let here = c.loop-from in
-    let got = c.kind-1.given in
-    let e : entry_at a.store.now here.from ≡ Record got.0.0 got.0.1.0 got.0.1.1.0 = sym c.read_record.ensures ∙ got.1 in
+    let e : entry_at a.store.now here.from ≡ Record c.in-Record.kind c.in-Record.fields c.in-Record.next = sym c.read_record.ensures ∙ c.in-Record.is in
     let test = c.loop-from-test.true in
-    summing-own a.reading a.store.now a.area.now here.from here.total got.0.0 got.0.1.0 got.0.1.1.0 test e here.invariant
+    summing-own a.reading a.store.now a.area.now here.from here.total c.in-Record.kind c.in-Record.fields c.in-Record.next test e here.invariant
 
 pub overflow_sub-total : goal.overflow_sub-total
 overflow_sub-total c = omega (arith, c.loop-from.invariant.few)
@@ -34,11 +33,10 @@ pub returns-then-total-line : goal.returns-then-total-line
 returns-then-total-line c =
     let a = c.args in
     let here = c.loop-from in
-    let got = c.kind-1.given in
-    let e : entry_at a.store.now here.from ≡ Record got.0.0 got.0.1.0 got.0.1.1.0 = sym c.read_record.ensures ∙ got.1 in
+    let e : entry_at a.store.now here.from ≡ Record c.in-Record.kind c.in-Record.fields c.in-Record.next = sym c.read_record.ensures ∙ c.in-Record.is in
     let test = c.loop-from-test.true in
     let size = c.line_length-line.ensures in
-    summing-over a.reading a.store.now a.area.now here.from here.total got.0.0 got.0.1.0 got.0.1.1.0 test e here.invariant (omega arith)
+    summing-over a.reading a.store.now a.area.now here.from here.total c.in-Record.kind c.in-Record.fields c.in-Record.next test e here.invariant (omega arith)
 
 pub overflow_add-total : goal.overflow_add-total
 overflow_add-total c = omega (arith, c.loop-from.invariant.few)
@@ -47,21 +45,19 @@ pub loop-from-smaller : goal.loop-from-smaller
 loop-from-smaller c =
     let a = c.args in
     let here = c.loop-from in
-    let got = c.kind-1.given in
-    let e : entry_at a.store.now here.from ≡ Record got.0.0 got.0.1.0 got.0.1.1.0 = sym c.read_record.ensures ∙ got.1 in
+    let e : entry_at a.store.now here.from ≡ Record c.in-Record.kind c.in-Record.fields c.in-Record.next = sym c.read_record.ensures ∙ c.in-Record.is in
     let test = c.loop-from-test.true in
-    let far = next-at a.store.now here.from got.0.0 got.0.1.0 got.0.1.1.0 test e in
+    let far = next-at a.store.now here.from c.in-Record.kind c.in-Record.fields c.in-Record.next test e in
     omega (arith, far.onwards)
 
 pub loop-from-preserved : goal.loop-from-preserved
 loop-from-preserved c =
     let a = c.args in
     let here = c.loop-from in
-    let got = c.kind-1.given in
-    let e : entry_at a.store.now here.from ≡ Record got.0.0 got.0.1.0 got.0.1.1.0 = sym c.read_record.ensures ∙ got.1 in
+    let e : entry_at a.store.now here.from ≡ Record c.in-Record.kind c.in-Record.fields c.in-Record.next = sym c.read_record.ensures ∙ c.in-Record.is in
     let test = c.loop-from-test.true in
     let size = c.line_length-line.ensures in
-    rw size (summing-more a.reading a.store.now a.area.now here.from here.total got.0.0 got.0.1.0 got.0.1.1.0 test e here.invariant (omega arith))
+    rw size (summing-more a.reading a.store.now a.area.now here.from here.total c.in-Record.kind c.in-Record.fields c.in-Record.next test e here.invariant (omega arith))
 
 pub returns : goal.returns
 returns c =

@@ -21,29 +21,26 @@ pub write_line-at-requires : goal.write_line-at-requires
 write_line-at-requires c =
     let a = c.args in
     let here = c.loop-from in
-    let got = c.kind-1.given in
-    let e : entry_at a.store.now here.from ≡ Record got.0.0 got.0.1.0 got.0.1.1.0 = sym c.read_record.ensures ∙ got.1 in
+    let e : entry_at a.store.now here.from ≡ Record c.in-Record.kind c.in-Record.fields c.in-Record.next = sym c.read_record.ensures ∙ c.in-Record.is in
     let test = c.loop-from-test.true in
-    (writing-own a.reading a.store.now a.area.now a.out.now here.out here.from here.at here.invariant got.0.0 got.0.1.0 got.0.1.1.0 test e, writing-room a.reading a.store.now a.area.now a.out.now here.out here.from here.at here.invariant got.0.0 got.0.1.0 got.0.1.1.0 test e)
+    (writing-own a.reading a.store.now a.area.now a.out.now here.out here.from here.at here.invariant c.in-Record.kind c.in-Record.fields c.in-Record.next test e, writing-room a.reading a.store.now a.area.now a.out.now here.out here.from here.at here.invariant c.in-Record.kind c.in-Record.fields c.in-Record.next test e)
 
 pub loop-from-smaller : goal.loop-from-smaller
 loop-from-smaller c =
     let a = c.args in
     let here = c.loop-from in
-    let got = c.kind-1.given in
-    let e : entry_at a.store.now here.from ≡ Record got.0.0 got.0.1.0 got.0.1.1.0 = sym c.read_record.ensures ∙ got.1 in
+    let e : entry_at a.store.now here.from ≡ Record c.in-Record.kind c.in-Record.fields c.in-Record.next = sym c.read_record.ensures ∙ c.in-Record.is in
     let test = c.loop-from-test.true in
-    let far = next-at a.store.now here.from got.0.0 got.0.1.0 got.0.1.1.0 test e in
+    let far = next-at a.store.now here.from c.in-Record.kind c.in-Record.fields c.in-Record.next test e in
     omega (arith, far.onwards)
 
 pub loop-from-preserved : goal.loop-from-preserved
 loop-from-preserved c =
     let a = c.args in
     let here = c.loop-from in
-    let got = c.kind-1.given in
-    let e : entry_at a.store.now here.from ≡ Record got.0.0 got.0.1.0 got.0.1.1.0 = sym c.read_record.ensures ∙ got.1 in
+    let e : entry_at a.store.now here.from ≡ Record c.in-Record.kind c.in-Record.fields c.in-Record.next = sym c.read_record.ensures ∙ c.in-Record.is in
     let test = c.loop-from-test.true in
-    writing_more a.reading a.store.now a.area.now a.out.now here.out here.from here.at here.invariant got.0.0 got.0.1.0 got.0.1.1.0 test e _ _ c.write_line-at.ensures
+    writing_more a.reading a.store.now a.area.now a.out.now here.out here.from here.at here.invariant c.in-Record.kind c.in-Record.fields c.in-Record.next test e _ _ c.write_line-at.ensures
 
 pub returns : goal.returns
 returns c =

@@ -1,4 +1,5 @@
 -- `items::content_length`: by the kind's shape, and whether the marks fit. Assumes nothing.
+use borrow.Enum.Refused.{opened}
 use mathlib.Core.Path.{◌∙◌}
 use native.Mathlib.Omega.{arith}
 use Prim.Native.Nat.{◌-◌}
@@ -10,7 +11,7 @@ use Rattle.sizes.proofs.content_length.Goals as goal
 
 pub returns-in_default : goal.returns-in_default
 unfolding has_content
-returns-in_default c = content-none _ _ (rw (← c.of-kind.ensures, ← c.shape-shape.ensures) (no-content c.shape-shape.result c.in_default.in_default-own.keys2))
+returns-in_default c = content-none _ _ (rw (← c.of-kind.ensures, ← c.shape-shape.ensures) (no-content c.shape-shape.result (opened c.in_default.in_default-own.keys2)))
 
 pub returns-then-size-marks : goal.returns-then-size-marks
 returns-then-size-marks c =

@@ -31,9 +31,8 @@ overflow_add-result-then-is_name c = omega arith
 pub returns-then-is_name : goal.returns-then-is_name
 returns-then-is_name c =
     let here = c.loop-at in
-    let got = c.kind-1.given in
-    let e : entry_at c.args.store.now here.at ≡ Record got.0.0 got.0.1.0 got.0.1.1.0 = sym c.read_record.ensures ∙ got.1 in
-    let q : is_name_kind (number_of got.0.0) ≡ true = rw (← c.number-k.ensures) (sym c.is_name.ensures ∙ c.if-is_name.true) in
+    let e : entry_at c.args.store.now here.at ≡ Record c.in-Record.kind c.in-Record.fields c.in-Record.next = sym c.read_record.ensures ∙ c.in-Record.is in
+    let q : is_name_kind (number_of c.in-Record.kind) ≡ true = rw (← c.number-k.ensures) (sym c.is_name.ensures ∙ c.if-is_name.true) in
     ahead-name _ _ here.at here.number here.block here.scope _ _ _ c.loop-at-test.true e c.args.spot _ here.invariant.0 here.invariant.1 here.invariant.2 q c.name_of.ensures
 
 pub overflow_add-number : goal.overflow_add-number
@@ -42,16 +41,14 @@ overflow_add-number c = omega arith
 pub loop-at-smaller : goal.loop-at-smaller
 loop-at-smaller c =
     let here = c.loop-at in
-    let got = c.kind-1.given in
-    let e : entry_at c.args.store.now here.at ≡ Record got.0.0 got.0.1.0 got.0.1.1.0 = sym c.read_record.ensures ∙ got.1 in
+    let e : entry_at c.args.store.now here.at ≡ Record c.in-Record.kind c.in-Record.fields c.in-Record.next = sym c.read_record.ensures ∙ c.in-Record.is in
     omega (arith, names-onwards _ c.args.area.now here.at here.number here.block here.scope _ _ _ c.loop-at-test.true e)
 
 pub loop-at-preserved : goal.loop-at-preserved
 loop-at-preserved c =
     let here = c.loop-at in
-    let got = c.kind-1.given in
-    let e : entry_at c.args.store.now here.at ≡ Record got.0.0 got.0.1.0 got.0.1.1.0 = sym c.read_record.ensures ∙ got.1 in
-    let q : is_name_kind (number_of got.0.0) ≡ false = rw (← c.number-k.ensures) (sym c.is_name.ensures ∙ c.if-is_name.false) in
+    let e : entry_at c.args.store.now here.at ≡ Record c.in-Record.kind c.in-Record.fields c.in-Record.next = sym c.read_record.ensures ∙ c.in-Record.is in
+    let q : is_name_kind (number_of c.in-Record.kind) ≡ false = rw (← c.number-k.ensures) (sym c.is_name.ensures ∙ c.if-is_name.false) in
     let on = names-onwards _ c.args.area.now here.at here.number here.block here.scope _ _ _ c.loop-at-test.true e in
     (omega (arith, here.invariant.0), omega (arith, here.invariant.1, on), here.invariant.2 ∙ names-other _ _ here.at here.number here.block here.scope _ _ _ c.loop-at-test.true e q ∙ rw (c.block_after-block.ensures, c.scope_after-scope.ensures, c.number-k.ensures))
 

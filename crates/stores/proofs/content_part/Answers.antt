@@ -12,19 +12,16 @@ returns-in_default c = rw (← c.find_content-found.ensures) (sym (part-refused 
 pub overflow_add-behind : goal.overflow_add-behind
 overflow_add-behind c =
     let given = c.args in
-    let got = c.found-1.given in
-    let inside = content-inside given.reading given.store.now given.area.now given.number got.0.0 got.0.1.0 (sym c.find_content-found.ensures ∙ got.1) in
+    let inside = content-inside given.reading given.store.now given.area.now given.number c.in-Part.from c.in-Part.size (sym c.find_content-found.ensures ∙ c.in-Part.is) in
     omega (arith, inside)
 
 pub slice_bounds-result-end-2 : goal.slice_bounds-result-end-2
 slice_bounds-result-end-2 c =
     let given = c.args in
-    let got = c.found-1.given in
-    content-inside given.reading given.store.now given.area.now given.number got.0.0 got.0.1.0 (sym c.find_content-found.ensures ∙ got.1)
+    content-inside given.reading given.store.now given.area.now given.number c.in-Part.from c.in-Part.size (sym c.find_content-found.ensures ∙ c.in-Part.is)
 
 pub returns : goal.returns
 unfolding part_bytes
 returns c =
-    let got = c.found-1.given in
-    let size : got.0.0 + got.0.1.0 - got.0.0 ≡ got.0.1.0 = omega arith in
-    rw (← c.find_content-found.ensures, got.1, size)
+    let size : c.in-Part.from + c.in-Part.size - c.in-Part.from ≡ c.in-Part.size = omega arith in
+    rw (← c.find_content-found.ensures, c.in-Part.is, size)

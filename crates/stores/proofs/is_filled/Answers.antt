@@ -24,35 +24,31 @@ pub returns-then-not-is_kept : goal.returns-then-not-is_kept
 returns-then-not-is_kept c =
     let given = c.args in
     let here = c.loop-at in
-    let got = c.kind-1.given in
-    let e : entry_at given.store.now here.at ≡ Record got.0.0 got.0.1.0 got.0.1.1.0 = sym c.read_record.ensures ∙ got.1 in
+    let e : entry_at given.store.now here.at ≡ Record c.in-Record.kind c.in-Record.fields c.in-Record.next = sym c.read_record.ensures ∙ c.in-Record.is in
     sym (here.invariant.2 ∙ fill-breaks given.reading given.store.now given.area.now here.at here.from _ _ _ c.loop-at-test.true e (sym c.is_kept.ensures ∙ c.if-not-is_kept.true))
 
 pub overflow_add-from : goal.overflow_add-from
 overflow_add-from c =
     let given = c.args in
     let here = c.loop-at in
-    let got = c.kind-1.given in
-    let room = takes-inside given.reading given.area.now here.from got.0.0 got.0.1.0 here.invariant.1 (sym c.is_kept.ensures ∙ c.if-not-is_kept.false) in
+    let room = takes-inside given.reading given.area.now here.from c.in-Record.kind c.in-Record.fields here.invariant.1 (sym c.is_kept.ensures ∙ c.if-not-is_kept.false) in
     omega (arith, room, c.taken-from.ensures)
 
 pub loop-at-smaller : goal.loop-at-smaller
 loop-at-smaller c =
     let given = c.args in
     let here = c.loop-at in
-    let got = c.kind-1.given in
-    let far = next-at given.store.now here.at got.0.0 got.0.1.0 got.0.1.1.0 (omega arith) (sym c.read_record.ensures ∙ got.1) in
+    let far = next-at given.store.now here.at c.in-Record.kind c.in-Record.fields c.in-Record.next (omega arith) (sym c.read_record.ensures ∙ c.in-Record.is) in
     omega (arith, far.onwards, far.within)
 
 pub loop-at-preserved : goal.loop-at-preserved
 loop-at-preserved c =
     let given = c.args in
     let here = c.loop-at in
-    let got = c.kind-1.given in
     let inside : here.at < length given.store.now = omega arith in
-    let e : entry_at given.store.now here.at ≡ Record got.0.0 got.0.1.0 got.0.1.1.0 = sym c.read_record.ensures ∙ got.1 in
-    let keeps : kept given.reading given.area.now here.from got.0.0 got.0.1.0 ≡ true = sym c.is_kept.ensures ∙ c.if-not-is_kept.false in
-    let room = takes-inside given.reading given.area.now here.from got.0.0 got.0.1.0 here.invariant.1 keeps in
+    let e : entry_at given.store.now here.at ≡ Record c.in-Record.kind c.in-Record.fields c.in-Record.next = sym c.read_record.ensures ∙ c.in-Record.is in
+    let keeps : kept given.reading given.area.now here.from c.in-Record.kind c.in-Record.fields ≡ true = sym c.is_kept.ensures ∙ c.if-not-is_kept.false in
+    let room = takes-inside given.reading given.area.now here.from c.in-Record.kind c.in-Record.fields here.invariant.1 keeps in
     ((next-at given.store.now here.at _ _ _ inside e).within, omega (arith, room, c.taken-from.ensures), here.invariant.2 ∙ fill-keeps given.reading given.store.now given.area.now here.at here.from _ _ _ inside e keeps ∙ rw (← c.taken-from.ensures))
 
 pub returns : goal.returns

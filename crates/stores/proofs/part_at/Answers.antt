@@ -22,8 +22,7 @@ pub returns-then-left-eq0 : goal.returns-then-left-eq0
 returns-then-left-eq0 c =
     let st = c.args.store.now in
     let here = c.loop-at in
-    let got = c.kind-1.given in
-    let e : entry_at st here.at ≡ Record got.0.0 got.0.1.0 got.0.1.1.0 = sym c.read_record.ensures ∙ got.1 in
+    let e : entry_at st here.at ≡ Record c.in-Record.kind c.in-Record.fields c.in-Record.next = sym c.read_record.ensures ∙ c.in-Record.is in
     sym (here.invariant ∙ part-here st here.at _ _ _ c.loop-at-test.true e here.left c.if-left-eq0.true ∙ sym c.part_of.ensures)
 
 pub overflow_sub-left : goal.overflow_sub-left
@@ -33,16 +32,14 @@ pub loop-at-smaller : goal.loop-at-smaller
 loop-at-smaller c =
     let st = c.args.store.now in
     let here = c.loop-at in
-    let got = c.kind-1.given in
-    let far = next-at st here.at got.0.0 got.0.1.0 got.0.1.1.0 (omega arith) (sym c.read_record.ensures ∙ got.1) in
+    let far = next-at st here.at c.in-Record.kind c.in-Record.fields c.in-Record.next (omega arith) (sym c.read_record.ensures ∙ c.in-Record.is) in
     omega (arith, far.onwards, far.within)
 
 pub loop-at-preserved : goal.loop-at-preserved
 loop-at-preserved c =
     let st = c.args.store.now in
     let here = c.loop-at in
-    let got = c.kind-1.given in
-    let e : entry_at st here.at ≡ Record got.0.0 got.0.1.0 got.0.1.1.0 = sym c.read_record.ensures ∙ got.1 in
+    let e : entry_at st here.at ≡ Record c.in-Record.kind c.in-Record.fields c.in-Record.next = sym c.read_record.ensures ∙ c.in-Record.is in
     here.invariant ∙ part-more st here.at _ _ _ c.loop-at-test.true e here.left c.if-left-eq0.false
 
 pub returns : goal.returns

@@ -1,4 +1,5 @@
 -- `values::parse_value`: what is found, and what a number there means. Assumes nothing.
+use borrow.Enum.Refused.{opened}
 use Prim.Native.Nat.{◌+◌, ◌-◌}
 use mathlib.Core.Path.{◌≡◌, sym, ◌∙◌}
 use native.Mathlib.Omega.{arith}
@@ -52,7 +53,7 @@ pub returns-in_default-found : goal.returns-in_default-found
 returns-in_default-found c =
     let found : found_at c.args.reading c.args.s.now c.args.at ≡ c.of-found.result =
       sym (found-packed _ _ _ _ _ c.pack_value.ensures c.of-found.ensures) in
-    value-over _ _ _ _ (found) (over-left c.of-found.result c.in_default.in_default-own.keys2 c.in_default-found.in_default-found-own.keys2)
+    value-over _ _ _ _ (found) (over-left c.of-found.result (opened c.in_default.in_default-own.keys2) (opened c.in_default-found.in_default-found-own.keys2))
 
 pub returns : goal.returns
 returns c =

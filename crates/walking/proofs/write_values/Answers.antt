@@ -1,4 +1,5 @@
 -- `walking::write_values`: what is written so far and the values from the cursor on are the values from the start on. Assumes nothing.
+use borrow.Enum.Refused.{opened}
 use Prim.Native.Nat.{◌-◌}
 use mathlib.Core.Path.{◌≡◌, sym, ◌∙◌}
 use native.Mathlib.Omega.{arith}
@@ -38,7 +39,7 @@ returns-in_default c =
     let d = desk h.result l.store l.area in
     let i = value-gap a.reading a.full a.s.now d₀ l.last h.result l.store l.area l.invariant h.ensures in
     let g = trim-bare a.s.now l.last h.result h.ensures in
-    value-last a.reading a.full a.s.now d₀ d i g (λ k n q. not-value c.of.result c.in_default.in_default-own.keys2 k n (found ∙ q))
+    value-last a.reading a.full a.s.now d₀ d i g (λ k n q. not-value c.of.result (opened c.in_default.in_default-own.keys2) k n (found ∙ q))
 
 pub write_found-last-requires : goal.write_found-last-requires
 write_found-last-requires c =

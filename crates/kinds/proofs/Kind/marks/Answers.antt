@@ -1,4 +1,5 @@
 -- `kinds::Kind::marks`: each arm at once for its kinds' numbers. Assumes nothing.
+use borrow.Enum.Refused.{opened}
 use mathlib.Core.Path.{refl}
 use mathlib.Core.List.{[], ◌∷◌}
 use Rattle.kinds.specs.Kinds.{kind_of, marks_of}
@@ -23,4 +24,4 @@ returns-in-Quoted c = told marks_of 1 16 [] refl c.args.self c.in-Quoted.in-Quot
 
 pub returns-in_default : goal.returns-in_default
 unfolding kind_of marks_of
-returns-in_default c = told marks_of 0 0 (3 ∷ 5 ∷ 7 ∷ 8 ∷ 9 ∷ 10 ∷ 14 ∷ 15 ∷ []) refl c.args.self c.in_default.in_default-own.keys5
+returns-in_default c = told marks_of 0 0 (3 ∷ 5 ∷ 7 ∷ 8 ∷ 9 ∷ 10 ∷ 14 ∷ 15 ∷ []) refl c.args.self (opened c.in_default.in_default-own.keys5)

@@ -1,4 +1,5 @@
 -- `kinds::Kind::opening`: each arm at once for its kinds' numbers. Assumes nothing.
+use borrow.Enum.Refused.{opened}
 use mathlib.Core.Path.{refl}
 use mathlib.Core.List.{[], ◌∷◌}
 use Rattle.kinds.specs.Kinds.{kind_of, opening}
@@ -19,4 +20,4 @@ returns-in-SingleQuoted c = told opening 1 11 (12 ∷ 13 ∷ []) refl c.args.sel
 
 pub returns-in_default : goal.returns-in_default
 unfolding kind_of opening
-returns-in_default c = told opening 0 0 (3 ∷ 5 ∷ 7 ∷ 8 ∷ 9 ∷ 10 ∷ 14 ∷ 15 ∷ 16 ∷ []) refl c.args.self c.in_default.in_default-own.keys4
+returns-in_default c = told opening 0 0 (3 ∷ 5 ∷ 7 ∷ 8 ∷ 9 ∷ 10 ∷ 14 ∷ 15 ∷ 16 ∷ []) refl c.args.self (opened c.in_default.in_default-own.keys4)

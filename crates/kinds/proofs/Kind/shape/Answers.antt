@@ -1,4 +1,5 @@
 -- `kinds::Kind::shape`: each arm at once for its kinds' numbers. Assumes nothing.
+use borrow.Enum.Refused.{opened}
 use mathlib.Core.Path.{refl}
 use mathlib.Core.List.{[], ◌∷◌}
 use Rattle.kinds.specs.declared.Shape.TheVariants.{Empty, Place, Content, Count, Parts, PartsUncertain}
@@ -28,4 +29,4 @@ returns-in-Uncertain c = told shape_of PartsUncertain 15 [] refl c.args.self c.i
 
 pub returns-in_default : goal.returns-in_default
 unfolding kind_of shape_of
-returns-in_default c = told shape_of Content 1 (2 ∷ 4 ∷ 6 ∷ 10 ∷ 11 ∷ 12 ∷ 13 ∷ 16 ∷ []) refl c.args.self c.in_default.in_default-own.keys6
+returns-in_default c = told shape_of Content 1 (2 ∷ 4 ∷ 6 ∷ 10 ∷ 11 ∷ 12 ∷ 13 ∷ 16 ∷ []) refl c.args.self (opened c.in_default.in_default-own.keys6)

@@ -1,4 +1,5 @@
 -- `sizes::Sizes::add_value`: by the shape of the value's kind. Assumes nothing.
+use borrow.Enum.Refused.{opened}
 use mathlib.Core.Path.{sym, ◌∙◌}
 use Rattle.kinds.proofs.Choices.{no-content}
 use Rattle.sizes.proofs.Room.{grown-content, grown-other}
@@ -8,7 +9,7 @@ pub returns-in_default : goal.returns-in_default
 returns-in_default c =
     let p = c.requires in
     let s = c.shape-shape in
-    c.plus.ensures ∙ grown-other _ _ _ p.2 s.result (s.ensures ∙ rw c.of-kind.ensures) (no-content s.result c.in_default.in_default-own.keys2)
+    c.plus.ensures ∙ grown-other _ _ _ p.2 s.result (s.ensures ∙ rw c.of-kind.ensures) (no-content s.result (opened c.in_default.in_default-own.keys2))
 
 pub overflow_sub-size : goal.overflow_sub-size
 overflow_sub-size c =
