@@ -7,10 +7,6 @@ use Rattle.deciding.proofs.Blocks.{block-begins, block-misnamed, block-goes-on, 
 use Rattle.sizes.proofs.Room.{upto-more}
 use Rattle.deciding.proofs.parse_data_block.Goals as goal
 
-parse-data-item-or-save-frame-requires :
-    tie.Need-parse-data-item-or-save-frame-requires invariant-loop decreases-loop
-parse-data-item-or-save-frame-requires c κs = (record { within = c.before.loop.invariant.within; small = c.before.before.before.before.before.before.before.requires.0.small; none = c.before.loop.invariant.bare }, c.loop-test.true)
-
 pub parse_heading-heading-requires : goal.parse_heading-heading-requires
 parse_heading-heading-requires c = record { within = c.requires.0.within; small = c.requires.0.small }
 
@@ -26,6 +22,9 @@ loop-at-init c =
     let a = c.args in
     let h = heading-read a.reading a.s.now 1 a.start _ _ _ _ c.parse_heading-heading.ensures c.in-Read.is in
     rw (h.next, h.sizes) (block-begins _ _ _ p.0.none p.1 h.fits)
+
+pub parse_data_item_or_save_frame-step-requires : goal.parse_data_item_or_save_frame-step-requires
+parse_data_item_or_save_frame-step-requires c = (record { within = c.loop-at.invariant.within; small = c.requires.0.small; none = c.loop-at.invariant.bare }, c.loop-at-test.true)
 
 pub join-sizes-requires : goal.join-sizes-requires
 unfolding limit

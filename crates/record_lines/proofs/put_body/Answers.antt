@@ -62,4 +62,4 @@ returns-in-PartsUncertain c =
 pub returns-in_default : goal.returns-in_default
 unfolding body_text
 returns-in_default c =
-    wrote_as (sym (rw (← c.shape-shape.ensures) (body-none c.shape-shape.result _ _ (opened c.in_default.in_default-own.keys4)))) (wrote_none _ _)
+    wrote_as (sym (rw (← c.shape-shape.ensures) (body-none c.shape-shape.result _ _ c.in_default.in_default-own.keys4))) (wrote_none _ _)

@@ -34,7 +34,7 @@ put_part-requires-in-Loop c =
 pub put_byte-requires : goal.put_byte-requires
 unfolding kind_of mark_of
 put_byte-requires c =
-    let e = told (λ k. ltb 0 (mark_of k)) true 4 (6 ∷ 8 ∷ 9 ∷ 11 ∷ 12 ∷ 13 ∷ []) refl c.args.kind (opened c.in_default.in_default-own.keys5) in
+    let e = told (λ k. ltb 0 (mark_of k)) true 4 (6 ∷ 8 ∷ 9 ∷ 11 ∷ 12 ∷ 13 ∷ []) refl c.args.kind c.in_default.in_default-own.keys5 in
     room_as _ _ (opening-mark c.args.kind e) c.requires
 
 pub returns-in-NoKind : goal.returns-in-NoKind
@@ -63,5 +63,5 @@ returns-in-Loop c =
 pub returns-in_default : goal.returns-in_default
 unfolding kind_of mark_of
 returns-in_default c =
-    let e = told (λ k. ltb 0 (mark_of k)) true 4 (6 ∷ 8 ∷ 9 ∷ 11 ∷ 12 ∷ 13 ∷ []) refl c.args.kind (opened c.in_default.in_default-own.keys5) in
+    let e = told (λ k. ltb 0 (mark_of k)) true 4 (6 ∷ 8 ∷ 9 ∷ 11 ∷ 12 ∷ 13 ∷ []) refl c.args.kind c.in_default.in_default-own.keys5 in
     wrote_as (ap (λ m. m ∷ []) c.mark_of.ensures ∙ sym (opening-mark c.args.kind e)) c.put_byte.ensures

@@ -1,4 +1,5 @@
 -- `stores::content_part`: a content found lies inside the area. Assumes nothing.
+use borrow.Enum.Refused.{opened}
 use Prim.Native.Nat.{◌+◌, ◌-◌}
 use mathlib.Core.Path.{◌≡◌, sym, ◌∙◌}
 use native.Mathlib.Omega.{arith}
@@ -7,7 +8,7 @@ use Rattle.stores.proofs.Looking.{content-inside, part-refused}
 use Rattle.stores.proofs.content_part.Goals as goal
 
 pub returns-in_default : goal.returns-in_default
-returns-in_default c = rw (← c.find_content-found.ensures) (sym (part-refused _ c.find_content-found.result c.in_default.in_default-own.keys2))
+returns-in_default c = rw (← c.find_content-found.ensures) (sym (part-refused _ c.find_content-found.result (opened c.in_default.in_default-own.keys2)))
 
 pub overflow_add-behind : goal.overflow_add-behind
 overflow_add-behind c =
