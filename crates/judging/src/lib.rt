@@ -63,8 +63,8 @@ fn decide_screened(s: &[u8]) -> Decision
 
 // The same of a text whose bytes are all ASCII and no control bytes: only long lines are left to look for.
 fn decide_plain(s: &[u8]) -> Decision
-    requires s_len_bound { length s.now ≤ limit }
-    requires s_len_bound_2 { length s.now ≤ span no_control s.now }
+    requires short { length s.now ≤ limit }
+    requires plain { length s.now ≤ span no_control s.now }
     ensures { told result ≡ tells (checked Strict s.now (decided Strict s.now)) }
 {
     let long = lines::short_end(s, 0);

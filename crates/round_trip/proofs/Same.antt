@@ -221,7 +221,8 @@ all_same g ar (more {es = es} {k = k} {f = f} {next = next} h z d) p o x = by (i
             subst (λ (x : List ℕ). told x (record { kind = number_of k; at = length (p ++ l); size = length w }) ≡ saying ar (Record k f next)) y here in
         subst (λ (m : ℕ). told (p ++ (l ++ (w ++ q))) (record { kind = number_of k; at = m; size = length w }) ≡ saying ar (Record k f next)) n there)
         (let y : p ++ (l ++ (w ++ q)) ≡ (p ++ (l ++ (w ++ 10 ∷ []))) ++ render (lines_for g ar es) = simp append_assoc in
-        rw y (r (p ++ (l ++ (w ++ 10 ∷ []))) (suc (o + length l + length w)) (simp length-append (omega arith))))
+        subst (λ (x : List ℕ). map (told x) (recs_at (suc (o + length l + length w)) (lines_for g ar es)) ≡ map (saying ar) es) (sym y)
+        (r (p ++ (l ++ (w ++ 10 ∷ []))) (suc (o + length l + length w)) (simp length-append (omega arith))))
 
 -- and the room that they take
 end-takes : (f : Fields) → takes LoopEnd f ≡ 0

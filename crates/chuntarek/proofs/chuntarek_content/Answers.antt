@@ -11,4 +11,4 @@ returns-in_default c =
 
 pub returns : goal.returns
 returns c =
-    c.Numbers-of.ensures ∙ (ap exported (c.report.ensures ∙ ap content_report c.find_content.ensures) ∙ (content-known _ _ _ _ _ c.of-named.ensures c.in-Known.is))
+    c.numbers_of.ensures ∙ (ap exported (c.report.ensures ∙ ap content_report c.find_content.ensures) ∙ (content-known _ _ _ _ _ c.of-named.ensures c.in-Known.is))

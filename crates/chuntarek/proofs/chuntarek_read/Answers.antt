@@ -5,19 +5,15 @@ use Rattle.answers.proofs.Readings.{read_known, read-unknown, store-known, store
 use Rattle.chuntarek.proofs.chuntarek_read.Goals as goal
 
 pub returns-in_default : goal.returns-in_default
-returns-in_default c = (
-  c.no_reading.ensures ∙ (read-unknown _ _ _ _ c.of-named.ensures c.in_default.is),
-  (
-    (store-unknown _ _ _ _ c.of-named.ensures c.in_default.is),
-    (area-unknown _ _ _ _ c.of-named.ensures c.in_default.is),
-  ),
-)
+returns-in_default c = record {
+  answers = c.no_reading.ensures ∙ (read-unknown _ _ _ _ c.of-named.ensures c.in_default.is);
+  stored = store-unknown _ _ _ _ c.of-named.ensures c.in_default.is;
+  copied = area-unknown _ _ _ _ c.of-named.ensures c.in_default.is;
+}
 
 pub returns : goal.returns
-returns c = (
-  c.Numbers-of.ensures ∙ (ap exported (c.report.ensures ∙ c.read.ensures.answers) ∙ (read_known _ _ _ _ _ c.of-named.ensures c.in-Known.is)),
-  (
-    c.read.ensures.stored.0 ∙ (store-known _ _ _ _ _ c.of-named.ensures c.in-Known.is),
-    c.read.ensures.stored.1 ∙ (area-known _ _ _ _ _ c.of-named.ensures c.in-Known.is),
-  ),
-)
+returns c = record {
+  answers = c.numbers_of.ensures ∙ (ap exported (c.report.ensures ∙ c.read.ensures.answers) ∙ (read_known _ _ _ _ _ c.of-named.ensures c.in-Known.is));
+  stored = c.read.ensures.stored ∙ (store-known _ _ _ _ _ c.of-named.ensures c.in-Known.is);
+  copied = c.read.ensures.copied ∙ (area-known _ _ _ _ _ c.of-named.ensures c.in-Known.is);
+}

@@ -5,13 +5,13 @@ use Rattle.answers.proofs.Readings.{render-known, render-unknown, rendered-known
 use Rattle.chuntarek.proofs.chuntarek_render.Goals as goal
 
 pub returns-in_default : goal.returns-in_default
-returns-in_default c = (
-  c.no_reading.ensures ∙ (render-unknown _ _ _ _ c.of-named.ensures c.in_default.is),
-  (rendered-unknown _ _ _ _ c.of-named.ensures c.in_default.is),
-)
+returns-in_default c = record {
+      answers = c.no_reading.ensures ∙ (render-unknown _ _ _ _ c.of-named.ensures c.in_default.is);
+      writes = (rendered-unknown _ _ _ _ c.of-named.ensures c.in_default.is);
+    }
 
 pub returns : goal.returns
-returns c = (
-  c.Numbers-of.ensures ∙ (ap exported (c.report.ensures ∙ c.render.ensures.0) ∙ (render-known _ _ _ _ _ c.of-named.ensures c.in-Known.is)),
-  c.render.ensures.1 ∙ (rendered-known _ _ _ _ _ c.of-named.ensures c.in-Known.is),
-)
+returns c = record {
+      answers = c.numbers_of.ensures ∙ (ap exported (c.report.ensures ∙ c.render.ensures.0) ∙ (render-known _ _ _ _ _ c.of-named.ensures c.in-Known.is));
+      writes = c.render.ensures.1 ∙ (rendered-known _ _ _ _ _ c.of-named.ensures c.in-Known.is);
+    }

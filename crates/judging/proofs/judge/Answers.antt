@@ -14,7 +14,10 @@ returns-then-s-gt-LIMIT c = rw (outline-long _ _ c.if-s-gt-LIMIT.true)
 pub decide_plain-requires : goal.decide_plain-requires
 decide_plain-requires c =
     let plain = rw c.plain_end.ensures at c.if-s-plain_end.true in
-    (unfold limit in c.if-s-gt-LIMIT.false, plain-none _ plain)
+    record {
+      short = unfold limit in c.if-s-gt-LIMIT.false;
+      plain = plain-none _ plain;
+    }
 
 pub returns-then-s-plain_end : goal.returns-then-s-plain_end
 unfolding limit

@@ -6,7 +6,10 @@ use Rattle.outlining.proofs.outline_fitting.Goals as goal
 pub returns-then-store-room : goal.returns-then-store-room
 returns-then-store-room c =
     let i = c.requires in
-    no-outline _ _ _ i.records i.answer _ (need-outline _ _ _ i) c.if-store-room.true
+    record {
+      result_value = (no-outline _ _ _ i.records i.answer _ (need-outline _ _ _ i) c.if-store-room.true).0;
+      store_after = (no-outline _ _ _ i.records i.answer _ (need-outline _ _ _ i) c.if-store-room.true).1;
+    }
 
 pub write_block-requires : goal.write_block-requires
 write_block-requires c =
@@ -17,4 +20,7 @@ pub returns : goal.returns
 returns c =
     let i = c.requires in
     let w = stored _ _ _ i _ _ c.write_block.ensures.store_after in
-    all-outlined _ _ _ i.records i.answer _ (need-outline _ _ _ i) _ c.if-store-room.false w
+    record {
+      result_value = (all-outlined _ _ _ i.records i.answer _ (need-outline _ _ _ i) _ c.if-store-room.false w).0;
+      store_after = (all-outlined _ _ _ i.records i.answer _ (need-outline _ _ _ i) _ c.if-store-room.false w).1;
+    }

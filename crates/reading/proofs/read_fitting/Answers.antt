@@ -6,12 +6,20 @@ use Rattle.reading.proofs.read_fitting.Goals as goal
 pub returns-then-store-room : goal.returns-then-store-room
 returns-then-store-room c =
     let i = c.requires in
-    no_store _ _ _ _ i.records i.answer _ _ (need-store _ _ _ i) (need-area _ _ _ i) c.if-store-room.true
+    record {
+      result_value = (no_store _ _ _ _ i.records i.answer _ _ (need-store _ _ _ i) (need-area _ _ _ i) c.if-store-room.true).0;
+      store_after = (no_store _ _ _ _ i.records i.answer _ _ (need-store _ _ _ i) (need-area _ _ _ i) c.if-store-room.true).1.0;
+      area_after = (no_store _ _ _ _ i.records i.answer _ _ (need-store _ _ _ i) (need-area _ _ _ i) c.if-store-room.true).1.1;
+    }
 
 pub returns-then-area-contents : goal.returns-then-area-contents
 returns-then-area-contents c =
     let i = c.requires in
-    no-area _ _ _ _ i.records i.answer _ _ (need-store _ _ _ i) (need-area _ _ _ i) c.if-store-room.false c.if-area-contents.true
+    record {
+      result_value = (no-area _ _ _ _ i.records i.answer _ _ (need-store _ _ _ i) (need-area _ _ _ i) c.if-store-room.false c.if-area-contents.true).0;
+      store_after = (no-area _ _ _ _ i.records i.answer _ _ (need-store _ _ _ i) (need-area _ _ _ i) c.if-store-room.false c.if-area-contents.true).1.0;
+      area_after = (no-area _ _ _ _ i.records i.answer _ _ (need-store _ _ _ i) (need-area _ _ _ i) c.if-store-room.false c.if-area-contents.true).1.1;
+    }
 
 pub write_block-requires : goal.write_block-requires
 write_block-requires c =
@@ -22,4 +30,8 @@ pub returns : goal.returns
 returns c =
     let i = c.requires in
     let w = c.write_block.ensures in
-    all_read _ _ _ _ i.records i.answer _ _ (need-store _ _ _ i) (need-area _ _ _ i) _ _ c.if-store-room.false c.if-area-contents.false (stored _ _ _ i _ _ w.0) (copied _ _ _ i _ _ w.1)
+    record {
+      result_value = (all_read _ _ _ _ i.records i.answer _ _ (need-store _ _ _ i) (need-area _ _ _ i) _ _ c.if-store-room.false c.if-area-contents.false (stored _ _ _ i _ _ w.store_after) (copied _ _ _ i _ _ w.area_after)).0;
+      store_after = (all_read _ _ _ _ i.records i.answer _ _ (need-store _ _ _ i) (need-area _ _ _ i) _ _ c.if-store-room.false c.if-area-contents.false (stored _ _ _ i _ _ w.store_after) (copied _ _ _ i _ _ w.area_after)).1.0;
+      area_after = (all_read _ _ _ _ i.records i.answer _ _ (need-store _ _ _ i) (need-area _ _ _ i) _ _ c.if-store-room.false c.if-area-contents.false (stored _ _ _ i _ _ w.store_after) (copied _ _ _ i _ _ w.area_after)).1.1;
+    }

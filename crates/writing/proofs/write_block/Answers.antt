@@ -50,4 +50,7 @@ returns c =
     let z = ap (λ x. x - h.place.offset) c.parse_identifier-end.ensures in
     let w = c.write_heading-headed.ensures in
     let x = c.write_items.ensures in
-    (block-stored r a.full s a.store.now a.area.now f h e _ z _ w _ x, block-copied r a.full s a.store.now a.area.now f h e _ z _ w _ x)
+    record {
+      store_after = block-stored r a.full s a.store.now a.area.now f h e _ z _ w _ x;
+      area_after = block-copied r a.full s a.store.now a.area.now f h e _ z _ w _ x;
+    }
