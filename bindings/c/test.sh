@@ -1,11 +1,11 @@
 #!/usr/bin/env bash
 # Builds the C programs against the library and runs them: calls.c as it is, outline.c on every file of examples/ that has an outline
 # beside it (those below strict/ in the strict reading), the README's example, and stack.c on all files of examples/ with a stack of 96 KiB.
-# CHUNTAREK_LIB_DIR names the folder of libchuntarek.a; without it that is target/staticlib, made if it is missing.
+# CHUNTAREK_LIB_DIR names the folder of libchuntarek.a; without it that is crates/chuntarek/out, made if it is missing.
 set -euo pipefail
 here=$(cd "$(dirname "$0")" && pwd)
 root=$(cd "$here/../.." && pwd)
-library=${CHUNTAREK_LIB_DIR:-$root/target/staticlib}/libchuntarek.a
+library=${CHUNTAREK_LIB_DIR:-$root/crates/chuntarek/out}/libchuntarek.a
 work=$(mktemp -d)
 trap 'rm -rf "$work"' EXIT
 . "$root/.ci/machine"
@@ -14,7 +14,7 @@ fail() { echo "bindings/c/test.sh: $*" >&2; exit 1; }
 
 has_tools || fail "$missing"
 if [ ! -f "$library" ] && [ -z "${CHUNTAREK_LIB_DIR:-}" ]; then
-    (cd "$root" && rt staticlib chuntarek) >&2 || fail "rt staticlib chuntarek failed"
+    (cd "$root/crates/chuntarek" && rt lib) >&2 || fail "rt lib failed in crates/chuntarek"
 fi
 [ -f "$library" ] || fail "no library at $library"
 

@@ -1,5 +1,5 @@
 //! Finds the archive libchuntarek.a and tells the linker: in the folder that CHUNTAREK_LIB_DIR names, or in the repository's
-//! target/staticlib, where it is made by `rt staticlib chuntarek` if it is missing.
+//! crates/chuntarek/out, where it is made by `rt lib` if it is missing.
 
 use std::env;
 use std::path::{Path, PathBuf};
@@ -54,36 +54,30 @@ fn repository_folder() -> Result<PathBuf, String> {
             "no repository above this crate: set CHUNTAREK_LIB_DIR to the folder of {ARCHIVE}"
         ));
     };
-    let folder = root.join("target/staticlib");
+    let own = root.join("crates/chuntarek");
+    let folder = own.join("out");
     if !folder.join(ARCHIVE).is_file() {
-        make(root)?;
+        make(&own, &folder)?;
     }
     if folder.join(ARCHIVE).is_file() {
         Ok(folder)
     } else {
         Err(format!(
-            "`rt staticlib chuntarek` ran and left no {ARCHIVE} in {}",
+            "`rt lib` ran and left no {ARCHIVE} in {}",
             folder.display()
         ))
     }
 }
 
 /// Proves the library and writes the archive. What `rt` says is shown by cargo if it fails.
-fn make(root: &Path) -> Result<(), String> {
-    match Command::new("rt")
-        .args(["staticlib", "chuntarek"])
-        .current_dir(root)
-        .status()
-    {
+fn make(own: &Path, folder: &Path) -> Result<(), String> {
+    match Command::new("rt").arg("lib").current_dir(own).status() {
         Ok(status) if status.success() => Ok(()),
-        Ok(status) => Err(format!(
-            "`rt staticlib chuntarek` failed in {} ({status})",
-            root.display()
-        )),
+        Ok(status) => Err(format!("`rt lib` failed in {} ({status})", own.display())),
         Err(error) => Err(format!(
             "no {ARCHIVE} in {}, and `rt`, which makes it, cannot be run ({error}): \
              put rt on the path, or set CHUNTAREK_LIB_DIR to the folder of the archive",
-            root.join("target/staticlib").display()
+            folder.display()
         )),
     }
 }

@@ -1,11 +1,11 @@
 #!/usr/bin/env bash
 # Runs the outline program on texts beside its stdin and holds what it prints to what document 01 says of them, worked out by hand:
 # refusals, line ends, the longest text and one byte more, the full store and one record more; then on every file of examples/
-# that has an outline beside it. cases.sh PROGRAM; without it that is target/bin/outline.
+# that has an outline beside it. cases.sh PROGRAM; without it that is out/outline beside it, as `rt run` or `rt ci` left it.
 set -euo pipefail
 here=$(cd "$(dirname "$0")" && pwd)
 root=$(cd "$here/../.." && pwd)
-program=$(readlink -f "${1:-$root/target/bin/outline}")
+program=$(readlink -f "${1:-$here/out/outline}")
 work=$(mktemp -d)
 trap 'rm -rf "$work"' EXIT
 count=0

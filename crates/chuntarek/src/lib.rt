@@ -43,7 +43,7 @@ pub extern "C" fn chuntarek_outline(reading: u64, text: &[u8], store: &mut [u8])
     exports::numbers_of(outlining::outline(known, text, store).report())
 }
 
-// Renders a store with its area. What it writes is read back to the same (read-back).
+// Renders a store with its area. What it writes is read back to the same (read_back).
 #[unsafe(no_mangle)]
 pub extern "C" fn chuntarek_render(
     reading: u64,

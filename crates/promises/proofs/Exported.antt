@@ -6,7 +6,7 @@
 -- what chuntarek_read writes is sound by the reading that the call names (read-gives-sound), and chuntarek_render answers to it by the rendering's length alone: done, 1
 -- or 11, never 12 (read-is-rendered);
 -- by either reading chuntarek_render of a sound store, and chuntarek_read of that text, are done, and what is read back has the lengths of the store and
--- its area and says the same (read-back);
+-- its area and says the same (read_back);
 -- to a plain text (crates/alike) chuntarek_read and chuntarek_outline answer by the one reading as by the other, and leave the
 -- same bytes in store and area (plain-read-alike); so they do to a text of the class that asks nothing of bytes
 -- (unquoted-read-alike).
