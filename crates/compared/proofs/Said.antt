@@ -118,6 +118,7 @@ value_same : (ar ar' : List ℕ) (e e' : Entry) → IsRecord e → saying ar e �
 value_same ar ar' (Record k f n) e' whole q =
     let a = alike ar ar' k f n e' q in
     ap (case_of ar ar' (Record k f n)) a.is ∙ case_twin ar ar' k f a.fields n a.end a.parts (λ t. shown ar ar' k f a.fields (text-shape k t) a.content)
+value_same ar ar' Nothing e' x'' q = elim x'' [ ]
 
 -- names
 data HasContent : Entry → Type 0 where
@@ -128,6 +129,7 @@ unfolding held_by
 name-same ar ar' (Record k f n) e' (has t) q =
     let a = alike ar ar' k f n e' q in
     shown ar ar' k f a.fields t a.content ∙ sym (ap (held_by ar') a.is)
+name-same ar ar' Nothing e' x'' q = elim x'' [ ]
 
 pub name-shape : (k : Kind) → (eqb (number_of k) 4 || eqb (number_of k) 6) ≡ true → is_content (shape_of k) ≡ true
 unfolding is_content shape_of
@@ -199,6 +201,8 @@ in-names (Record k f n ∷ es) ar i b s x m = by (eqb (number_of k) 4 || eqb (nu
     by true q (here e) again = at_once k f n es i x (ap (λ (z : Name). z.number) e) (name-shape k q)
     by true q (there p) again = later (Record k f n) es i x (again p)
     by false q p again = later (Record k f n) es i x (again p)
+in-names [] ar i b s x m = elim m [ ]
+in-names (Nothing ∷ es) ar i b s x m = elim m [ ]
 
 in-frames : (es : List Entry) (ar : List ℕ) (i : ℕ) (x : Name) → In x (frames_from es ar i) → Lies es i x
 unfolding frames_from
@@ -211,6 +215,8 @@ in-frames (Record k f n ∷ es) ar i x m = by (eqb (number_of k) 2) refl m (λ q
     by true q (here e) again = at_once k f n es i x (ap (λ (z : Name). z.number) e) (frame-shape k q)
     by true q (there p) again = later (Record k f n) es i x (again p)
     by false q p again = later (Record k f n) es i x (again p)
+in-frames [] ar i x m = elim m [ ]
+in-frames (Nothing ∷ es) ar i x m = elim m [ ]
 
 whole-store : (es : List Entry) (x : Name) → Lies es 0 x → HasContent (nth es x.number)
 whole-store es x l =

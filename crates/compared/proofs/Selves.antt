@@ -78,6 +78,8 @@ stands-in (Record k f n ∷ es) i u x m = by (is_value_kind (number_of k)) m (λ
         record { from = omega arith; whole = rw z whole }
     by true (there q) again = later (again q)
     by false q again = later (again q)
+stands-in [] i u x m = elim m [ ]
+stands-in (Nothing ∷ es) i u x m = elim m [ ]
 
 pub value-record : (st : List ℕ) (x : Cell) → In x (cells st) → IsRecord (nth (entries st) x.number)
 unfolding cells
@@ -88,6 +90,7 @@ value-record st x m =
 
 case-record : (ar : List ℕ) (e : Entry) → IsRecord e → case_of ar ar e e ≡ 0
 case-record ar (Record k f n) whole = case-self ar k f n
+case-record ar Nothing x' = elim x' [ ]
 
 -- a value meets itself
 frame_self : (st ar : List ℕ) (n : ℕ) → same_frame st ar st ar n n ≡ true
@@ -111,6 +114,7 @@ partner-in st ar x (y ∷ ys) m only = by (meets st ar st ar x y) refl m (λ q. 
     by true e q again = ap some (sym (only y (here refl) e))
     by false e (here q) again = absurd (true≢false (sym (meets-self st ar x) ∙ ap (meets st ar st ar x) (sym q) ∙ e))
     by false e (there q) again = again q
+partner-in st ar x [] m only = elim m [ ]
 
 pub partner-self : (st ar : List ℕ) → Sole st ar → (x : Cell) → In x (cells st) → partner st ar st ar x ≡ some x
 unfolding partner Sole

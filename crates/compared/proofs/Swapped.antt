@@ -62,11 +62,13 @@ module _ (old : Bool) (st ar st' ar' : List ℕ) (c : Change) where
       by (right q) again =
           let f = again q in
           record { value = f.value; among = there f.among; entry = f.entry }
+  from_all [] m = elim m [ ]
 
   to-all : (xs : List Cell) (x : Cell) → In x xs → In c (of_side old st ar st' ar' x) → In c (of_all old st ar st' ar' xs)
   unfolding of_all
   to-all (z ∷ xs) x (here e) m = in_left (of_all old st ar st' ar' xs) (subst (λ (v : Cell). In c (of_side old st ar st' ar' v)) (sym e) m)
   to-all (z ∷ xs) x (there q) m = in_right (of_side old st ar st' ar' z) (to-all xs x q m)
+  to-all [] x x4 m = elim x4 [ ]
 
 -- the one entry of a case
 record One (n i j : ℕ) (c : Change) : Type 0 where
@@ -82,6 +84,8 @@ one_of n i j c m = by (eqb n 0) refl m
 
     by : (t : Bool) → eqb n 0 ≡ t → In c (cond t [] (it ∷ [])) → One n i j c
     by false q (here e) = record { some = eqb-false n 0 q; is = e }
+    by false q (there x5) = elim x5 [ ]
+    by true q x3 = elim x3 [ ]
 
 one-to : (n i j : ℕ) (c : Change) → One n i j c → In c (change n i j)
 unfolding change

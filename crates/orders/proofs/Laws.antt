@@ -8,7 +8,6 @@ use native.Mathlib.Nat.{pow-le-pow_right, one-le-pow, pow-succ', mul_assoc, mul-
 use borrow.Author.Tests.{lt-ltb, le-ltb, ltb-true, ltb-false}
 use lib.Dec.{eqb, ltb}
 use lib.Pow.{pow-add}
-use Rattle.orders.specs.declared.Order.{Order}
 use Rattle.orders.specs.declared.Order.TheVariants.{Less, Same, More}
 use Rattle.orders.specs.declared.Size.{Size}
 use Rattle.orders.specs.Order.{order_of, flipped}

@@ -1,6 +1,6 @@
 -- What a test's answer says of its parts. Assumes nothing.
 use mathlib.Core.Path.{◌≡◌, refl, sym}
-use mathlib.Core.Bool.{Bool, true, false, cond, not, ◌&&◌, ◌||◌, true≢false}
+use mathlib.Core.Bool.{Bool, true, false, not, ◌&&◌, ◌||◌, true≢false}
 
 pub or_l : (a b : Bool) → (a || b) ≡ false → a ≡ false
 or_l true b e = e

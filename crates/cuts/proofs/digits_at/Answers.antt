@@ -1,5 +1,4 @@
 -- `numbers::digits_at`: the number so far is the one that the digits so far write, and the loop goes on over digits. Assumes nothing.
-use Prim.Native.Nat.{◌-◌}
 use mathlib.Core.Path.{refl, sym, ◌∙◌}
 use native.Mathlib.Omega.{arith}
 use Rattle.text.specs.Bytes.{is_digit}

@@ -1,8 +1,6 @@
 -- `numbers::digits_end`: the loop goes on over digits. Assumes nothing.
-use Prim.Native.Nat.{◌-◌}
 use mathlib.Core.Path.{refl, sym, ◌∙◌}
 use native.Mathlib.Omega.{arith}
-use Rattle.text.specs.Bytes.{is_digit}
 use Rattle.text.proofs.Runs.{span-go, span-stop, span-over}
 use Rattle.cuts.specs.Digits.{digits_end}
 use Rattle.cuts.proofs.digits_end.Goals as goal

@@ -1,5 +1,4 @@
 -- `numbers::digits_value`: the number so far is the one that the digits so far write, so it stays below 10 to the power of their count. Assumes nothing.
-use Prim.Native.Nat.{◌-◌}
 use mathlib.Core.Path.{◌≡◌, sym}
 use native.Mathlib.Omega.{arith}
 use Rattle.cuts.specs.Digits.{Run}

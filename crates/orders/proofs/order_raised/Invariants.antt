@@ -1,5 +1,5 @@
 -- `orders::order_raised`: the pair so far times the power left is the pair that was given times its power. Assumes nothing.
-use Prim.Native.Nat.{◌-◌, ◌*◌, ◌^◌, ◌<◌}
+use Prim.Native.Nat.{◌*◌, ◌^◌, ◌<◌}
 use mathlib.Core.Path.{◌≡◌}
 use Rattle.orders.specs.Sizes.{pair_of}
 use Rattle.orders.proofs.order_raised.Given as goal

@@ -1,5 +1,4 @@
 -- `text::is_ascii_block`: whether a byte of 128 or more was met among the first i. Assumes nothing.
-use Prim.Native.Nat.{◌-◌}
 use mathlib.Core.Path.{◌≡◌, sym}
 use native.Mathlib.Omega.{arith}
 use Rattle.text.specs.Bytes.{is_ascii}

@@ -1,5 +1,4 @@
 -- `text::is_clear`: whether the mark or a byte below the least was met among the first i. Assumes nothing.
-use Prim.Native.Nat.{◌-◌}
 use mathlib.Core.Path.{◌≡◌, sym}
 use native.Mathlib.Omega.{arith}
 use Rattle.text.proofs.Bools.{not-not}

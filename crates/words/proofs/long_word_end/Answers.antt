@@ -1,9 +1,7 @@
 -- `words::long_word_end`: by blocks, then byte by byte. Assumes nothing.
-use Prim.Native.Nat.{◌-◌}
 use mathlib.Core.Path.{sym, ◌∙◌}
 use native.Mathlib.Omega.{arith}
 use Rattle.text.proofs.Runs.{span-go, span-stop, span-over, runs-fits}
-use Rattle.words.specs.Words.{in_word}
 use Rattle.words.proofs.Words.{word-run, word-block}
 use Rattle.words.proofs.long_word_end.Goals as goal
 

@@ -1,9 +1,7 @@
 -- `words::parse_identifier`: the run of a word's bytes. Assumes nothing.
-use Prim.Native.Nat.{◌-◌}
 use mathlib.Core.Path.{sym, ◌∙◌}
 use native.Mathlib.Omega.{arith}
 use Rattle.text.proofs.Runs.{span-go, span-stop, span-over}
-use Rattle.words.specs.Words.{in_word}
 use Rattle.words.proofs.Words.{word-run}
 use Rattle.words.proofs.parse_identifier.Goals as goal
 
