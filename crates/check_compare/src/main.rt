@@ -20,7 +20,7 @@ use std::io::Write;
 pub const ROOM: usize = 4096;
 
 // How much of them there is.
-#[derive(Drop)]
+#[derive(Clone, Copy)]
 struct Lengths {
     old: usize,
     old_area: usize,
@@ -29,7 +29,7 @@ struct Lengths {
 }
 
 // How much of a store and of its area Read has made.
-#[derive(Drop)]
+#[derive(Clone, Copy)]
 struct Made {
     store: usize,
     area: usize,

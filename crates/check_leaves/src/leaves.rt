@@ -104,7 +104,7 @@ pub fn value<W: Write>(out: &mut W, reading: Reading, s: &[u8], at: usize) -> io
 }
 
 // A number written in a text, and where the next may stand.
-#[derive(Drop)]
+#[derive(Clone, Copy)]
 struct Written {
     number: u32,
     next: usize,

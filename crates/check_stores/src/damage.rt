@@ -9,7 +9,7 @@ use std::io;
 use std::io::Write;
 
 // What came of a number of stores.
-#[derive(Drop)]
+#[derive(Clone, Copy)]
 struct Tally {
     sound: u32,
     not_sound: u32,

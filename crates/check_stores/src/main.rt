@@ -23,7 +23,7 @@ use std::io::Write;
 pub const ROOM: usize = 4096;
 
 // How much of them there is.
-#[derive(Drop)]
+#[derive(Clone, Copy)]
 struct Lengths {
     store: usize,
     area: usize,
