@@ -6,6 +6,9 @@ use Rattle.check_leaves.proofs.leaves.field.Goals as goal
 pub slice_bounds-integer_of-start : goal.slice_bounds-integer_of-start
 slice_bounds-integer_of-start c = rw c.parse_identifier-end.ensures (word-from _ _)
 
+pub slice_bounds-integer_of-count : goal.slice_bounds-integer_of-count
+slice_bounds-integer_of-count c = rw c.parse_identifier-end.ensures (word-from _ _)
+
 pub slice_bounds-integer_of-end : goal.slice_bounds-integer_of-end
 slice_bounds-integer_of-end c =
     rw c.parse_identifier-end.ensures
