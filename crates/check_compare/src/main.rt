@@ -127,10 +127,10 @@ fn ask<W: Write>(
     let asked = vectors::number(s, 0);
     let room = asked.number;
     match letter {
-        b'c' => lists::compared(out, reading, old, old_area, new, new_area, room),
-        b'b' => lists::compared(out, reading, new, new_area, old, old_area, room),
-        b's' => lists::compared(out, reading, old, old_area, old, old_area, room),
-        _ => Ok(()),
+        b'c' => lists::compared(out, reading, old, old_area, new, new_area, room)?,
+        b'b' => lists::compared(out, reading, new, new_area, old, old_area, room)?,
+        b's' => lists::compared(out, reading, old, old_area, old, old_area, room)?,
+        _ => (),
     }
     say::byte(out, b'\n')
 }
