@@ -5,6 +5,8 @@ use harness::parts::{is_all, least};
 use harness::say;
 use places::Report;
 use rules::Reading;
+use std::io;
+use std::io::Write;
 
 // The bytes of the list's buffer: 30 entries and two bytes.
 const LIST: usize = 512;
@@ -50,49 +52,52 @@ fn wide(b: u8) -> u64
 }
 
 // A record number of eight bytes, of which the upper six are 0 in stores as small as these.
-fn record(s: &[u8], at: usize)
+fn record<W: Write>(out: &mut W, s: &[u8], at: usize) -> io::Result<()>
     requires { at + 8 ≤ length s.now }
 {
-    say::number(low(s, at));
+    say::number(out, low(s, at))?;
     let from = at + 2;
     let end = at + 8;
     if !is_all(&s[from..end], 0, 0) {
-        say::bytes(b" TOO LARGE");
+        say::bytes(out, b" TOO LARGE")?;
     }
+    Ok(())
 }
 
 // The entries among so many bytes of a list.
-fn each_entry(list: &[u8], length: usize) {
+fn each_entry<W: Write>(out: &mut W, list: &[u8], length: usize) -> io::Result<()> {
     let end = least(length, list.len());
     let mut at = 0;
     while ENTRY <= end - at {
-        say::bytes(b",");
-        say::number(wide(list[at]));
-        record(list, at + 1);
-        record(list, at + 9);
+        say::bytes(out, b",")?;
+        say::number(out, wide(list[at]))?;
+        record(out, list, at + 1)?;
+        record(out, list, at + 9)?;
         at += ENTRY;
     }
     if at < end {
-        say::bytes(b", NO WHOLE ENTRIES");
+        say::bytes(out, b", NO WHOLE ENTRIES")?;
     }
+    Ok(())
 }
 
 // Compare with so much room: the answer, whether all bytes that are not counted kept their values, and the entries.
-pub fn compared(
+pub fn compared<W: Write>(
+    out: &mut W,
     reading: Reading,
     old: &[u8],
     old_area: &[u8],
     new: &[u8],
     new_area: &[u8],
     room: usize,
-) {
+) -> io::Result<()> {
     let mut list = [BEFORE; LIST];
     let answer = compare(reading, old, old_area, new, new_area, &mut list, room);
     let length = counted(answer);
-    say::arrow();
-    say::report(answer);
+    say::arrow(out)?;
+    say::report(out, answer)?;
     if !is_all(&list, length, BEFORE) {
-        say::bytes(b", THE REST CHANGED");
+        say::bytes(out, b", THE REST CHANGED")?;
     }
-    each_entry(&list, length);
+    each_entry(out, &list, length)
 }

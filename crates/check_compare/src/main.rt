@@ -11,15 +11,16 @@
 mod lists;
 
 use harness::parts::part;
-use harness::{lines as vectors, say};
-use libc::STDIN_FILENO;
+use harness::{input, lines as vectors, say};
 use rules::{Named, Reading};
+use std::io;
+use std::io::Write;
 
 // The bytes of each store's and of each area's buffer.
 pub const ROOM: usize = 4096;
 
 // How much of them there is.
-#[derive(Drop)]
+#[derive(Clone, Copy)]
 struct Lengths {
     old: usize,
     old_area: usize,
@@ -28,26 +29,32 @@ struct Lengths {
 }
 
 // How much of a store and of its area Read has made.
-#[derive(Drop)]
+#[derive(Clone, Copy)]
 struct Made {
     store: usize,
     area: usize,
 }
 
 // What Read makes of a text; an empty store where it is refused.
-fn read(reading: Reading, s: &[u8], store: &mut [u8; ROOM], area: &mut [u8; ROOM]) -> Made {
+fn read<W: Write>(
+    out: &mut W,
+    reading: Reading,
+    s: &[u8],
+    store: &mut [u8; ROOM],
+    area: &mut [u8; ROOM],
+) -> io::Result<Made> {
     let mut buffer = [0u8; ROOM];
     let end = vectors::unfold(s, &mut buffer, 0);
     let read = reading::read(reading, part(&buffer, 0, end), store, area).report();
-    say::arrow();
-    say::size(read.number);
+    say::arrow(out)?;
+    say::size(out, read.number)?;
     if read.number != 0 {
-        return Made { store: 0, area: 0 };
+        return Ok(Made { store: 0, area: 0 });
     }
-    Made {
+    Ok(Made {
         store: read.first,
         area: read.second,
-    }
+    })
 }
 
 // The reading that a number names, or else the one before.
@@ -72,7 +79,8 @@ fn reading_behind(s: &[u8], before: Reading) -> Reading {
 }
 
 // The line of a store that is the old one, or the new one; any other leaves what there is.
-fn build(
+fn build<W: Write>(
+    out: &mut W,
     letter: u8,
     reading: Reading,
     s: &[u8],
@@ -81,32 +89,33 @@ fn build(
     new: &mut [u8; ROOM],
     new_area: &mut [u8; ROOM],
     have: Lengths,
-) -> Lengths {
+) -> io::Result<Lengths> {
     match letter {
         b'o' => {
-            let made = read(reading, s, old, old_area);
-            Lengths {
+            let made = read(out, reading, s, old, old_area)?;
+            Ok(Lengths {
                 old: made.store,
                 old_area: made.area,
                 new: have.new,
                 new_area: have.new_area,
-            }
+            })
         }
         b'n' => {
-            let made = read(reading, s, new, new_area);
-            Lengths {
+            let made = read(out, reading, s, new, new_area)?;
+            Ok(Lengths {
                 old: have.old,
                 old_area: have.old_area,
                 new: made.store,
                 new_area: made.area,
-            }
+            })
         }
-        _ => have,
+        _ => Ok(have),
     }
 }
 
 // What a line asks for.
-fn ask(
+fn ask<W: Write>(
+    out: &mut W,
     letter: u8,
     reading: Reading,
     s: &[u8],
@@ -114,19 +123,20 @@ fn ask(
     old_area: &[u8],
     new: &[u8],
     new_area: &[u8],
-) {
+) -> io::Result<()> {
     let asked = vectors::number(s, 0);
     let room = asked.number;
     match letter {
-        b'c' => lists::compared(reading, old, old_area, new, new_area, room),
-        b'b' => lists::compared(reading, new, new_area, old, old_area, room),
-        b's' => lists::compared(reading, old, old_area, old, old_area, room),
+        b'c' => lists::compared(out, reading, old, old_area, new, new_area, room)?,
+        b'b' => lists::compared(out, reading, new, new_area, old, old_area, room)?,
+        b's' => lists::compared(out, reading, old, old_area, old, old_area, room)?,
         _ => (),
     }
-    say::byte(b'\n');
+    say::byte(out, b'\n')
 }
 
-fn run_vector(
+fn run_vector<W: Write>(
+    out: &mut W,
     letter: u8,
     reading: Reading,
     s: &[u8],
@@ -135,9 +145,10 @@ fn run_vector(
     new: &mut [u8; ROOM],
     new_area: &mut [u8; ROOM],
     have: Lengths,
-) -> Lengths {
-    let then = build(letter, reading, s, old, old_area, new, new_area, have);
+) -> io::Result<Lengths> {
+    let then = build(out, letter, reading, s, old, old_area, new, new_area, have)?;
     ask(
+        out,
         letter,
         reading,
         s,
@@ -145,11 +156,12 @@ fn run_vector(
         part(old_area, 0, then.old_area),
         part(new, 0, then.new),
         part(new_area, 0, then.new_area),
-    );
-    then
+    )?;
+    Ok(then)
 }
 
-fn run_line(
+fn run_line<W: Write>(
+    out: &mut W,
     reading: Reading,
     s: &[u8],
     old: &mut [u8; ROOM],
@@ -157,14 +169,15 @@ fn run_line(
     new: &mut [u8; ROOM],
     new_area: &mut [u8; ROOM],
     have: Lengths,
-) -> Lengths {
-    say::bytes(s);
+) -> io::Result<Lengths> {
+    say::bytes(out, s)?;
     let from = vectors::text_start(s);
     if from == 0 {
-        say::byte(b'\n');
-        return have;
+        say::byte(out, b'\n')?;
+        return Ok(have);
     }
     run_vector(
+        out,
         s[0],
         reading,
         &s[from..],
@@ -176,7 +189,7 @@ fn run_line(
     )
 }
 
-fn run(s: &[u8]) {
+fn run<W: Write>(out: &mut W, s: &[u8]) -> io::Result<()> {
     let mut old = [0u8; ROOM];
     let mut old_area = [0u8; ROOM];
     let mut new = [0u8; ROOM];
@@ -194,6 +207,7 @@ fn run(s: &[u8]) {
         let line = &s[at..end];
         reading = reading_behind(line, reading);
         have = run_line(
+            out,
             reading,
             line,
             &mut old,
@@ -201,13 +215,14 @@ fn run(s: &[u8]) {
             &mut new,
             &mut new_area,
             have,
-        );
+        )?;
         at = end + 1;
     }
+    Ok(())
 }
 
-fn main() {
-    let mut input = io::large_buffer();
-    let n = io::read_full(STDIN_FILENO, &mut input);
-    run(&input[..n]);
+fn main(rt: HostRuntime) -> io::Result<()> {
+    let mut input = input::large_buffer();
+    let n = input::read_full(&mut rt.stdin(), &mut input)?;
+    run(&mut rt.stdout(), &input[..n])
 }

@@ -10,99 +10,101 @@ use places::Place;
 use quotes::Closing;
 use records::Token;
 use rules::Reading;
+use std::io;
+use std::io::Write;
 use values::Value;
 
 // Of the first byte: is it a digit, of a line end, space, the end of a word, ordinary.
-pub fn classes(s: &[u8]) {
+pub fn classes<W: Write>(out: &mut W, s: &[u8]) -> io::Result<()> {
     if s.len() == 0 {
-        return;
+        return Ok(());
     }
     let b = s[0];
-    say::flag(text::is_digit(b));
-    say::flag(text::is_eol(b));
-    say::flag(text::is_space(b));
-    say::flag(text::ends_word(b));
-    say::flag(words::is_ordinary(b));
+    say::flag(out, text::is_digit(b))?;
+    say::flag(out, text::is_eol(b))?;
+    say::flag(out, text::is_space(b))?;
+    say::flag(out, text::ends_word(b))?;
+    say::flag(out, words::is_ordinary(b))
 }
 
-pub fn place(p: Place) {
-    say::size(p.offset);
-    say::size(p.line);
-    say::size(p.column);
+pub fn place<W: Write>(out: &mut W, p: Place) -> io::Result<()> {
+    say::size(out, p.offset)?;
+    say::size(out, p.line)?;
+    say::size(out, p.column)
 }
 
 // The place behind the space and comments that a text starts with.
-pub fn moved(s: &[u8]) {
+pub fn moved<W: Write>(out: &mut W, s: &[u8]) -> io::Result<()> {
     let start = Place {
         offset: 0,
         line: 1,
         column: 1,
     };
-    place(gaps::trim_comments_and_whitespace(s, start));
+    place(out, gaps::trim_comments_and_whitespace(s, start))
 }
 
-pub fn closing(c: Closing) {
+pub fn closing<W: Write>(out: &mut W, c: Closing) -> io::Result<()> {
     match c {
-        Closing::Behind(end) => say::size(end),
-        Closing::Nothing => say::bytes(b" nothing"),
+        Closing::Behind(end) => say::size(out, end),
+        Closing::Nothing => say::bytes(out, b" nothing"),
     }
 }
 
 // Sign, integer, fraction, fraction digits, exponent, uncertainty.
-fn decimal(d: Decimal) {
-    say::flag(d.minus);
-    say::number(d.integer as u64);
-    say::number(d.fraction);
-    say::size(d.places);
-    say::flag(d.lowers);
-    say::number(d.exponent as u64);
-    say::flag(d.uncertain);
-    say::number(d.uncertainty as u64);
+fn decimal<W: Write>(out: &mut W, d: Decimal) -> io::Result<()> {
+    say::flag(out, d.minus)?;
+    say::number(out, d.integer as u64)?;
+    say::number(out, d.fraction)?;
+    say::size(out, d.places)?;
+    say::flag(out, d.lowers)?;
+    say::number(out, d.exponent as u64)?;
+    say::flag(out, d.uncertain)?;
+    say::number(out, d.uncertainty as u64)
 }
 
-pub fn number(reading: Reading, w: &[u8]) {
+pub fn number<W: Write>(out: &mut W, reading: Reading, w: &[u8]) -> io::Result<()> {
     let n = numbers::parse_numeric(reading, w);
     match n {
-        Number::Not => say::bytes(b" no number"),
-        Number::Over => say::bytes(b" over"),
-        Number::Is(d) => decimal(d),
+        Number::Not => say::bytes(out, b" no number"),
+        Number::Over => say::bytes(out, b" over"),
+        Number::Is(d) => decimal(out, d),
     }
 }
 
-fn reason(w: Why) {
+fn reason<W: Write>(out: &mut W, w: Why) -> io::Result<()> {
     match w {
-        Why::AtEnd => say::bytes(b" none: end"),
-        Why::Reserved => say::bytes(b" none: reserved"),
-        Why::NoStart => say::bytes(b" none: no start"),
-        Why::OpenQuote => say::bytes(b" none: open quote"),
-        Why::OpenField => say::bytes(b" none: open field"),
-        Why::Joined => say::bytes(b" none: joined"),
+        Why::AtEnd => say::bytes(out, b" none: end"),
+        Why::Reserved => say::bytes(out, b" none: reserved"),
+        Why::NoStart => say::bytes(out, b" none: no start"),
+        Why::OpenQuote => say::bytes(out, b" none: open quote"),
+        Why::OpenField => say::bytes(out, b" none: open field"),
+        Why::Joined => say::bytes(out, b" none: joined"),
     }
 }
 
 // The value at an offset of a text. Lengths of values take four bytes.
-pub fn value(reading: Reading, s: &[u8], at: usize) {
+pub fn value<W: Write>(out: &mut W, reading: Reading, s: &[u8], at: usize) -> io::Result<()> {
     if 4294967295 < s.len() {
-        return;
+        return Ok(());
     }
     let v = values::parse_value(reading, s, at);
     match v {
         Value::Token { kind, size } => {
-            say::number(kind as u64);
-            say::size(size);
+            say::number(out, kind as u64)?;
+            say::size(out, size)
         }
         Value::Number { decimal: d, size } => {
-            say::bytes(b" number");
-            say::size(size);
-            decimal(d);
+            say::bytes(out, b" number")?;
+            say::size(out, size)?;
+            decimal(out, d)
         }
-        Value::Over => say::bytes(b" over"),
-        Value::Missing { why } => reason(why),
+        Value::Over => say::bytes(out, b" over"),
+        Value::Missing { why } => reason(out, why),
     }
 }
 
 // A number written in a text, and where the next may stand.
-#[derive(Drop)]
+#[derive(Clone, Copy)]
 struct Written {
     number: u32,
     next: usize,
@@ -136,17 +138,17 @@ fn kind_of(number: u32) -> u8 {
 }
 
 // Of a kind's number: the bytes of its body, of its body in the outline, its marks, and those that stand before the content.
-pub fn kind(s: &[u8]) {
+pub fn kind<W: Write>(out: &mut W, s: &[u8]) -> io::Result<()> {
     let number = kind_of(integer_of(s));
     let k = Kind::of(number);
-    say::size(kinds::Kind::body_length(number));
-    say::size(kinds::Kind::outline_length(number));
-    say::size(k.marks());
-    say::size(k.opening());
+    say::size(out, kinds::Kind::body_length(number))?;
+    say::size(out, kinds::Kind::outline_length(number))?;
+    say::size(out, k.marks())?;
+    say::size(out, k.opening())
 }
 
 // A record into a store of 22 bytes, one more than it takes at most: kind, offset, length, line, column, and the area offset or the number of tags.
-pub fn record(s: &[u8]) {
+pub fn record<W: Write>(out: &mut W, s: &[u8]) -> io::Result<()> {
     let kind = field(s, 0);
     let offset = field(s, kind.next);
     let length = field(s, offset.next);
@@ -161,7 +163,7 @@ pub fn record(s: &[u8]) {
     };
     let mut store = [255u8; 22];
     write(&mut store, kind_of(kind.number), token, last.number);
-    say::each_byte(&store);
+    say::each_byte(out, &store)
 }
 
 fn write(rest: &mut [u8], kind: u8, token: Token, last: u32)
@@ -178,10 +180,10 @@ fn write(rest: &mut [u8], kind: u8, token: Token, last: u32)
 }
 
 // A number's record into a store of 40 bytes, one more than it takes at most.
-pub fn number_record(w: &[u8]) {
+pub fn number_record<W: Write>(out: &mut W, w: &[u8]) -> io::Result<()> {
     let n = numbers::parse_numeric(Reading::First, w);
     let Number::Is(d) = n else {
-        return;
+        return Ok(());
     };
     let token = Token {
         offset: 7,
@@ -192,37 +194,36 @@ pub fn number_record(w: &[u8]) {
     let mut store = [255u8; 40];
     if d.uncertain {
         records::write_uncertain(&mut store, token, d);
-        say::each_byte(&store);
-        return;
+        return say::each_byte(out, &store);
     }
     records::write_number(&mut store, token, d);
-    say::each_byte(&store);
+    say::each_byte(out, &store)
 }
 
-fn parts(p: Parts) {
-    say::number(p.sign as u64);
-    say::number(p.integer as u64);
-    say::number(p.fraction);
-    say::number(p.places as u64);
-    say::number(p.exponent as u64);
-    say::number(p.uncertainty as u64);
+fn parts<W: Write>(out: &mut W, p: Parts) -> io::Result<()> {
+    say::number(out, p.sign as u64)?;
+    say::number(out, p.integer as u64)?;
+    say::number(out, p.fraction)?;
+    say::number(out, p.places as u64)?;
+    say::number(out, p.exponent as u64)?;
+    say::number(out, p.uncertainty as u64)
 }
 
 // The record that bytes start with: its kind, offset, length, line, column, area offset or number of tags, decimal parts, and where the next record starts.
-pub fn entry(s: &[u8]) {
+pub fn entry<W: Write>(out: &mut W, s: &[u8]) -> io::Result<()> {
     let e = entries::read_record(s, 0);
     match e {
         Entry::Record { kind, fields, next } => {
-            say::number(kind.number() as u64);
-            say::number(fields.token.offset as u64);
-            say::number(fields.token.length as u64);
-            say::number(fields.token.line as u64);
-            say::number(fields.token.column as u64);
-            say::number(fields.number as u64);
+            say::number(out, kind.number() as u64)?;
+            say::number(out, fields.token.offset as u64)?;
+            say::number(out, fields.token.length as u64)?;
+            say::number(out, fields.token.line as u64)?;
+            say::number(out, fields.token.column as u64)?;
+            say::number(out, fields.number as u64)?;
             let p = fields.parts;
-            parts(p);
-            say::size(next);
+            parts(out, p)?;
+            say::size(out, next)
         }
-        Entry::Nothing => say::bytes(b" nothing"),
+        Entry::Nothing => say::bytes(out, b" nothing"),
     }
 }

@@ -5,10 +5,11 @@
 
 mod shown;
 
-use harness::{lines as vectors, parts, say};
-use libc::STDIN_FILENO;
+use harness::{input, lines as vectors, parts, say};
 use places::Report;
 use rules::Reading;
+use std::io;
+use std::io::Write;
 
 // The bytes of the store and of the area, and what stands in them before.
 const ROOM: usize = 512;
@@ -23,35 +24,34 @@ fn counted(report: Report, length: usize) -> usize {
     0
 }
 
-fn say_answer(report: Report, kept: bool) {
-    say::bytes(b"->");
-    say::report(report);
+fn say_answer<W: Write>(out: &mut W, report: Report, kept: bool) -> io::Result<()> {
+    say::bytes(out, b"->")?;
+    say::report(out, report)?;
     if kept {
-        say::bytes(b", the rest kept\n");
-        return;
+        return say::bytes(out, b", the rest kept\n");
     }
-    say::bytes(b", THE REST CHANGED\n");
+    say::bytes(out, b", THE REST CHANGED\n")
 }
 
-fn say_read(report: Report, store: &[u8], area: &[u8]) {
+fn say_read<W: Write>(out: &mut W, report: Report, store: &[u8], area: &[u8]) -> io::Result<()> {
     let m = counted(report, report.first);
     let k = counted(report, report.second);
     let store_kept = parts::is_all(store, m, BEFORE);
     let area_kept = parts::is_all(area, k, BEFORE);
-    say_answer(report, store_kept & area_kept);
+    say_answer(out, report, store_kept & area_kept)?;
     if report.number != 0 {
-        return;
+        return Ok(());
     }
-    shown::records(parts::part(store, 0, m), false);
-    say::bytes(b"   area");
-    say::bracketed(parts::part(area, 0, k));
-    say::byte(b'\n');
+    shown::records(out, parts::part(store, 0, m), false)?;
+    say::bytes(out, b"   area")?;
+    say::bracketed(out, parts::part(area, 0, k))?;
+    say::byte(out, b'\n')
 }
 
-fn say_outline(report: Report, store: &[u8]) {
+fn say_outline<W: Write>(out: &mut W, report: Report, store: &[u8]) -> io::Result<()> {
     let m = counted(report, report.first);
-    say_answer(report, parts::is_all(store, m, BEFORE));
-    shown::records(parts::part(store, 0, m), true);
+    say_answer(out, report, parts::is_all(store, m, BEFORE))?;
+    shown::records(out, parts::part(store, 0, m), true)
 }
 
 // Read, with so much room of what is lent.
@@ -73,83 +73,96 @@ fn outline(reading: Reading, text: &[u8], store: &mut [u8], m: usize) -> Report 
     outlining::outline(reading, text, &mut store[..stores]).report()
 }
 
-fn try_read(reading: Reading, text: &[u8], m: usize, k: usize) {
+fn try_read<W: Write>(
+    out: &mut W,
+    reading: Reading,
+    text: &[u8],
+    m: usize,
+    k: usize,
+) -> io::Result<()> {
     let mut store = [BEFORE; ROOM];
     let mut area = [BEFORE; ROOM];
     let report = read(reading, text, &mut store, m, &mut area, k);
-    say_read(report, &store, &area);
+    say_read(out, report, &store, &area)
 }
 
-fn try_outline(reading: Reading, text: &[u8], m: usize) {
+fn try_outline<W: Write>(out: &mut W, reading: Reading, text: &[u8], m: usize) -> io::Result<()> {
     let mut store = [BEFORE; ROOM];
     let report = outline(reading, text, &mut store, m);
-    say_outline(report, &store);
+    say_outline(out, report, &store)
 }
 
 // A vector's text, unfolded, with so much room for the store and the area.
-fn read_vector(reading: Reading, s: &[u8], m: usize, k: usize) {
-    let mut buffer = io::buffer();
+fn read_vector<W: Write>(
+    out: &mut W,
+    reading: Reading,
+    s: &[u8],
+    m: usize,
+    k: usize,
+) -> io::Result<()> {
+    let mut buffer = input::buffer();
     let end = vectors::unfold(s, &mut buffer, 0);
-    try_read(reading, parts::part(&buffer, 0, end), m, k);
+    try_read(out, reading, parts::part(&buffer, 0, end), m, k)
 }
 
-fn outline_vector(reading: Reading, s: &[u8], m: usize) {
-    let mut buffer = io::buffer();
+fn outline_vector<W: Write>(out: &mut W, reading: Reading, s: &[u8], m: usize) -> io::Result<()> {
+    let mut buffer = input::buffer();
     let end = vectors::unfold(s, &mut buffer, 0);
-    try_outline(reading, parts::part(&buffer, 0, end), m);
+    try_outline(out, reading, parts::part(&buffer, 0, end), m)
 }
 
 // The rooms stand before the text.
-fn read_in_rooms(reading: Reading, s: &[u8]) {
+fn read_in_rooms<W: Write>(out: &mut W, reading: Reading, s: &[u8]) -> io::Result<()> {
     let store = vectors::number(s, 0);
     let area = vectors::number(s, store.next);
     let from = area.next;
-    read_vector(reading, &s[from..], store.number, area.number);
+    read_vector(out, reading, &s[from..], store.number, area.number)
 }
 
-fn outline_in_room(reading: Reading, s: &[u8]) {
+fn outline_in_room<W: Write>(out: &mut W, reading: Reading, s: &[u8]) -> io::Result<()> {
     let store = vectors::number(s, 0);
     let from = store.next;
-    outline_vector(reading, &s[from..], store.number);
+    outline_vector(out, reading, &s[from..], store.number)
 }
 
 // r: Read. o: Outline. R and O: the same, with so much room for the store, and for Read the area. s, p, S and P: as these, by the strict
 // reading.
-fn run_vector(letter: u8, s: &[u8]) {
+fn run_vector<W: Write>(out: &mut W, letter: u8, s: &[u8]) -> io::Result<()> {
     match letter {
-        b'r' => read_vector(Reading::First, s, ROOM, ROOM),
-        b'o' => outline_vector(Reading::First, s, ROOM),
-        b's' => read_vector(Reading::Strict, s, ROOM, ROOM),
-        b'p' => outline_vector(Reading::Strict, s, ROOM),
-        b'R' => read_in_rooms(Reading::First, s),
-        b'O' => outline_in_room(Reading::First, s),
-        b'S' => read_in_rooms(Reading::Strict, s),
-        b'P' => outline_in_room(Reading::Strict, s),
-        _ => (),
+        b'r' => read_vector(out, Reading::First, s, ROOM, ROOM),
+        b'o' => outline_vector(out, Reading::First, s, ROOM),
+        b's' => read_vector(out, Reading::Strict, s, ROOM, ROOM),
+        b'p' => outline_vector(out, Reading::Strict, s, ROOM),
+        b'R' => read_in_rooms(out, Reading::First, s),
+        b'O' => outline_in_room(out, Reading::First, s),
+        b'S' => read_in_rooms(out, Reading::Strict, s),
+        b'P' => outline_in_room(out, Reading::Strict, s),
+        _ => Ok(()),
     }
 }
 
-fn run_line(s: &[u8]) {
-    say::bytes(s);
-    say::byte(b'\n');
+fn run_line<W: Write>(out: &mut W, s: &[u8]) -> io::Result<()> {
+    say::bytes(out, s)?;
+    say::byte(out, b'\n')?;
     let from = vectors::text_start(s);
     if from == 0 {
-        return;
+        return Ok(());
     }
-    run_vector(s[0], &s[from..]);
+    run_vector(out, s[0], &s[from..])
 }
 
-fn run(s: &[u8]) {
+fn run<W: Write>(out: &mut W, s: &[u8]) -> io::Result<()> {
     let mut at = 0;
     while at < s.len() {
         let end = vectors::line_end(s, at);
-        run_line(&s[at..end]);
+        run_line(out, &s[at..end])?;
         at = end + 1;
     }
+    Ok(())
 }
 
-fn main() {
-    let mut input = io::large_buffer();
-    let n = io::read_full(STDIN_FILENO, &mut input);
-    run(&input[..n]);
+fn main(rt: HostRuntime) -> io::Result<()> {
+    let mut input = input::large_buffer();
+    let n = input::read_full(&mut rt.stdin(), &mut input)?;
+    run(&mut rt.stdout(), &input[..n])
 }

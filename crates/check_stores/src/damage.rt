@@ -5,9 +5,11 @@ use crate::services;
 use crate::services::Judged;
 use harness::{fields, say};
 use rules::Reading;
+use std::io;
+use std::io::Write;
 
 // What came of a number of stores.
-#[derive(Drop)]
+#[derive(Clone, Copy)]
 struct Tally {
     sound: u32,
     not_sound: u32,
@@ -50,8 +52,8 @@ fn sum(a: Tally, b: Tally) -> Tally {
     }
 }
 
-fn say_count(count: u32) {
-    say::number(count as u64);
+fn say_count<W: Write>(out: &mut W, count: u32) -> io::Result<()> {
+    say::number(out, count as u64)
 }
 
 // What is damaged is the store, or the area of another one. The name check and the way back from the rendering are tried at 20 of the values.
@@ -64,7 +66,14 @@ fn judge(reading: Reading, damaged: &[u8], other: &[u8], is_store: bool, value: 
 }
 
 // All values of the byte at an offset, which is put back then; how many are sound is written.
-fn try_byte(reading: Reading, damaged: &mut [u8], at: usize, other: &[u8], is_store: bool) -> Tally
+fn try_byte<W: Write>(
+    out: &mut W,
+    reading: Reading,
+    damaged: &mut [u8],
+    at: usize,
+    other: &[u8],
+    is_store: bool,
+) -> io::Result<Tally>
     requires { at < length damaged.old }
 {
     let before = damaged[at];
@@ -81,70 +90,93 @@ fn try_byte(reading: Reading, damaged: &mut [u8], at: usize, other: &[u8], is_st
         left -= 1;
     }
     damaged[at] = before;
-    say_count(tally.sound);
-    tally
+    say_count(out, tally.sound)?;
+    Ok(tally)
 }
 
 // A mark before the first byte of a field.
-fn say_mark(kind: u8, at: usize) {
+fn say_mark<W: Write>(out: &mut W, kind: u8, at: usize) -> io::Result<()> {
     if fields::starts_field(kind, at) {
-        say::bytes(b" |");
+        say::bytes(out, b" |")?;
     }
+    Ok(())
 }
 
 // A record, a line: its kind, and the counts of its bytes, field by field.
-fn try_record(reading: Reading, store: &mut [u8], area: &[u8], at: usize, end: usize) -> Tally
+fn try_record<W: Write>(
+    out: &mut W,
+    reading: Reading,
+    store: &mut [u8],
+    area: &[u8],
+    at: usize,
+    end: usize,
+) -> io::Result<Tally>
     requires { (at < end) × (end ≤ length store.old) }
 {
     let kind = store[at];
-    say::kind(kind);
-    let mut tally = try_byte(reading, store, at, area, true);
+    say::kind(out, kind)?;
+    let mut tally = try_byte(out, reading, store, at, area, true)?;
     let body = at + 1;
     let mut i = body;
     while i < end {
-        say_mark(kind, i - body);
-        tally = sum(tally, try_byte(reading, store, i, area, true));
+        say_mark(out, kind, i - body)?;
+        tally = sum(tally, try_byte(out, reading, store, i, area, true)?);
         i += 1;
     }
-    say::byte(b'\n');
-    tally
+    say::byte(out, b'\n')?;
+    Ok(tally)
 }
 
-fn try_store(reading: Reading, store: &mut [u8], area: &[u8]) -> Tally {
+fn try_store<W: Write>(
+    out: &mut W,
+    reading: Reading,
+    store: &mut [u8],
+    area: &[u8],
+) -> io::Result<Tally> {
     let mut tally = nothing();
     let mut at = 0;
     while at < store.len() {
         let end = fields::body_end(store, at + 1, kinds::Kind::body_length(store[at]));
-        tally = sum(tally, try_record(reading, store, area, at, end));
+        tally = sum(tally, try_record(out, reading, store, area, at, end)?);
         at = end;
     }
-    tally
+    Ok(tally)
 }
 
-fn try_area(reading: Reading, area: &mut [u8], store: &[u8]) -> Tally {
+fn try_area<W: Write>(
+    out: &mut W,
+    reading: Reading,
+    area: &mut [u8],
+    store: &[u8],
+) -> io::Result<Tally> {
     let mut tally = nothing();
     let mut at = 0;
     while at < area.len() {
-        tally = sum(tally, try_byte(reading, area, at, store, false));
+        tally = sum(tally, try_byte(out, reading, area, at, store, false)?);
         at += 1;
     }
-    tally
+    Ok(tally)
 }
 
-fn say_all(all: Tally) {
-    say::bytes(b"   sound");
-    say_count(all.sound);
-    say::bytes(b", not sound");
-    say_count(all.not_sound);
-    say::bytes(b", disagreed on");
-    say_count(all.disagree);
-    say::byte(b'\n');
+fn say_all<W: Write>(out: &mut W, all: Tally) -> io::Result<()> {
+    say::bytes(out, b"   sound")?;
+    say_count(out, all.sound)?;
+    say::bytes(out, b", not sound")?;
+    say_count(out, all.not_sound)?;
+    say::bytes(out, b", disagreed on")?;
+    say_count(out, all.disagree)?;
+    say::byte(out, b'\n')
 }
 
-pub fn run(reading: Reading, store: &mut [u8], area: &mut [u8]) {
-    let stores = try_store(reading, store, area);
-    say::bytes(b"   area");
-    let areas = try_area(reading, area, store);
-    say::byte(b'\n');
-    say_all(sum(stores, areas));
+pub fn run<W: Write>(
+    out: &mut W,
+    reading: Reading,
+    store: &mut [u8],
+    area: &mut [u8],
+) -> io::Result<()> {
+    let stores = try_store(out, reading, store, area)?;
+    say::bytes(out, b"   area")?;
+    let areas = try_area(out, reading, area, store)?;
+    say::byte(out, b'\n')?;
+    say_all(out, sum(stores, areas))
 }

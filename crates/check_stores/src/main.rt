@@ -14,31 +14,38 @@ mod damage;
 mod services;
 
 use harness::parts::{least, part};
-use harness::{lines as vectors, say};
-use libc::STDIN_FILENO;
+use harness::{input, lines as vectors, say};
 use rules::{Named, Reading};
+use std::io;
+use std::io::Write;
 
 // The bytes of the store's and of the area's buffer.
 pub const ROOM: usize = 4096;
 
 // How much of them there is.
-#[derive(Drop)]
+#[derive(Clone, Copy)]
 struct Lengths {
     store: usize,
     area: usize,
 }
 
 // The store and the area that Read makes of a text.
-fn read(reading: Reading, s: &[u8], store: &mut [u8; ROOM], area: &mut [u8; ROOM]) -> Lengths {
+fn read<W: Write>(
+    out: &mut W,
+    reading: Reading,
+    s: &[u8],
+    store: &mut [u8; ROOM],
+    area: &mut [u8; ROOM],
+) -> io::Result<Lengths> {
     let mut buffer = [0u8; ROOM];
     let end = vectors::unfold(s, &mut buffer, 0);
     let read = reading::read(reading, part(&buffer, 0, end), store, area).report();
-    say::arrow();
-    say::report(read);
-    Lengths {
+    say::arrow(out)?;
+    say::report(out, read)?;
+    Ok(Lengths {
         store: read.first,
         area: read.second,
-    }
+    })
 }
 
 // The reading that a number names, or else the one before.
@@ -63,35 +70,43 @@ fn reading_behind(s: &[u8], before: Reading) -> Reading {
 }
 
 // The store and the area behind a line that builds them.
-fn build(
+fn build<W: Write>(
+    out: &mut W,
     letter: u8,
     reading: Reading,
     s: &[u8],
     store: &mut [u8; ROOM],
     area: &mut [u8; ROOM],
     have: Lengths,
-) -> Lengths {
+) -> io::Result<Lengths> {
     match letter {
-        b'n' => Lengths { store: 0, area: 0 },
-        b's' => Lengths {
+        b'n' => Ok(Lengths { store: 0, area: 0 }),
+        b's' => Ok(Lengths {
             store: vectors::unhex(s, store, have.store),
             area: have.area,
-        },
-        b'a' => Lengths {
+        }),
+        b'a' => Ok(Lengths {
             store: have.store,
             area: vectors::unfold(s, area, have.area),
-        },
-        b't' => read(reading, s, store, area),
-        _ => have,
+        }),
+        b't' => read(out, reading, s, store, area),
+        _ => Ok(have),
     }
 }
 
-fn judge_all(reading: Reading, store: &[u8; ROOM], area: &[u8; ROOM], have: Lengths) {
+fn judge_all<W: Write>(
+    out: &mut W,
+    reading: Reading,
+    store: &[u8; ROOM],
+    area: &[u8; ROOM],
+    have: Lengths,
+) -> io::Result<()> {
     answers::judged(
+        out,
         reading,
         part(store, 0, have.store),
         part(area, 0, have.area),
-    );
+    )
 }
 
 // Puts a line's bytes into a store, from the offset on that stands before them.
@@ -108,118 +123,157 @@ fn put_text(s: &[u8], area: &mut [u8; ROOM]) {
 }
 
 // Whether the store is sound with some of its bytes replaced.
-fn judge_store(reading: Reading, s: &[u8], store: &[u8; ROOM], area: &[u8; ROOM], have: Lengths) {
+fn judge_store<W: Write>(
+    out: &mut W,
+    reading: Reading,
+    s: &[u8],
+    store: &[u8; ROOM],
+    area: &[u8; ROOM],
+    have: Lengths,
+) -> io::Result<()> {
     let mut changed = *store;
     put_bytes(s, &mut changed);
-    judge_all(reading, &changed, area, have);
+    judge_all(out, reading, &changed, area, have)
 }
 
-fn judge_area(reading: Reading, s: &[u8], store: &[u8; ROOM], area: &[u8; ROOM], have: Lengths) {
+fn judge_area<W: Write>(
+    out: &mut W,
+    reading: Reading,
+    s: &[u8],
+    store: &[u8; ROOM],
+    area: &[u8; ROOM],
+    have: Lengths,
+) -> io::Result<()> {
     let mut changed = *area;
     put_text(s, &mut changed);
-    judge_all(reading, store, &changed, have);
+    judge_all(out, reading, store, &changed, have)
 }
 
 // Whether so much of the store and of the area is sound.
-fn judge_part(reading: Reading, s: &[u8], store: &[u8; ROOM], area: &[u8; ROOM]) {
+fn judge_part<W: Write>(
+    out: &mut W,
+    reading: Reading,
+    s: &[u8],
+    store: &[u8; ROOM],
+    area: &[u8; ROOM],
+) -> io::Result<()> {
     let stores = vectors::number(s, 0);
     let areas = vectors::number(s, stores.next);
     let some = Lengths {
         store: stores.number,
         area: areas.number,
     };
-    judge_all(reading, store, area, some);
+    judge_all(out, reading, store, area, some)
 }
 
-fn judge(
+fn judge<W: Write>(
+    out: &mut W,
     letter: u8,
     reading: Reading,
     s: &[u8],
     store: &[u8; ROOM],
     area: &[u8; ROOM],
     have: Lengths,
-) {
+) -> io::Result<()> {
     match letter {
-        b'j' => judge_all(reading, store, area, have),
-        b'x' => judge_store(reading, s, store, area, have),
-        b'y' => judge_area(reading, s, store, area, have),
-        b'k' => judge_part(reading, s, store, area),
-        _ => (),
+        b'j' => judge_all(out, reading, store, area, have),
+        b'x' => judge_store(out, reading, s, store, area, have),
+        b'y' => judge_area(out, reading, s, store, area, have),
+        b'k' => judge_part(out, reading, s, store, area),
+        _ => Ok(()),
     }
 }
 
-fn ask(letter: u8, reading: Reading, s: &[u8], store: &[u8], area: &[u8]) {
+fn ask<W: Write>(
+    out: &mut W,
+    letter: u8,
+    reading: Reading,
+    s: &[u8],
+    store: &[u8],
+    area: &[u8],
+) -> io::Result<()> {
     let asked = vectors::number(s, 0);
     let number = asked.number;
     match letter {
-        b'm' => answers::names(reading, store, area),
-        b'c' => answers::content(reading, store, area, number),
-        b'r' => answers::rendered(reading, store, area, number),
-        b'w' => answers::walked(store, area, number),
-        _ => (),
+        b'm' => answers::names(out, reading, store, area),
+        b'c' => answers::content(out, reading, store, area, number),
+        b'r' => answers::rendered(out, reading, store, area, number),
+        b'w' => answers::walked(out, store, area, number),
+        _ => Ok(()),
     }
 }
 
-fn damage_all(letter: u8, reading: Reading, store: &mut [u8], area: &mut [u8], have: Lengths) {
+fn damage_all<W: Write>(
+    out: &mut W,
+    letter: u8,
+    reading: Reading,
+    store: &mut [u8],
+    area: &mut [u8],
+    have: Lengths,
+) -> io::Result<()> {
     if letter != b'd' {
-        return;
+        return Ok(());
     }
     let stores = least(have.store, store.len());
     let areas = least(have.area, area.len());
-    damage::run(reading, &mut store[..stores], &mut area[..areas]);
+    damage::run(out, reading, &mut store[..stores], &mut area[..areas])
 }
 
 // What a line asks for: whether the store is sound, or another answer.
-fn answer(
+fn answer<W: Write>(
+    out: &mut W,
     letter: u8,
     reading: Reading,
     s: &[u8],
     store: &[u8; ROOM],
     area: &[u8; ROOM],
     have: Lengths,
-) {
-    judge(letter, reading, s, store, area, have);
+) -> io::Result<()> {
+    judge(out, letter, reading, s, store, area, have)?;
     ask(
+        out,
         letter,
         reading,
         s,
         part(store, 0, have.store),
         part(area, 0, have.area),
-    );
-    say::byte(b'\n');
+    )?;
+    say::byte(out, b'\n')
 }
 
-fn run_vector(
+fn run_vector<W: Write>(
+    out: &mut W,
     letter: u8,
     reading: Reading,
     s: &[u8],
     store: &mut [u8; ROOM],
     area: &mut [u8; ROOM],
     have: Lengths,
-) -> Lengths {
-    let then = build(letter, reading, s, store, area, have);
-    answer(letter, reading, s, store, area, then);
-    damage_all(letter, reading, store, area, then);
-    then
+) -> io::Result<Lengths> {
+    let then = build(out, letter, reading, s, store, area, have)?;
+    answer(out, letter, reading, s, store, area, then)?;
+    damage_all(out, letter, reading, store, area, then)?;
+    Ok(then)
 }
 
-fn run_line(
+fn run_line<W: Write>(
+    out: &mut W,
     reading: Reading,
     s: &[u8],
     store: &mut [u8; ROOM],
     area: &mut [u8; ROOM],
     have: Lengths,
-) -> Lengths {
-    say::bytes(s);
+) -> io::Result<Lengths> {
+    say::bytes(out, s)?;
     let from = vectors::text_start(s);
     if from == 0 {
-        say::byte(b'\n');
-        return have;
+        say::byte(out, b'\n')?;
+        return Ok(have);
     }
-    run_vector(s[0], reading, &s[from..], store, area, have)
+    run_vector(out, s[0], reading, &s[from..], store, area, have)
 }
 
-fn run(s: &[u8]) {
+fn run<W: Write>(out: &mut W, s: &[u8]) -> io::Result<()> {
     let mut store = [0u8; ROOM];
     let mut area = [0u8; ROOM];
     let mut have = Lengths { store: 0, area: 0 };
@@ -229,13 +283,14 @@ fn run(s: &[u8]) {
         let end = vectors::line_end(s, at);
         let line = &s[at..end];
         reading = reading_behind(line, reading);
-        have = run_line(reading, line, &mut store, &mut area, have);
+        have = run_line(out, reading, line, &mut store, &mut area, have)?;
         at = end + 1;
     }
+    Ok(())
 }
 
-fn main() {
-    let mut input = io::large_buffer();
-    let n = io::read_full(STDIN_FILENO, &mut input);
-    run(&input[..n]);
+fn main(rt: HostRuntime) -> io::Result<()> {
+    let mut input = input::large_buffer();
+    let n = input::read_full(&mut rt.stdin(), &mut input)?;
+    run(&mut rt.stdout(), &input[..n])
 }

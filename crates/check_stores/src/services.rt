@@ -5,7 +5,7 @@ use harness::parts::part;
 use rules::Reading;
 use stores::Walked;
 
-#[derive(Drop)]
+#[derive(Clone, Copy)]
 pub enum Judged {
     Sound,
     NotSound,

@@ -33,7 +33,7 @@ pub fn text_start(s: &[u8]) -> usize
 }
 
 // A number of a line, and where what stands behind it and one space starts.
-#[derive(Drop)]
+#[derive(Clone, Copy)]
 pub struct Written {
     pub number: usize,
     pub next: usize,

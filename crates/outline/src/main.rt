@@ -3,25 +3,27 @@
 
 ghost use Rattle.std.specs.Prelude.{◌+◌, ◌≤◌, length};
 
-use libc::{STDIN_FILENO, STDOUT_FILENO};
+use harness::input;
 use places::Report;
 use rules::Reading;
+use std::io;
+use std::io::Write;
 
 // The longest text that is taken, and the bytes of the store.
 const LIMIT: usize = 65536;
 
-fn say(s: &[u8]) {
-    io::write_all(STDOUT_FILENO, s);
+fn say<W: Write>(out: &mut W, s: &[u8]) -> io::Result<()> {
+    out.write_all(s)
 }
 
-fn say_number(n: u64) {
-    io::print_decimal(STDOUT_FILENO, n);
+fn say_number<W: Write>(out: &mut W, n: u64) -> io::Result<()> {
+    write!(out, "{n}")
 }
 
 // A number behind another, parted by one space.
-fn say_next(n: u64) {
-    say(b" ");
-    say_number(n);
+fn say_next<W: Write>(out: &mut W, n: u64) -> io::Result<()> {
+    say(out, b" ")?;
+    say_number(out, n)
 }
 
 fn wide(b: u8) -> u64
@@ -39,64 +41,64 @@ fn field(store: &[u8], at: usize) -> u64
 }
 
 // The fields of a body: none, or a place.
-fn say_body(body: &[u8]) {
+fn say_body<W: Write>(out: &mut W, body: &[u8]) -> io::Result<()> {
     let mut at = 0;
     while at < body.len() {
         if body.len() - at < 4 {
-            return;
+            return Ok(());
         }
-        say_next(field(body, at));
+        say_next(out, field(body, at))?;
         at += 4;
     }
+    Ok(())
 }
 
 // A line for each record. The store is what Outline wrote, so no body runs past its end.
-fn say_records(store: &[u8]) {
+fn say_records<W: Write>(out: &mut W, store: &[u8]) -> io::Result<()> {
     let mut at = 0;
     while at < store.len() {
         let kind = store[at];
         let length = kinds::Kind::outline_length(kind);
         let from = at + 1;
         if store.len() - from < length {
-            return;
+            return Ok(());
         }
         let end = from + length;
-        say_number(wide(kind));
-        say_body(&store[from..end]);
-        say(b"\n");
+        say_number(out, wide(kind))?;
+        say_body(out, &store[from..end])?;
+        say(out, b"\n")?;
         at = end;
     }
+    Ok(())
 }
 
 // The records in the store's first bytes, and that they end.
-fn say_written(store: &[u8], length: usize) {
+fn say_written<W: Write>(out: &mut W, store: &[u8], length: usize) -> io::Result<()> {
     if length <= store.len() {
-        say_records(&store[..length]);
+        say_records(out, &store[..length])?;
     }
-    say(b"end\n");
+    say(out, b"end\n")
 }
 
-fn say_refusal(report: Report) {
-    say(b"refused");
-    say_next(report.number as u64);
-    say_next(report.offset as u64);
-    say_next(report.line as u64);
-    say_next(report.column as u64);
-    say(b"\n");
+fn say_refusal<W: Write>(out: &mut W, report: Report) -> io::Result<()> {
+    say(out, b"refused")?;
+    say_next(out, report.number as u64)?;
+    say_next(out, report.offset as u64)?;
+    say_next(out, report.line as u64)?;
+    say_next(out, report.column as u64)?;
+    say(out, b"\n")
 }
 
-fn say_outline(text: &[u8]) {
+fn say_outline<W: Write>(out: &mut W, text: &[u8]) -> io::Result<()> {
     if LIMIT < text.len() {
-        say(b"input over 65536 bytes\n");
-        return;
+        return say(out, b"input over 65536 bytes\n");
     }
-    let mut store = io::large_buffer(); // it has LIMIT bytes
+    let mut store = input::large_buffer(); // it has LIMIT bytes
     let report = outlining::outline(Reading::First, text, &mut store).report();
     if report.number != 0 {
-        say_refusal(report);
-        return;
+        return say_refusal(out, report);
     }
-    say_written(&store, report.first);
+    say_written(out, &store, report.first)
 }
 
 // Room for a text and one byte more. It stands in a function of its own, since its caller's proof then knows its length
@@ -105,8 +107,8 @@ fn room() -> [u8; LIMIT + 1] {
     [0u8; LIMIT + 1]
 }
 
-fn main() {
-    let mut input = room();
-    let n = io::read_full(STDIN_FILENO, &mut input);
-    say_outline(&input[..n]);
+fn main(rt: HostRuntime) -> io::Result<()> {
+    let mut text = room();
+    let n = input::read_full(&mut rt.stdin(), &mut text)?;
+    say_outline(&mut rt.stdout(), &text[..n])
 }

@@ -8,9 +8,10 @@ mod same;
 
 ghost use Rattle.std.specs.Prelude.{◌<◌, ◌≤◌, length};
 
-use harness::say;
-use libc::STDIN_FILENO;
+use harness::{input, say};
 use same::Verdict;
+use std::io;
+use std::io::{Read, Write};
 
 // The largest list, in bytes.
 const LONGEST: usize = 524288;
@@ -28,28 +29,34 @@ fn note(counts: &mut [u32; 16], which: usize) {
     }
 }
 
-fn say_verdict(number: u32, verdict: Verdict) {
-    say::bytes(b"entry ");
-    say::plain(number as u64);
+fn say_verdict<W: Write>(out: &mut W, number: u32, verdict: Verdict) -> io::Result<()> {
+    say::bytes(out, b"entry ")?;
+    say::plain(out, number as u64)?;
     match verdict {
-        Verdict::Same => say::bytes(b" is the same\n"),
-        Verdict::CutOff => say::bytes(b" is cut off\n"),
-        Verdict::Answer => say::bytes(b" has another answer\n"),
-        Verdict::Contents => say::bytes(b" has other contents\n"),
-        Verdict::Records => say::bytes(b" has other records\n"),
-        Verdict::Outline => say::bytes(b" has another outline\n"),
+        Verdict::Same => say::bytes(out, b" is the same\n"),
+        Verdict::CutOff => say::bytes(out, b" is cut off\n"),
+        Verdict::Answer => say::bytes(out, b" has another answer\n"),
+        Verdict::Contents => say::bytes(out, b" has other contents\n"),
+        Verdict::Records => say::bytes(out, b" has other records\n"),
+        Verdict::Outline => say::bytes(out, b" has another outline\n"),
     }
 }
 
-fn try_entry(number: u32, entry: &[u8], counts: &mut [u32; 16]) {
+fn try_entry<W: Write>(
+    out: &mut W,
+    number: u32,
+    entry: &[u8],
+    counts: &mut [u32; 16],
+) -> io::Result<()> {
     let verdict = same::judge(entry);
     let Verdict::Same = verdict else {
-        say_verdict(number, verdict);
+        say_verdict(out, number, verdict)?;
         note(counts, FAILED);
-        return;
+        return Ok(());
     };
     note(counts, list::field(entry, 1));
     note(counts, PASSED);
+    Ok(())
 }
 
 // Where the entry at an offset ends, or the list does.
@@ -65,55 +72,58 @@ fn entry_end(s: &[u8], at: usize) -> usize
 }
 
 // How often an answer was passed, and the end of its line.
-fn say_count(count: u32) {
-    say::bytes(b": ");
-    say::plain(count as u64);
-    say::byte(b'\n');
+fn say_count<W: Write>(out: &mut W, count: u32) -> io::Result<()> {
+    say::bytes(out, b": ")?;
+    say::plain(out, count as u64)?;
+    say::byte(out, b'\n')
 }
 
-fn say_read(count: u32) {
-    say::bytes(b"read");
-    say_count(count);
+fn say_read<W: Write>(out: &mut W, count: u32) -> io::Result<()> {
+    say::bytes(out, b"read")?;
+    say_count(out, count)
 }
 
-fn say_refused(number: u64, count: u32) {
-    say::bytes(b"refused by ");
-    say::plain(number);
-    say_count(count);
+fn say_refused<W: Write>(out: &mut W, number: u64, count: u32) -> io::Result<()> {
+    say::bytes(out, b"refused by ")?;
+    say::plain(out, number)?;
+    say_count(out, count)
 }
 
-fn say_end(passed: u32, failed: u32) {
-    say::plain(passed as u64);
-    say::bytes(b" passed, ");
-    say::plain(failed as u64);
-    say::bytes(b" failed\n");
+fn say_end<W: Write>(out: &mut W, passed: u32, failed: u32) -> io::Result<()> {
+    say::plain(out, passed as u64)?;
+    say::bytes(out, b" passed, ")?;
+    say::plain(out, failed as u64)?;
+    say::bytes(out, b" failed\n")
 }
 
-fn say_counts(counts: &[u32; 16]) {
-    say_read(counts[0]);
-    say_refused(3, counts[3]);
-    say_refused(4, counts[4]);
-    say_refused(5, counts[5]);
-    say_refused(6, counts[6]);
-    say_refused(7, counts[7]);
-    say_end(counts[PASSED], counts[FAILED]);
+fn say_counts<W: Write>(out: &mut W, counts: &[u32; 16]) -> io::Result<()> {
+    say_read(out, counts[0])?;
+    say_refused(out, 3, counts[3])?;
+    say_refused(out, 4, counts[4])?;
+    say_refused(out, 5, counts[5])?;
+    say_refused(out, 6, counts[6])?;
+    say_refused(out, 7, counts[7])?;
+    say_end(out, counts[PASSED], counts[FAILED])
 }
 
-fn replay(s: &[u8]) {
+fn replay<W: Write>(out: &mut W, s: &[u8]) -> io::Result<()> {
     let mut counts = [0u32; 16];
     let mut tried: u32 = 0;
     let mut at = list::HEAD;
     while at < s.len() {
         let end = entry_end(s, at);
-        try_entry(tried, &s[at..end], &mut counts);
+        try_entry(out, tried, &s[at..end], &mut counts)?;
         tried = std::num::wrapping_add_u32(tried, 1);
         at = end;
     }
     if tried != list::word_at(s, 8) {
-        say::bytes(b"the list has another number of entries than it says\n");
+        say::bytes(
+            out,
+            b"the list has another number of entries than it says\n",
+        )?;
         note(&mut counts, FAILED);
     }
-    say_counts(&counts);
+    say_counts(out, &counts)
 }
 
 // Room for a list. It stands in a function of its own, since its caller's proof then knows its length and need not
@@ -123,17 +133,16 @@ fn room() -> [u8; LONGEST] {
 }
 
 // Replays the list on standard input, which is read into what is lent.
-fn replay_input(input: &mut [u8]) {
-    let n = io::read_full(STDIN_FILENO, input);
-    let list = &input[..n];
+fn replay_input<R: Read, W: Write>(input: &mut R, out: &mut W, lent: &mut [u8]) -> io::Result<()> {
+    let n = input::read_full(input, lent)?;
+    let list = &lent[..n];
     if !list::is_list(list) {
-        say::bytes(b"this is no list of the length that it says\n");
-        return;
+        return say::bytes(out, b"this is no list of the length that it says\n");
     }
-    replay(list);
+    replay(out, list)
 }
 
-fn main() {
-    let mut input = room();
-    replay_input(&mut input);
+fn main(rt: HostRuntime) -> io::Result<()> {
+    let mut lent = room();
+    replay_input(&mut rt.stdin(), &mut rt.stdout(), &mut lent)
 }

@@ -8,7 +8,7 @@ use rules::Reading;
 use stores::Walked;
 
 // What differs, if anything does.
-#[derive(Drop)]
+#[derive(Clone, Copy)]
 pub enum Verdict {
     Same,
     CutOff,
@@ -80,13 +80,13 @@ fn same_record(told: &[u8], kind: u8, amount: u64) -> bool {
 }
 
 // Where the comparison stands: in the store, and among the list's numbers.
-#[derive(Drop)]
+#[derive(Clone, Copy)]
 struct Spot {
     at: usize,
     number: usize,
 }
 
-#[derive(Drop)]
+#[derive(Clone, Copy)]
 enum Step {
     On { spot: Spot },
     Off,
