@@ -18,7 +18,7 @@ use Rattle.sizes.specs.Sizes.{outline_size}
 use Rattle.deciding.proofs.Told.{sizes-of, outline-read}
 use Rattle.walking.specs.Writing.{store_of}
 use Rattle.writing.specs.Block.{Fits, store_bytes}
-use Rattle.writing.proofs.Answers.{outline-fits, store_bytes}
+use Rattle.writing.proofs.Answers.{outline-fits, store-records}
 use Rattle.refusals.specs.declared.Refusal.{Refusal}
 use Rattle.outlining.specs.declared.Outlined.TheVariants.{Written, Declined, NoRoom}
 use Rattle.refusals.specs.Answers.{written_if}
@@ -58,4 +58,4 @@ module _ (g : Reading) (s : List ℕ) (z : Sizes) (i : IsRead g s z) where
   outline-asks l a h = outline-fits g s i.records text.1 l a text.0 (omega (arith, need-outline g s z i))
 
   pub stored : (l m : List ℕ) → m ≡ front (store_bytes g false s) l → m ≡ front (store_of false s 0 i.records) l
-  stored l m e = e ∙ ap (λ (x : List ℕ). front x l) (store_bytes g s i.records text.1 false)
+  stored l m e = e ∙ ap (λ (x : List ℕ). front x l) (store-records g s i.records text.1 false)

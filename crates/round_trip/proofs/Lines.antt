@@ -24,7 +24,7 @@ recs_at o (ending ∷ es) = loop_end ∷ recs_at o es
 
 -- where in the nesting: between items (the flag: a loop without rows stands just before); behind n names of a loop; behind n names and k values; behind a tag
 pub data Where : Type 0 where
-  at-items : Bool → Where
-  at_names : ℕ → Where
-  at-values : (n k : ℕ) → Where
-  at_value : Where
+  on_items : Bool → Where
+  on_names : ℕ → Where
+  on_values : (n k : ℕ) → Where
+  on_value : Where

@@ -42,7 +42,7 @@ use Rattle.record_lines.specs.Lines.{token_text, is_end, line_of}
 use Rattle.grammar.specs.Tokens.{in_block}
 use Rattle.written.specs.Sayings.{Bytes}
 use Rattle.written.proofs.Lexing.{mode_of}
-use Rattle.round_trip.proofs.Lines.{Line, line, ending, render, Where as Spot, at-items, at_names, at-values, at_value}
+use Rattle.round_trip.proofs.Lines.{Line, line, ending, render, Where as Spot, on_items, on_names, on_values, on_value}
 use Rattle.round_trip.proofs.Trip.{Nested, over, headed, tagged, valued, looped, named, first-value, no_rows, next-value, rows, opened, shut}
 use Rattle.round_trip.proofs.Alone.{has_parts, Stored, Fine, fine, reads-tag, reads-head, reads-loop, reads-shut, shut-five, reads-open, word_for, lead_for, by_kind, reads-value, all_append, token-ascii}
 
@@ -210,11 +210,11 @@ lines-ascii r ar (more {es = es} {k = k} {f = f} h z g) =
 
 -- where the store's walk stands, and where the machine's
 data Meets : Where → Spot → Type 0 where
-  meet-items : (e : Bool) → Meets (Items e) (at-items e)
-  meet-names : (total n left : ℕ) → total ≡ n + suc left → Meets (Names total (suc left)) (at_names n)
-  meet-none : (n : ℕ) → Meets (Values (suc n) 0) (at_names (suc n))
-  meet-values : (total j : ℕ) → Meets (Values total (suc j)) (at-values total (suc j))
-  meet-wants : Meets Wants at_value
+  meet-items : (e : Bool) → Meets (Items e) (on_items e)
+  meet-names : (total n left : ℕ) → total ≡ n + suc left → Meets (Names total (suc left)) (on_names n)
+  meet-none : (n : ℕ) → Meets (Values (suc n) 0) (on_names (suc n))
+  meet-values : (total j : ℕ) → Meets (Values total (suc j)) (on_values total (suc j))
+  meet-wants : Meets Wants on_value
 
 -- the way that a test leads to
 follow-cond : {A : Type 0} (t : Bool) (x y : Stand) (go : Bool → Where → Bool) → (t ≡ true → follow x go ≡ true → A) → (t ≡ false → follow y go ≡ true → A) → follow (cond t x y) go ≡ true → A
@@ -226,13 +226,13 @@ unfolding follow
 follow-falls go e = absurd (false≢true e)
 
 -- a loop ends: without values only in the first reading
-rowless : (g : Reading) {es : List Line} (f : Bool) (n : ℕ) (onto : Bool → Where → Bool) → (onto f (Items true) ≡ true → Nested g f (at-items true) es) → follow (ends_loop g f 0) onto ≡ true → Nested g f (at_names (suc n)) (ending ∷ es)
+rowless : (g : Reading) {es : List Line} (f : Bool) (n : ℕ) (onto : Bool → Where → Bool) → (onto f (Items true) ≡ true → Nested g f (on_items true) es) → follow (ends_loop g f 0) onto ≡ true → Nested g f (on_names (suc n)) (ending ∷ es)
 unfolding follow
 rowless First f n onto then e = no_rows n (then e)
 rowless Strict f n onto then e = absurd (false≢true e)
 
-rowed : (g : Reading) {es : List Line} (f : Bool) (total j : ℕ) (onto : Bool → Where → Bool) → suc j % total ≡ 0 → (onto f (Items false) ≡ true → Nested g f (at-items false) es) → follow (ends_loop g f (suc j)) onto ≡ true
-    → Nested g f (at-values total (suc j)) (ending ∷ es)
+rowed : (g : Reading) {es : List Line} (f : Bool) (total j : ℕ) (onto : Bool → Where → Bool) → suc j % total ≡ 0 → (onto f (Items false) ≡ true → Nested g f (on_items false) es) → follow (ends_loop g f (suc j)) onto ≡ true
+    → Nested g f (on_values total (suc j)) (ending ∷ es)
 unfolding follow
 rowed First f total j onto z then e = rows total (suc j) refl z (then (rw (ne_eqb (suc j) 0 (λ y. omega arith)) at e))
 rowed Strict f total j onto z then e =
@@ -240,8 +240,8 @@ rowed Strict f total j onto z then e =
     rows total (suc j) n z (then (rw n at e))
 
 -- a further heading, in the strict reading
-heading : (g : Reading) (ar : List ℕ) (es : List Entry) → (nested_from g es false (Items false) ≡ true → Nested g false (at-items false) (lines_for g ar es)) → (k : Kind) (r : Fields) (next : ℕ) → Fine g ar k r
-    → (f e : Bool) → follow (another g f (number_of k)) (λ f w. nested_from g es f w) ≡ true → Nested g f (at-items e) (line_for g ar (Record k r next) ∷ lines_for g ar es)
+heading : (g : Reading) (ar : List ℕ) (es : List Entry) → (nested_from g es false (Items false) ≡ true → Nested g false (on_items false) (lines_for g ar es)) → (k : Kind) (r : Fields) (next : ℕ) → Fine g ar k r
+    → (f e : Bool) → follow (another g f (number_of k)) (λ f w. nested_from g es f w) ≡ true → Nested g f (on_items e) (line_for g ar (Record k r next) ∷ lines_for g ar es)
 unfolding follow line_for kind_of is_end word_for lead_for token_text shape_of is_content readable_by
 heading First ar es then k r next h f e q = absurd (false≢true q)
 heading Strict ar es then k r next h f e q =
@@ -249,7 +249,7 @@ heading Strict ar es then k r next h f e q =
     (λ t. by f (of_number k 1 t))
     (λ t. follow-falls (λ f w. nested_from Strict es f w)) q
   where
-    by : (f : Bool) → k ≡ Block → follow (cond f Falls (Stands false (Items false))) (λ f w. nested_from Strict es f w) ≡ true → Nested Strict f (at-items e) (line_for Strict ar (Record k r next) ∷ lines_for Strict ar es)
+    by : (f : Bool) → k ≡ Block → follow (cond f Falls (Stands false (Items false))) (λ f w. nested_from Strict es f w) ≡ true → Nested Strict f (on_items e) (line_for Strict ar (Record k r next) ∷ lines_for Strict ar es)
     by true z q = absurd (false≢true q)
     by false z q =
         let c = content_bytes ar Block r in
@@ -264,15 +264,15 @@ module _ (g : Reading) (ar : List ℕ) (es : List Entry) (then : (f : Bool) (w :
   Here : Bool → Spot → Type 0
   Here f x = Nested g f x (line_for g ar (Record k r next) ∷ lines_for g ar es)
 
-  want : (f : Bool) → follow (cond (is_value_kind (number_of k)) (Stands f (Items false)) Falls) onto ≡ true → Here f at_value
+  want : (f : Bool) → follow (cond (is_value_kind (number_of k)) (Stands f (Items false)) Falls) onto ≡ true → Here f on_value
   unfolding follow onto Here line_for
   want f =
       follow-cond (is_value_kind (number_of k)) _ _ onto
-      (λ t e. rw (value_line k t) (valued (number_of k) (lead_for g ar k r) (word_for ar k r) (reads-value g ar f r k t h) (then f (Items false) (at-items false) (meet-items false) e)))
+      (λ t e. rw (value_line k t) (valued (number_of k) (lead_for g ar k r) (word_for ar k r) (reads-value g ar f r k t h) (then f (Items false) (on_items false) (meet-items false) e)))
       (λ t. follow-falls onto)
 
   -- a name of a loop
-  name : (f : Bool) (total n left : ℕ) → total ≡ n + suc left → follow (at_names f total (suc left) (number_of k)) onto ≡ true → Here f (at_names n)
+  name : (f : Bool) (total n left : ℕ) → total ≡ n + suc left → follow (at_names f total (suc left) (number_of k)) onto ≡ true → Here f (on_names n)
   unfolding follow onto Here line_for at_names kind_of is_end word_for lead_for token_text shape_of is_content readable_by
   name f total n left q =
       follow-cond (eqb (number_of k) 6) _ _ onto
@@ -283,62 +283,62 @@ module _ (g : Reading) (ar : List ℕ) (es : List Entry) (then : (f : Bool) (w :
       rw z (named n (lead g LoopTag c) (95 ∷ c) (reads-tag g f c (and_r (fits_tag g (length (95 ∷ c))) (is_name c) b) LoopTag refl) (and_l (fits_tag g (length (95 ∷ c))) (is_name c) b) (by left q e)))
       (λ t. follow-falls onto)
     where
-      by : (left : ℕ) → total ≡ n + suc left → follow (after_name f total left) onto ≡ true → Nested g f (at_names (suc n)) (lines_for g ar es)
-      by zero q e = unfold after_name in let z : total ≡ suc n = omega arith in then f (Values total 0) (at_names (suc n)) (rw z (meet-none n)) e
-      by (suc l) q e = unfold after_name in then f (Names total (suc l)) (at_names (suc n)) (meet-names total (suc n) l (omega arith)) e
+      by : (left : ℕ) → total ≡ n + suc left → follow (after_name f total left) onto ≡ true → Nested g f (on_names (suc n)) (lines_for g ar es)
+      by zero q e = unfold after_name in let z : total ≡ suc n = omega arith in then f (Values total 0) (on_names (suc n)) (rw z (meet-none n)) e
+      by (suc l) q e = unfold after_name in then f (Names total (suc l)) (on_names (suc n)) (meet-names total (suc n) l (omega arith)) e
 
   -- the first value of a loop, or its end
-  first : (f : Bool) (n : ℕ) → follow (at_values g f (suc n) 0 (number_of k)) onto ≡ true → Here f (at_names (suc n))
+  first : (f : Bool) (n : ℕ) → follow (at_values g f (suc n) 0 (number_of k)) onto ≡ true → Here f (on_names (suc n))
   unfolding follow onto Here line_for at_values kind_of is_end
   first f n =
       follow-cond (eqb (number_of k) 7) _ _ onto
-      (λ t. let z : k ≡ LoopEnd = of_number k 7 t in follow-cond (eqb (0 % suc n) 0) _ _ onto (λ u e. rw z (rowless g f n onto (λ q. then f (Items true) (at-items true) (meet-items true) q) e)) (λ u. follow-falls onto))
+      (λ t. let z : k ≡ LoopEnd = of_number k 7 t in follow-cond (eqb (0 % suc n) 0) _ _ onto (λ u e. rw z (rowless g f n onto (λ q. then f (Items true) (on_items true) (meet-items true) q) e)) (λ u. follow-falls onto))
       (λ t. follow-cond (is_value_kind (number_of k)) _ _ onto
-      (λ u e. rw (value_line k u) (first-value n (number_of k) (lead_for g ar k r) (word_for ar k r) (reads-value g ar f r k u h) (then f (Values (suc n) 1) (at-values (suc n) 1) (meet-values (suc n) 0) e)))
+      (λ u e. rw (value_line k u) (first-value n (number_of k) (lead_for g ar k r) (word_for ar k r) (reads-value g ar f r k u h) (then f (Values (suc n) 1) (on_values (suc n) 1) (meet-values (suc n) 0) e)))
       (λ u. follow-falls onto))
 
   -- a further value, or the end
-  further : (f : Bool) (total j : ℕ) → follow (at_values g f total (suc j) (number_of k)) onto ≡ true → Here f (at-values total (suc j))
+  further : (f : Bool) (total j : ℕ) → follow (at_values g f total (suc j) (number_of k)) onto ≡ true → Here f (on_values total (suc j))
   unfolding follow onto Here line_for at_values kind_of is_end
   further f total j =
       follow-cond (eqb (number_of k) 7) _ _ onto
       (λ t. let z : k ≡ LoopEnd = of_number k 7 t in follow-cond (eqb (suc j % total) 0) _ _ onto
-      (λ u e. rw z (rowed g f total j onto (eqb-true (suc j % total) 0 u) (λ q. then f (Items false) (at-items false) (meet-items false) q) e))
+      (λ u e. rw z (rowed g f total j onto (eqb-true (suc j % total) 0 u) (λ q. then f (Items false) (on_items false) (meet-items false) q) e))
       (λ u. follow-falls onto))
       (λ t. follow-cond (is_value_kind (number_of k)) _ _ onto
-      (λ u e. rw (value_line k u) (next-value total (suc j) (number_of k) (lead_for g ar k r) (word_for ar k r) (reads-value g ar f r k u h) (then f (Values total (suc (suc j))) (at-values total (suc (suc j))) (meet-values total (suc j)) e)))
+      (λ u e. rw (value_line k u) (next-value total (suc j) (number_of k) (lead_for g ar k r) (word_for ar k r) (reads-value g ar f r k u h) (then f (Values total (suc (suc j))) (on_values total (suc (suc j))) (meet-values total (suc j)) e)))
       (λ u. follow-falls onto))
 
   -- an item, a frame, a frame's end or a heading
-  item : (f e : Bool) → follow (at_items g f e (number_of k) r.number) onto ≡ true → Here f (at-items e)
+  item : (f e : Bool) → follow (at_items g f e (number_of k) r.number) onto ≡ true → Here f (on_items e)
   unfolding follow onto Here line_for at_items kind_of is_end word_for lead_for token_text shape_of is_content readable_by mode_of
   item f e =
       follow-cond (eqb (number_of k) 4) _ _ onto (λ t. let z : k ≡ Tag = of_number k 4 t in by-tag z e)
       (λ _. follow-cond (eqb (number_of k) 5) _ _ onto (λ t. let z : k ≡ Loop = of_number k 5 t in by_loop z r.number)
       (λ _. follow-cond (eqb (number_of k) 2) _ _ onto (λ t. let z : k ≡ FrameOpen = of_number k 2 t in by-open z f)
       (λ _. follow-cond (eqb (number_of k) 3) _ _ onto (λ t. let z : k ≡ FrameClose = of_number k 3 t in by-shut z f)
-      (λ _. heading g ar es (λ q. then false (Items false) (at-items false) (meet-items false) q) k r next h f e))))
+      (λ _. heading g ar es (λ q. then false (Items false) (on_items false) (meet-items false) q) k r next h f e))))
     where
-      by-tag : k ≡ Tag → (e : Bool) → follow (cond e Falls (Stands f Wants)) onto ≡ true → Here f (at-items e)
+      by-tag : k ≡ Tag → (e : Bool) → follow (cond e Falls (Stands f Wants)) onto ≡ true → Here f (on_items e)
       by-tag z true q = follow-falls onto q
       by-tag z false q =
           let c = content_bytes ar Tag r in
           let b = by_kind g ar r Tag refl (rw z at h) in
-          rw z (tagged (lead g Tag c) (95 ∷ c) (reads-tag g f c (and_r (fits_tag g (length (95 ∷ c))) (is_name c) b) Tag refl) (and_l (fits_tag g (length (95 ∷ c))) (is_name c) b) (then f Wants at_value meet-wants q))
+          rw z (tagged (lead g Tag c) (95 ∷ c) (reads-tag g f c (and_r (fits_tag g (length (95 ∷ c))) (is_name c) b) Tag refl) (and_l (fits_tag g (length (95 ∷ c))) (is_name c) b) (then f Wants on_value meet-wants q))
 
-      by_loop : k ≡ Loop → (n : ℕ) → follow (opens_loop f n) onto ≡ true → Here f (at-items e)
+      by_loop : k ≡ Loop → (n : ℕ) → follow (opens_loop f n) onto ≡ true → Here f (on_items e)
       by_loop z zero q = unfold opens_loop in follow-falls onto q
-      by_loop z (suc n) q = unfold opens_loop in rw z (looped e _ _ (reads-loop g f (content_bytes ar Loop r)) (then f (Names (suc n) (suc n)) (at_names 0) (meet-names (suc n) 0 n (omega arith)) q))
+      by_loop z (suc n) q = unfold opens_loop in rw z (looped e _ _ (reads-loop g f (content_bytes ar Loop r)) (then f (Names (suc n) (suc n)) (on_names 0) (meet-names (suc n) 0 n (omega arith)) q))
 
-      by-open : k ≡ FrameOpen → (f : Bool) → follow (cond f Falls (Stands true (Items false))) onto ≡ true → Here f (at-items e)
+      by-open : k ≡ FrameOpen → (f : Bool) → follow (cond f Falls (Stands true (Items false))) onto ≡ true → Here f (on_items e)
       by-open z true q = follow-falls onto q
       by-open z false q =
           let c = content_bytes ar FrameOpen r in
           let b = by_kind g ar r FrameOpen refl (rw z at h) in
-          rw z (opened e (lead g FrameOpen c) (key_save ++ c) (reads-open g c (and_r (heading_fits g (length (key_save ++ c))) (is_name c) b)) (and_l (heading_fits g (length (key_save ++ c))) (is_name c) b) (then true (Items false) (at-items false) (meet-items false) q))
+          rw z (opened e (lead g FrameOpen c) (key_save ++ c) (reads-open g c (and_r (heading_fits g (length (key_save ++ c))) (is_name c) b)) (and_l (heading_fits g (length (key_save ++ c))) (is_name c) b) (then true (Items false) (on_items false) (meet-items false) q))
 
-      by-shut : k ≡ FrameClose → (f : Bool) → follow (cond f (Stands false (Items false)) Falls) onto ≡ true → Here f (at-items e)
-      by-shut z true q = rw z (shut e _ _ (reads-shut g (content_bytes ar FrameClose r)) shut-five (then false (Items false) (at-items false) (meet-items false) q))
+      by-shut : k ≡ FrameClose → (f : Bool) → follow (cond f (Stands false (Items false)) Falls) onto ≡ true → Here f (on_items e)
+      by-shut z true q = rw z (shut e _ _ (reads-shut g (content_bytes ar FrameClose r)) shut-five (then false (Items false) (on_items false) (meet-items false) q))
       by-shut z false q = follow-falls onto q
 
 nested-from : (g : Reading) (ar : List ℕ) {a n : ℕ} {es : List Entry} → Filled g ar a n es → (f : Bool) (w : Where) (x : Spot) → Meets w x → nested_from g es f w ≡ true → Nested g f x (lines_for g ar es)
@@ -356,5 +356,5 @@ nested-from g ar (more {es = es} {k = k} {f = r} {next = next} h z d) f w x (mee
 nested-from g ar (more {es = es} {k = k} {f = r} {next = next} h z d) f w x meet-wants q = want g ar es (λ f w x m q. nested-from g ar d f w x m q) k r next h f q
 
 -- NESTED AS A STORE, nested as the machine reads
-pub nested-lines : (g : Reading) (ar : List ℕ) {a n : ℕ} {es : List Entry} → Filled g ar a n es → nested_from g es false (Items false) ≡ true → Nested g false (at-items false) (lines_for g ar es)
-nested-lines g ar h q = nested-from g ar h false (Items false) (at-items false) (meet-items false) q
+pub nested-lines : (g : Reading) (ar : List ℕ) {a n : ℕ} {es : List Entry} → Filled g ar a n es → nested_from g es false (Items false) ≡ true → Nested g false (on_items false) (lines_for g ar es)
+nested-lines g ar h q = nested-from g ar h false (Items false) (on_items false) (meet-items false) q

@@ -56,7 +56,7 @@ use Rattle.round_trip.specs.Claims.{rendered_bytes, Renderable, RoundTrip}
 use Rattle.written.proofs.Runs.{all-span}
 use Rattle.written.proofs.Lexing.{mode_of}
 use Rattle.written.proofs.Reading.{reads}
-use Rattle.round_trip.proofs.Lines.{Line, line, render, recs_at, at-items}
+use Rattle.round_trip.proofs.Lines.{Line, line, render, recs_at, on_items}
 use Rattle.written.proofs.Taken.{outline-taken}
 use Rattle.written.proofs.Told.{told, sayings-told}
 use Rattle.round_trip.proofs.Trip.{Nested, trip, state_of, frame_of, Held}
@@ -118,7 +118,7 @@ unfolding word_for lead_for token_text
 heads First ar f h = head_step (key_data ++ content_bytes ar Block f) (head_of (content_bytes ar Block f) (heading-name First ar f h))
 heads Strict ar f h = reads-head before (content_bytes ar Block f) (heading-name Strict ar f h)
 
-run-reads : (r : Reading) (l w : List ℕ) (es : List Line) → Reads r before l w block → heading_fits r (length w) ≡ true → Nested r false (at-items false) es
+run-reads : (r : Reading) (l w : List ℕ) (es : List Line) → Reads r before l w block → heading_fits r (length w) ≡ true → Nested r false (on_items false) es
     → run r (tokens_from r (render (line 1 l w ∷ es)) 10 0 before 0) (config start none [] []) ≡ done (recs_at 0 (line 1 l w ∷ es))
 unfolding render recs_at run move at_start follow config rec tok lexed mode_of state_of frame_of Held Reads after
 run-reads r l w es h g n = rw (h (render es) 0, g) (trip n (suc (0 + length l + length w)) 0 0 _ [] refl)

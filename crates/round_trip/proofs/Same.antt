@@ -2,7 +2,7 @@
 -- those that were rendered (store_same, area_same). Assumes nothing.
 use Prim.Native.Nat.{ℕ, zero, suc, ◌+◌, ◌-◌, ◌%◌, ◌≤◌, ◌<◌}
 use mathlib.Core.Bool.{true≢false, false≢true, Bool, true, false, cond}
-use mathlib.Core.Path.{◌≡◌, refl, sym, ap, ap₂}
+use mathlib.Core.Path.{◌≡◌, refl, sym, ap, ap₂, subst}
 use mathlib.Core.List.{List, [], ◌∷◌, ◌++◌, append_assoc, append-nil, map}
 use native.Mathlib.Omega.{arith}
 use borrow.Author.Tests.{leb-true}
@@ -213,9 +213,13 @@ all_same g ar (more {es = es} {k = k} {f = f} {next = next} h z d) p o x = by (i
     by true e r = ap₂ {C = List Saying} ◌∷◌ (say-end g _ ar k f next h e) (r p o x)
     by false e r =
         ap₂ {C = List Saying} ◌∷◌
-        (let y : p ++ (l ++ (w ++ q)) ≡ (p ++ l) ++ (w ++ q) = simp append_assoc in
-        let n : o + length l ≡ length (p ++ l) = simp length-append (omega arith) in
-        rw (y, n) (unfold rendered in say-same g ar k f h next (p ++ l) q))
+        (let y : (p ++ l) ++ (w ++ q) ≡ p ++ (l ++ (w ++ q)) = append_assoc p l (w ++ q) in
+        let n : length (p ++ l) ≡ o + length l = simp length-append (omega arith) in
+        let here : told ((p ++ l) ++ (w ++ q)) (record { kind = number_of k; at = length (p ++ l); size = length w }) ≡ saying ar (Record k f next) =
+            unfold rendered in say-same g ar k f h next (p ++ l) q in
+        let there : told (p ++ (l ++ (w ++ q))) (record { kind = number_of k; at = length (p ++ l); size = length w }) ≡ saying ar (Record k f next) =
+            subst (λ (x : List ℕ). told x (record { kind = number_of k; at = length (p ++ l); size = length w }) ≡ saying ar (Record k f next)) y here in
+        subst (λ (m : ℕ). told (p ++ (l ++ (w ++ q))) (record { kind = number_of k; at = m; size = length w }) ≡ saying ar (Record k f next)) n there)
         (let y : p ++ (l ++ (w ++ q)) ≡ (p ++ (l ++ (w ++ 10 ∷ []))) ++ render (lines_for g ar es) = simp append_assoc in
         rw y (r (p ++ (l ++ (w ++ 10 ∷ []))) (suc (o + length l + length w)) (simp length-append (omega arith))))
 

@@ -16,29 +16,29 @@ use Rattle.grammar.specs.Tokens.{in_block, in_frame, lex_in, lex, after, Tok, to
 use Rattle.grammar.specs.Machine.{Rec, done, State, items, names, values, wants, config, go, rec, loop_end, lacks_values, in_block_only, reason, shuts, at_item, loop_ends, at_value, no_more_names, at_name, at_want, move, follow, run}
 use Rattle.grammar.proofs.Descent.{any-detail}
 use Rattle.written.proofs.Lexing.{mode_of}
-use Rattle.round_trip.proofs.Lines.{Line, line, ending, render, recs_at, Where, at-items, at_names, at-values, at_value}
+use Rattle.round_trip.proofs.Lines.{Line, line, ending, render, recs_at, Where, on_items, on_names, on_values, on_value}
 use Rattle.round_trip.proofs.Passes.{Reads}
 
 -- lines nested, in a form to go through: a further heading is the strict reading's, a loop without rows the first one's
 pub data Nested : Reading → Bool → Where → List Line → Type 0 where
-  over : {r : Reading} (e : Bool) → Nested r false (at-items e) []
-  headed : {es : List Line} (e : Bool) (l w : List ℕ) → Reads Strict in_block l w block → heading_fits Strict (length w) ≡ true → Nested Strict false (at-items false) es → Nested Strict false (at-items e) (line 1 l w ∷ es)
-  tagged : {r : Reading} {f : Bool} {es : List Line} (l w : List ℕ) → Reads r (mode_of f) l w tag → fits_tag r (length w) ≡ true → Nested r f at_value es → Nested r f (at-items false) (line 4 l w ∷ es)
-  valued : {r : Reading} {f : Bool} {es : List Line} (k : ℕ) (l w : List ℕ) → Reads r (mode_of f) l w (value k) → Nested r f (at-items false) es → Nested r f at_value (line k l w ∷ es)
-  looped : {r : Reading} {f : Bool} {es : List Line} (e : Bool) (l w : List ℕ) → Reads r (mode_of f) l w loop → Nested r f (at_names 0) es → Nested r f (at-items e) (line 5 l w ∷ es)
-  named : {r : Reading} {f : Bool} {es : List Line} (n : ℕ) (l w : List ℕ) → Reads r (mode_of f) l w tag → fits_tag r (length w) ≡ true → Nested r f (at_names (suc n)) es → Nested r f (at_names n) (line 6 l w ∷ es)
-  first-value : {r : Reading} {f : Bool} {es : List Line} (n k : ℕ) (l w : List ℕ) → Reads r (mode_of f) l w (value k) → Nested r f (at-values (suc n) 1) es → Nested r f (at_names (suc n)) (line k l w ∷ es)
-  no_rows : {f : Bool} {es : List Line} (n : ℕ) → Nested First f (at-items true) es → Nested First f (at_names (suc n)) (ending ∷ es)
-  next-value : {r : Reading} {f : Bool} {es : List Line} (n j k : ℕ) (l w : List ℕ) → Reads r (mode_of f) l w (value k) → Nested r f (at-values n (suc j)) es → Nested r f (at-values n j) (line k l w ∷ es)
-  rows : {r : Reading} {f : Bool} {es : List Line} (n j : ℕ) → lacks_values r j ≡ false → j % n ≡ 0 → Nested r f (at-items false) es → Nested r f (at-values n j) (ending ∷ es)
-  opened : {r : Reading} {es : List Line} (e : Bool) (l w : List ℕ) → Reads r in_block l w save → heading_fits r (length w) ≡ true → Nested r true (at-items false) es → Nested r false (at-items e) (line 2 l w ∷ es)
-  shut : {r : Reading} {es : List Line} (e : Bool) (l w : List ℕ) → Reads r in_frame l w save → length w ≡ 5 → Nested r false (at-items false) es → Nested r true (at-items e) (line 3 l w ∷ es)
+  over : {r : Reading} (e : Bool) → Nested r false (on_items e) []
+  headed : {es : List Line} (e : Bool) (l w : List ℕ) → Reads Strict in_block l w block → heading_fits Strict (length w) ≡ true → Nested Strict false (on_items false) es → Nested Strict false (on_items e) (line 1 l w ∷ es)
+  tagged : {r : Reading} {f : Bool} {es : List Line} (l w : List ℕ) → Reads r (mode_of f) l w tag → fits_tag r (length w) ≡ true → Nested r f on_value es → Nested r f (on_items false) (line 4 l w ∷ es)
+  valued : {r : Reading} {f : Bool} {es : List Line} (k : ℕ) (l w : List ℕ) → Reads r (mode_of f) l w (value k) → Nested r f (on_items false) es → Nested r f on_value (line k l w ∷ es)
+  looped : {r : Reading} {f : Bool} {es : List Line} (e : Bool) (l w : List ℕ) → Reads r (mode_of f) l w loop → Nested r f (on_names 0) es → Nested r f (on_items e) (line 5 l w ∷ es)
+  named : {r : Reading} {f : Bool} {es : List Line} (n : ℕ) (l w : List ℕ) → Reads r (mode_of f) l w tag → fits_tag r (length w) ≡ true → Nested r f (on_names (suc n)) es → Nested r f (on_names n) (line 6 l w ∷ es)
+  first-value : {r : Reading} {f : Bool} {es : List Line} (n k : ℕ) (l w : List ℕ) → Reads r (mode_of f) l w (value k) → Nested r f (on_values (suc n) 1) es → Nested r f (on_names (suc n)) (line k l w ∷ es)
+  no_rows : {f : Bool} {es : List Line} (n : ℕ) → Nested First f (on_items true) es → Nested First f (on_names (suc n)) (ending ∷ es)
+  next-value : {r : Reading} {f : Bool} {es : List Line} (n j k : ℕ) (l w : List ℕ) → Reads r (mode_of f) l w (value k) → Nested r f (on_values n (suc j)) es → Nested r f (on_values n j) (line k l w ∷ es)
+  rows : {r : Reading} {f : Bool} {es : List Line} (n j : ℕ) → lacks_values r j ≡ false → j % n ≡ 0 → Nested r f (on_items false) es → Nested r f (on_values n j) (ending ∷ es)
+  opened : {r : Reading} {es : List Line} (e : Bool) (l w : List ℕ) → Reads r in_block l w save → heading_fits r (length w) ≡ true → Nested r true (on_items false) es → Nested r false (on_items e) (line 2 l w ∷ es)
+  shut : {r : Reading} {es : List Line} (e : Bool) (l w : List ℕ) → Reads r in_frame l w save → length w ≡ 5 → Nested r false (on_items false) es → Nested r true (on_items e) (line 3 l w ∷ es)
 
 unfoldable pub state_of : Where → ℕ → State
-state_of (at-items e) a = items 0
-state_of (at_names n) a = names a n
-state_of (at-values n k) a = values a n k
-state_of at_value a = wants a
+state_of (on_items e) a = items 0
+state_of (on_names n) a = names a n
+state_of (on_values n k) a = values a n k
+state_of on_value a = wants a
 
 unfoldable pub frame_of : Bool → ℕ → Option ℕ
 frame_of true a = some a
@@ -46,10 +46,10 @@ frame_of false a = none
 
 -- between items nothing is held
 unfoldable pub Held : Where → List Rec → Type 0
-Held (at-items e) h = h ≡ []
-Held (at_names n) h = Unit {0}
-Held (at-values n k) h = Unit {0}
-Held at_value h = Unit {0}
+Held (on_items e) h = h ≡ []
+Held (on_names n) h = Unit {0}
+Held (on_values n k) h = Unit {0}
+Held on_value h = Unit {0}
 
 -- the text's end
 end-lex : (r : Reading) → lex r 10 in_block [] ≡ lexed (nothing at_end) 0
@@ -76,7 +76,7 @@ record Begun (r : Reading) (f e : Bool) (es : List Line) (o : ℕ) : Type 0 wher
   reads : tokens_from r (render es) 10 0 (mode_of f) o ≡ t ∷ ts
   begins : Begins e t.class
 
-first-token : {r : Reading} {f e : Bool} {es : List Line} → Nested r f (at-items e) es → (o : ℕ) → Begun r f e es o
+first-token : {r : Reading} {f e : Bool} {es : List Line} → Nested r f (on_items e) es → (o : ℕ) → Begun r f e es o
 unfolding render tokens_from mode_of lexed tok Reads
 first-token (over {r} e) o = record { t = tok (lexed (nothing at_end) 0) o; ts = []; reads = rw (end-lex r); begins = by_end e }
 first-token (headed {es} e l w r g n) o = record { t = _; ts = _; reads = r (render es) o; begins = by-block e }
@@ -109,7 +109,7 @@ names-end a n fr out held t (by-save e) q = ap (λ c. at_value First a (suc n) 0
 names-end a n fr out held t (by_end e) q = ap (λ c. at_value First a (suc n) 0 fr out held c t) q ∙ values-end First a (suc n) 0 fr out held t (by_end e) refl (zero-mod (suc n))
 
 -- what is read behind the loop is what is read where its list has ended
-values-wait : {r : Reading} {f e : Bool} {es : List Line} → Nested r f (at-items e) es → (o a n j : ℕ) (fr : Option ℕ) (out held rs : List Rec) → lacks_values r j ≡ false → j % n ≡ 0
+values-wait : {r : Reading} {f e : Bool} {es : List Line} → Nested r f (on_items e) es → (o a n j : ℕ) (fr : Option ℕ) (out held rs : List Rec) → lacks_values r j ≡ false → j % n ≡ 0
     → run r (tokens_from r (render es) 10 0 (mode_of f) o) (config (items 0) fr (out ++ held ++ (loop_end ∷ [])) []) ≡ done rs
     → run r (tokens_from r (render es) 10 0 (mode_of f) o) (config (values a n j) fr out held) ≡ done rs
 unfolding run move config
@@ -118,7 +118,7 @@ values-wait {r} {f} {es = es} d o a n j fr out held rs y z h =
     let k = any-detail r 0 (in_block_only fr (reason x.t.class)) fr (x.t ∷ x.ts) (out ++ held ++ (loop_end ∷ [])) rs (rw x.reads at h) in
     rw x.reads (ap (λ m. follow m (λ c. run r x.ts c)) (values-end r a n j fr out held x.t x.begins y z) ∙ k)
 
-names-wait : {f : Bool} {es : List Line} → Nested First f (at-items true) es → (o a n : ℕ) (fr : Option ℕ) (out held rs : List Rec)
+names-wait : {f : Bool} {es : List Line} → Nested First f (on_items true) es → (o a n : ℕ) (fr : Option ℕ) (out held rs : List Rec)
     → run First (tokens_from First (render es) 10 0 (mode_of f) o) (config (items 0) fr (out ++ held ++ (loop_end ∷ [])) []) ≡ done rs
     → run First (tokens_from First (render es) 10 0 (mode_of f) o) (config (names a (suc n)) fr out held) ≡ done rs
 unfolding run move config

@@ -45,6 +45,8 @@ from_on (Record k f n ∷ es) i u z m = by (is_value_kind (number_of k)) m (λ q
         omega arith
     by true (there q) again = omega (arith, again q)
     by false q again = omega (arith, again q)
+from_on [] i u z m = elim m [ ]
+from_on (Nothing ∷ es) i u z m = elim m [ ]
 
 ascending : (es : List Entry) (i : ℕ) (u : Under) (pre : List Cell) (y : Cell) (post : List Cell) → cells_from es i u ≡ pre ++ (y ∷ post) → (c : Cell) → In c pre → c.number < y.number
 unfolding cells_from cell
@@ -71,6 +73,9 @@ ascending (Record k f n ∷ es) i u (p ∷ pre) y post e c m = by (is_value_kind
         let number : i ≡ c.number = ap (λ (z : Cell). z.number) (first ∙ w) in
         let later : suc i ≤ y.number = from_on es (suc i) (under (number_of k) f.number i u) y (subst (λ (l : List Cell). In y l) (sym rest) (in-mid pre y post)) in
         omega arith
+ascending [] i u [] y post e c m = elim m [ ]
+ascending (Record k f n ∷ es) i u [] y post e c m = elim m [ ]
+ascending (Nothing ∷ es) i u [] y post e c m = elim m [ ]
 
 module _ (st ar : List ℕ) (g : Singular st ar) where
   told : (y : Cell) → In y (cells st) → Told st ar y
@@ -173,6 +178,7 @@ module _ (st ar st' ar' : List ℕ) (g : Singular st' ar') where
             let its : x'.row ≡ c.row = (common-of st ar st' ar' x' c q).row in
             let one : y.row ≡ c.row = ap (λ (z : Cell). z.row) w in
             omega (arith, row)
+        itself c (Rattle.soles.specs.Members.there x6) q = elim x6 [ ]
 
     -- WHERE A ROW HAS NO PARTNER, NO LATER ONE HAS
     descend : (d : ℕ) (y : Cell) → In y (cells st') → Common st ar st' ar' (record { number = 0; frame = x.frame; tag = x.tag; row = y.row }) y → y.row ≡ x.row + d → partner st ar st' ar' x ≡ none → ⊥

@@ -333,6 +333,22 @@ module _ (st ar : List ℕ) where
         met (told-value all j i u ft c.framed) (again (subst (λ (z : Under). Filling all (suc j) (suc i) z) (sym e) fill)) (counts q p)
     step (Values all j) (Items a) (end q) d ft again p = again tt (passes (rw q) p)
     step Wants (Items a) (single q) d ft again p = met (told-value 1 0 i u ft c.framed) (again tt) (counts q p)
+    step w Start x5 d ft again p = elim x5 [ ]
+    step Start (Names all left) x11 d ft again p = elim x11 [ ]
+    step (Names all zero) (Names all₂ left₂) x18 d ft again p = elim x18 [ ]
+    step (Names all (suc zero)) (Names all₂ left₂) x25 d ft again p = elim x25 [ ]
+    step (Values _ j) (Names all left) x14 d ft again p = elim x14 [ ]
+    step Wants (Names all left) x14 d ft again p = elim x14 [ ]
+    step Start (Values all₂ j₂) x12 d ft again p = elim x12 [ ]
+    step (Items b) (Values all₂ j₂) x13 d ft again p = elim x13 [ ]
+    step (Names all zero) (Values all₂ j₂) x20 d ft again p = elim x20 [ ]
+    step (Names all (suc zero)) (Values all₂ (suc _)) x33 d ft again p = elim x33 [ ]
+    step (Names all (suc (suc left))) (Values all₂ j₂) x28 d ft again p = elim x28 [ ]
+    step Wants (Values all₂ j₂) x15 d ft again p = elim x15 [ ]
+    step Start Wants x13 d ft again p = elim x13 [ ]
+    step (Names all _) Wants x15 d ft again p = elim x15 [ ]
+    step (Values all j) Wants x15 d ft again p = elim x15 [ ]
+    step Wants Wants x16 d ft again p = elim x16 [ ]
 
   -- the blocks that are left
   no_block : (k : Kind) (f : Fields) (m : ℕ) (es : List Entry) → blocks_in (Record k f m ∷ es) ≡ 0 → (number_of k ≡ 1 → ⊥) × (blocks_in es ≡ 0)
@@ -355,6 +371,8 @@ module _ (st ar : List ℕ) where
           ((g' : Bool) (w' : Where) → nested_from r es g' w' ≡ true → Fit w' (suc i) (under (number_of k) f.number i u) → In y (cells_from es (suc i) (under (number_of k) f.number i u)) → Told y) → Told y
       on (Stands g' w') q n d again = step k f m es i u c y w w' (leads r g w (number_of k) f.number g' w' q) d ft (λ ft' x. again g' w' n ft' x) p
       on Falls q n d again = absurd (true≢false (sym n))
+  walked r [] g w i u n b c ft y p = elim p [ ]
+  walked r (Nothing ∷ es) g w i u n b c ft y p = elim p [ ]
 
   -- behind the block's own record
   common-first : (k : Kind) (f : Fields) (m : ℕ) (es : List Entry) → entries st ≡ Record k f m ∷ es → number_of k ≡ 1 → Common es 1 outset

@@ -101,8 +101,8 @@ record Inside (f : Bool) (m : Mode) : Type 0 where
   frame : f ≡ true
   mode : m ≡ in_frame
 
-in_frame : {f : Bool} {m : Mode} {a : ℕ} → In f m (some a) → Inside f m
-in_frame (frame-mode a) = record { frame = refl; mode = refl }
+in-frame : {f : Bool} {m : Mode} {a : ℕ} → In f m (some a) → Inside f m
+in-frame (frame-mode a) = record { frame = refl; mode = refl }
 
 record Outside (f : Bool) (m : Mode) : Type 0 where
   frame : f ≡ false
@@ -155,7 +155,7 @@ module _ (g : Reading) (s : List ℕ) (m : Mode) (t : Tok) (reads : lex g (byte_
   unfolding Ok fails
   fails_by First o n a d none out i h b = tt
   fails_by First o n a d {f} {e} (some x) out i h b =
-      let j = in_frame i in
+      let j = in-frame i in
       closes-ok o x e out t.class j.mode refl (rw j.frame at h) b
   fails_by Strict o n a d fr out i h b = either-ok o n a d (is_joined t.class)
 
@@ -199,7 +199,7 @@ module _ (g : Reading) (s : List ℕ) (m : Mode) (t : Tok) (reads : lex g (byte_
         spent = omega (arith, bytes-append out (rec 2 t ∷ []));
       })
   item_ok o d {e = e} (some x) out save i h b p n =
-      let j = in_frame i in
+      let j = in-frame i in
       shuts-ok g o x e out j.mode p (rw j.frame at h) b
   item_ok o d {e = e} none out (nothing at_end) i h b p n = record { rowless = e; taken = rw (in-block i).frame at h; spent = b }
   item_ok o d (some x) out (nothing at_end) i h b p n = tt

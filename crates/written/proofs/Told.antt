@@ -1,7 +1,7 @@
 -- What Read's store and area say. Proved: record by record, the kind, the content and the decimal parts of the text's records (sayings-told). Assumes nothing.
 use Prim.Native.Nat.{ℕ, zero, suc, ◌+◌, ◌-◌, ◌≤◌, ◌<◌}
 use mathlib.Core.Bool.{Bool, true, false, cond}
-use mathlib.Core.Path.{◌≡◌, refl, sym, ap₂, ◌∙◌}
+use mathlib.Core.Path.{◌≡◌, refl, sym, ap₂, ◌∙◌, subst}
 use mathlib.Core.List.{List, [], ◌∷◌, ◌++◌, append_assoc, map}
 use native.Mathlib.Omega.{arith}
 use lib.ListN.{length, take, drop, length-append, length-take, length-drop}
@@ -99,7 +99,7 @@ unfolding written area_of
 say-all g s none before a e = refl
 say-all g s (also {r = r} {rs = rs} p h) before a e =
     ap₂ {C = List Saying} ◌∷◌ (say-one g s r p before (area_of s rs) a (tags_of rs) e)
-    (rw (← append_assoc before (content_of s r) (area_of s rs))
+    (subst (λ (x : List ℕ). map (saying x) (written s (a + content_size r.kind r.size) rs) ≡ map (told s) rs) (append_assoc before (content_of s r) (area_of s rs))
     (say-all g s h (before ++ content_of s r) (a + content_size r.kind r.size) (simp length-append (omega (arith, content-length g s r p)))))
 
 -- WHAT READ'S STORE SAYS

@@ -1,0 +1,13 @@
+-- `openings::at_close`: the keyword by the reading, then the byte before. Assumes nothing.
+use mathlib.Core.Path.{sym, ◌∙◌}
+use Rattle.keywords.specs.Keywords.{key_save}
+use Rattle.openings.proofs.Openings.{close-not, close-here}
+use Rattle.openings.proofs.at_close.Goals as goal
+
+pub returns-then-not-stands_at : goal.returns-then-not-stands_at
+unfolding key_save
+returns-then-not-stands_at c = close-not _ _ _ (sym c.stands_at.ensures ∙ c.if-not-stands_at.true)
+
+pub returns : goal.returns
+unfolding key_save
+returns c = c.is_parted.ensures ∙ close-here _ _ _ (sym c.stands_at.ensures ∙ c.if-not-stands_at.false)

@@ -1,0 +1,24 @@
+-- `putting::write_end`: a record without a token, and the place stays. Assumes nothing.
+use Prim.Native.Nat.{◌+◌}
+use mathlib.Core.Path.{refl, ap}
+use native.Mathlib.Omega.{arith}
+use Rattle.records.proofs.Putting.{part-put}
+use Rattle.desk.proofs.Copy.{rest-room}
+use Rattle.desk.proofs.Ones.{end-size, end-length, end-wrote}
+use Rattle.putting.proofs.write_end.Goals as goal
+
+pub write_end-requires : goal.write_end-requires
+write_end-requires c =
+    let a = c.args in
+    rest-room a.c.at 1 a.store.now (omega (arith, c.requires, end-size a.full))
+
+pub overflow_add-result : goal.overflow_add-result
+overflow_add-result c =
+    let a = c.args in
+    omega (arith, c.requires, c.record_length.ensures, end-length a.full)
+
+pub returns : goal.returns
+returns c =
+    let a = c.args in
+    λ s l g. end-wrote a.full s a.c _ a.store.now _ l g refl (ap (λ x. a.c.at + x) c.record_length.ensures) refl
+    (part-put a.c.at _ a.store.now _ c.write_end.ensures)

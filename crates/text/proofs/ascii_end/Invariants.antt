@@ -1,0 +1,20 @@
+-- `text::ascii_end`: by blocks, then byte by byte. Assumes nothing.
+use Prim.Native.Nat.{◌-◌}
+use mathlib.Core.Path.{◌≡◌}
+use lib.ListN.{length}
+use Rattle.text.specs.Bytes.{is_ascii}
+use Rattle.text.specs.Runs.{span, span_end}
+use Rattle.text.proofs.ascii_end.Given as goal
+
+-- the run from the start on ends where the run from here on ends
+abbrev pub invariant-loop-at : goal.invariant-loop-at
+invariant-loop-at l = span is_ascii l.s ≡ span_end is_ascii l.s l.at
+
+abbrev pub decreases-loop-at : goal.decreases-loop-at
+decreases-loop-at l = length l.s - l.at
+
+abbrev pub invariant-loop-at-2 : goal.invariant-loop-at-2
+invariant-loop-at-2 l = span is_ascii l.s ≡ span_end is_ascii l.s l.at
+
+abbrev pub decreases-loop-at-2 : goal.decreases-loop-at-2
+decreases-loop-at-2 l = length l.s - l.at
