@@ -216,9 +216,9 @@ all_same g ar (more {es = es} {k = k} {f = f} {next = next} h z d) p o x = by (i
         (let y : (p ++ l) ++ (w ++ q) ≡ p ++ (l ++ (w ++ q)) = append_assoc p l (w ++ q) in
         let n : length (p ++ l) ≡ o + length l = simp length-append (omega arith) in
         let here : told ((p ++ l) ++ (w ++ q)) (record { kind = number_of k; at = length (p ++ l); size = length w }) ≡ saying ar (Record k f next) =
-            unfold rendered in say-same g ar k f h next (p ++ l) q in
+        unfold rendered in say-same g ar k f h next (p ++ l) q in
         let there : told (p ++ (l ++ (w ++ q))) (record { kind = number_of k; at = length (p ++ l); size = length w }) ≡ saying ar (Record k f next) =
-            subst (λ (x : List ℕ). told x (record { kind = number_of k; at = length (p ++ l); size = length w }) ≡ saying ar (Record k f next)) y here in
+        subst (λ (x : List ℕ). told x (record { kind = number_of k; at = length (p ++ l); size = length w }) ≡ saying ar (Record k f next)) y here in
         subst (λ (m : ℕ). told (p ++ (l ++ (w ++ q))) (record { kind = number_of k; at = m; size = length w }) ≡ saying ar (Record k f next)) n there)
         (let y : p ++ (l ++ (w ++ q)) ≡ (p ++ (l ++ (w ++ 10 ∷ []))) ++ render (lines_for g ar es) = simp append_assoc in
         subst (λ (x : List ℕ). map (told x) (recs_at (suc (o + length l + length w)) (lines_for g ar es)) ≡ map (saying ar) es) (sym y)

@@ -32,7 +32,7 @@ pub join-sizes-requires : goal.join-sizes-requires
 unfolding limit
 join-sizes-requires c =
     let known : PassedInside c.args.reading c.args.s.now c.args.start c.loop-next.at c.in_frame-inside.result =
-      let l = c.loop-next in
+    let l = c.loop-next in
     inside-known _ _ _ l.at _ _ l.invariant.within l.invariant.bare c.parse_data_item.ensures c.in_frame-inside.ensures in
     let l = c.loop-next in
     let small = c.requires.0.small in
@@ -42,7 +42,7 @@ join-sizes-requires c =
 pub loop-next-smaller : goal.loop-next-smaller
 loop-next-smaller c =
     let known : PassedInside c.args.reading c.args.s.now c.args.start c.loop-next.at c.in_frame-inside.result =
-      let l = c.loop-next in
+    let l = c.loop-next in
     inside-known _ _ _ l.at _ _ l.invariant.within l.invariant.bare c.parse_data_item.ensures c.in_frame-inside.ensures in
     let l = c.loop-next in
     let r = inside-read (known) c.in-Read-inside.is in
@@ -51,7 +51,7 @@ loop-next-smaller c =
 pub loop-next-preserved : goal.loop-next-preserved
 loop-next-preserved c =
     let known : PassedInside c.args.reading c.args.s.now c.args.start c.loop-next.at c.in_frame-inside.result =
-      let l = c.loop-next in
+    let l = c.loop-next in
     inside-known _ _ _ l.at _ _ l.invariant.within l.invariant.bare c.parse_data_item.ensures c.in_frame-inside.ensures in
     let l = c.loop-next in
     let r = inside-read (known) c.in-Read-inside.is in
@@ -61,7 +61,7 @@ pub close_frame-requires : goal.close_frame-requires
 unfolding limit
 close_frame-requires c =
     let known : PassedInside c.args.reading c.args.s.now c.args.start c.loop-next.at c.in_frame-inside.result =
-      let l = c.loop-next in
+    let l = c.loop-next in
     inside-known _ _ _ l.at _ _ l.invariant.within l.invariant.bare c.parse_data_item.ensures c.in_frame-inside.ensures in
     let l = c.loop-next in
     let small = c.requires.0.small in
@@ -71,7 +71,7 @@ close_frame-requires c =
 pub returns-in-Dropped : goal.returns-in-Dropped
 returns-in-Dropped c =
     let known : PassedInside c.args.reading c.args.s.now c.args.start c.loop-next.at c.in_frame-inside.result =
-      let l = c.loop-next in
+    let l = c.loop-next in
     inside-known _ _ _ l.at _ _ l.invariant.within l.invariant.bare c.parse_data_item.ensures c.in_frame-inside.ensures in
     let l = c.loop-next in
     rw c.close_frame.ensures (frame-ends _ _ _ l.at _ l.sizes l.invariant (inside-dropped (known) c.in-Dropped.is))
@@ -79,7 +79,7 @@ returns-in-Dropped c =
 pub returns-in-Refused : goal.returns-in-Refused
 returns-in-Refused c =
     let known : PassedInside c.args.reading c.args.s.now c.args.start c.loop-next.at c.in_frame-inside.result =
-      let l = c.loop-next in
+    let l = c.loop-next in
     inside-known _ _ _ l.at _ _ l.invariant.within l.invariant.bare c.parse_data_item.ensures c.in_frame-inside.ensures in
     let l = c.loop-next in
     frame_refused _ _ _ l.at l.sizes _ _ l.invariant (inside-refused _ _ _ l.at (known) c.in-Refused.is)

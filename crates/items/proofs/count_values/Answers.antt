@@ -22,7 +22,7 @@ pack_value-requires c = omega (arith, c.requires.small)
 pub returns-in_default-found : goal.returns-in_default-found
 returns-in_default-found c =
     let found : c.of-found.result ≡ found_at c.args.reading c.args.s.now c.loop-kind.at =
-      found-packed _ _ _ _ _ c.pack_value.ensures c.of-found.ensures in
+    found-packed _ _ _ _ _ c.pack_value.ensures c.of-found.ensures in
     let l = c.loop-kind in
     let f = c.of-found.result in
     rw (over-left f (opened c.in_default.in_default-own.keys2) (opened c.in_default-found.in_default-found-own.keys2))
@@ -31,7 +31,7 @@ returns-in_default-found c =
 pub returns-in_default : goal.returns-in_default
 returns-in_default c =
     let found : c.of-found.result ≡ found_at c.args.reading c.args.s.now c.loop-kind.at =
-      found-packed _ _ _ _ _ c.pack_value.ensures c.of-found.ensures in
+    found-packed _ _ _ _ _ c.pack_value.ensures c.of-found.ensures in
     let l = c.loop-kind in
     let f = c.of-found.result in
     rw c.in-Missing.is at (values-all _ _ _ l.at l.count l.sizes f l.invariant (found) (not-value f (opened c.in_default.in_default-own.keys2)))
@@ -40,7 +40,7 @@ pub add_value-sizes-requires : goal.add_value-sizes-requires
 unfolding limit
 add_value-sizes-requires c =
     let found : c.of-found.result ≡ found_at c.args.reading c.args.s.now c.loop-kind.at =
-      found-packed _ _ _ _ _ c.pack_value.ensures c.of-found.ensures in
+    found-packed _ _ _ _ _ c.pack_value.ensures c.of-found.ensures in
     let l = c.loop-kind in
     let ready = c.requires in
     let e = sym (found) ∙ c.in-Value.is in
@@ -57,7 +57,7 @@ pub overflow_add-at : goal.overflow_add-at
 unfolding limit
 overflow_add-at c =
     let found : c.of-found.result ≡ found_at c.args.reading c.args.s.now c.loop-kind.at =
-      found-packed _ _ _ _ _ c.pack_value.ensures c.of-found.ensures in
+    found-packed _ _ _ _ _ c.pack_value.ensures c.of-found.ensures in
     let l = c.loop-kind in
     let v = value-step _ _ l.at _ _ l.invariant.bare (sym (found) ∙ c.in-Value.is) in
     omega (arith, v.within, c.requires.small)
@@ -65,7 +65,7 @@ overflow_add-at c =
 pub loop-kind-smaller : goal.loop-kind-smaller
 loop-kind-smaller c =
     let found : c.of-found.result ≡ found_at c.args.reading c.args.s.now c.loop-kind.at =
-      found-packed _ _ _ _ _ c.pack_value.ensures c.of-found.ensures in
+    found-packed _ _ _ _ _ c.pack_value.ensures c.of-found.ensures in
     let l = c.loop-kind in
     let n = values-next _ _ _ l.at l.count _ _ _ l.sizes _ l.invariant (sym (found) ∙ c.in-Value.is) c.gap_end-at.ensures c.add_value-sizes.ensures in
     omega (arith, n.0, n.1.within)
@@ -73,6 +73,6 @@ loop-kind-smaller c =
 pub loop-kind-preserved : goal.loop-kind-preserved
 loop-kind-preserved c =
     let found : c.of-found.result ≡ found_at c.args.reading c.args.s.now c.loop-kind.at =
-      found-packed _ _ _ _ _ c.pack_value.ensures c.of-found.ensures in
+    found-packed _ _ _ _ _ c.pack_value.ensures c.of-found.ensures in
     let l = c.loop-kind in
     (values-next _ _ _ l.at l.count _ _ _ l.sizes _ l.invariant (sym (found) ∙ c.in-Value.is) c.gap_end-at.ensures c.add_value-sizes.ensures).1

@@ -30,7 +30,7 @@ pack_value-requires c = omega (arith, c.requires.0.small)
 pub overflow_sub-end-in-Value : goal.overflow_sub-end-in-Value
 overflow_sub-end-in-Value c =
     let tag_read : TagRead c.args.reading c.args.s.now c.args.at c.long_word_end-end.result c.gap_end-stop.result c.of-found.result =
-      let p = c.requires in
+    let p = c.requires in
     record {
       bare = p.0.none;
       tagged = p.1;
@@ -46,7 +46,7 @@ pub add-requires : goal.add-requires
 unfolding limit
 add-requires c =
     let tag_read : TagRead c.args.reading c.args.s.now c.args.at c.long_word_end-end.result c.gap_end-stop.result c.of-found.result =
-      let p = c.requires in
+    let p = c.requires in
     record {
       bare = p.0.none;
       tagged = p.1;
@@ -62,7 +62,7 @@ pub add_value-sizes-requires : goal.add_value-sizes-requires
 unfolding limit
 add_value-sizes-requires c =
     let tag_read : TagRead c.args.reading c.args.s.now c.args.at c.long_word_end-end.result c.gap_end-stop.result c.of-found.result =
-      let p = c.requires in
+    let p = c.requires in
     record {
       bare = p.0.none;
       tagged = p.1;
@@ -85,7 +85,7 @@ pub overflow_add-stop : goal.overflow_add-stop
 unfolding limit
 overflow_add-stop c =
     let tag_read : TagRead c.args.reading c.args.s.now c.args.at c.long_word_end-end.result c.gap_end-stop.result c.of-found.result =
-      let p = c.requires in
+    let p = c.requires in
     record {
       bare = p.0.none;
       tagged = p.1;
@@ -99,7 +99,7 @@ overflow_add-stop c =
 pub returns-in-Value : goal.returns-in-Value
 returns-in-Value c =
     let tag_read : TagRead c.args.reading c.args.s.now c.args.at c.long_word_end-end.result c.gap_end-stop.result c.of-found.result =
-      let p = c.requires in
+    let p = c.requires in
     record {
       bare = p.0.none;
       tagged = p.1;
@@ -114,7 +114,7 @@ pub returns-in_default-found : goal.returns-in_default-found
 unfolding alone_answer
 returns-in_default-found c =
     let tag_read : TagRead c.args.reading c.args.s.now c.args.at c.long_word_end-end.result c.gap_end-stop.result c.of-found.result =
-      let p = c.requires in
+    let p = c.requires in
     record {
       bare = p.0.none;
       tagged = p.1;
@@ -130,7 +130,7 @@ pub returns : goal.returns
 unfolding alone_answer
 returns c =
     let tag_read : TagRead c.args.reading c.args.s.now c.args.at c.long_word_end-end.result c.gap_end-stop.result c.of-found.result =
-      let p = c.requires in
+    let p = c.requires in
     record {
       bare = p.0.none;
       tagged = p.1;

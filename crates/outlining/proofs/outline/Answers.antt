@@ -8,6 +8,6 @@ outline_fitting-requires c = fits_read _ _ _ _ c.judge-judged.ensures c.in-Fits.
 
 pub returns-in-Declines : goal.returns-in-Declines
 returns-in-Declines c = record {
-      answers = (outline-refused _ _ _ _ (declines-refuses _ _ _ _ c.judge-judged.ensures c.in-Declines.is)).0;
-      writes = (outline-refused _ _ _ _ (declines-refuses _ _ _ _ c.judge-judged.ensures c.in-Declines.is)).1;
-    }
+  answers = (outline-refused _ _ _ _ (declines-refuses _ _ _ _ c.judge-judged.ensures c.in-Declines.is)).0;
+  writes = (outline-refused _ _ _ _ (declines-refuses _ _ _ _ c.judge-judged.ensures c.in-Declines.is)).1;
+}

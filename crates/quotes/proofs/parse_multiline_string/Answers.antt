@@ -32,9 +32,10 @@ loop-at-preserved c =
     let e = c.next_semicolon-at.ensures in
     let h = c.if-s-at.false in
     let on : field_past c.args.s.now c.args.from l.at ≡ field_past c.args.s.now c.args.from (c.next_semicolon-at.result + 1) =
-      elim c.if-from-at.branch [
-        then-from-at+else-is_eol w ↦ past-plain _ _ _ _ l.invariant.0 e h (sym w.is_eol.ensures ∙ w.if-is_eol.false)
-      | else-from-at w ↦ past_first _ _ _ _ l.invariant.0 e h w.if-from-at.false ] in
+    elim c.if-from-at.branch [
+      | then-from-at+else-is_eol w ↦ past-plain _ _ _ _ l.invariant.0 e h (sym w.is_eol.ensures ∙ w.if-is_eol.false)
+      | else-from-at w ↦ past_first _ _ _ _ l.invariant.0 e h w.if-from-at.false
+    ] in
     (omega (arith, l.invariant.0, e, span-from (clear 0 59) c.args.s.now l.at), l.invariant.1 ∙ on)
 
 pub overflow_add-result : goal.overflow_add-result

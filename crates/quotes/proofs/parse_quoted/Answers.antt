@@ -17,18 +17,18 @@ returns-in_default c =
 pub returns-then-closes : goal.returns-then-closes
 returns-then-closes c =
     let found : mark_end c.args.mark c.args.s.now c.loop-end.at ≡ Behind c.in-Behind.end =
-      sym c.parse_enclosed-next.ensures ∙ c.in-Behind.is in
+    sym c.parse_enclosed-next.ensures ∙ c.in-Behind.is in
     sym (c.loop-end.invariant ∙ quoted-here _ _ c.requires _ _ _ (found) (sym c.closes.ensures ∙ c.if-closes.true))
 
 pub loop-end-smaller : goal.loop-end-smaller
 loop-end-smaller c =
     let found : mark_end c.args.mark c.args.s.now c.loop-end.at ≡ Behind c.in-Behind.end =
-      sym c.parse_enclosed-next.ensures ∙ c.in-Behind.is in
+    sym c.parse_enclosed-next.ensures ∙ c.in-Behind.is in
     let l = mark-lies _ c.requires _ _ _ (found) in
     omega (arith, l.0, l.1)
 
 pub loop-end-preserved : goal.loop-end-preserved
 loop-end-preserved c =
     let found : mark_end c.args.mark c.args.s.now c.loop-end.at ≡ Behind c.in-Behind.end =
-      sym c.parse_enclosed-next.ensures ∙ c.in-Behind.is in
+    sym c.parse_enclosed-next.ensures ∙ c.in-Behind.is in
     c.loop-end.invariant ∙ quoted-on _ _ c.requires _ _ _ (found) (sym c.closes.ensures ∙ c.if-closes.false)

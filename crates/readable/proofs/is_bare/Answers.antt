@@ -11,17 +11,17 @@ use Rattle.readable.proofs.is_bare.Goals as goal
 pub returns-in_default : goal.returns-in_default
 returns-in_default c =
     let found : c.of.result ≡ found_at c.args.reading c.args.content.now 0 =
-      found-packed _ _ _ _ _ c.pack_value.ensures c.of.ensures in
+    found-packed _ _ _ _ _ c.pack_value.ensures c.of.ensures in
     sym (bare-other _ _ (λ k n q. not-value c.of.result (opened c.in_default.in_default-own.keys2) k n (found ∙ q)))
 
 pub returns-then-kind-ne-BARE : goal.returns-then-kind-ne-BARE
 returns-then-kind-ne-BARE c =
     let found : c.of.result ≡ found_at c.args.reading c.args.content.now 0 =
-      found-packed _ _ _ _ _ c.pack_value.ensures c.of.ensures in
+    found-packed _ _ _ _ _ c.pack_value.ensures c.of.ensures in
     sym (bare-value _ _ _ _ (sym (found) ∙ c.in-Value.is) ∙ rw (ne_eqb _ _ c.if-kind-ne-BARE.true))
 
 pub returns : goal.returns
 returns c =
     let found : c.of.result ≡ found_at c.args.reading c.args.content.now 0 =
-      found-packed _ _ _ _ _ c.pack_value.ensures c.of.ensures in
+    found-packed _ _ _ _ _ c.pack_value.ensures c.of.ensures in
     sym (bare-value _ _ _ _ (sym (found) ∙ c.in-Value.is) ∙ rw (eq-eqb _ _ c.if-kind-ne-BARE.false))

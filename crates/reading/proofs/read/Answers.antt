@@ -8,7 +8,7 @@ read_fitting-requires c = fits_read _ _ _ _ c.judge-judged.ensures c.in-Fits.is
 
 pub returns-in-Declines : goal.returns-in-Declines
 returns-in-Declines c = record {
-      answers = (read-refused _ _ _ _ _ (declines-refuses _ _ _ _ c.judge-judged.ensures c.in-Declines.is)).0;
-      stored = (read-refused _ _ _ _ _ (declines-refuses _ _ _ _ c.judge-judged.ensures c.in-Declines.is)).1.0;
-      copied = (read-refused _ _ _ _ _ (declines-refuses _ _ _ _ c.judge-judged.ensures c.in-Declines.is)).1.1;
-    }
+  answers = (read-refused _ _ _ _ _ (declines-refuses _ _ _ _ c.judge-judged.ensures c.in-Declines.is)).0;
+  stored = (read-refused _ _ _ _ _ (declines-refuses _ _ _ _ c.judge-judged.ensures c.in-Declines.is)).1.0;
+  copied = (read-refused _ _ _ _ _ (declines-refuses _ _ _ _ c.judge-judged.ensures c.in-Declines.is)).1.1;
+}

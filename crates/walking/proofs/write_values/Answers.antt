@@ -31,7 +31,7 @@ pack_value-requires c = omega (arith, c.loop-kind.invariant.going.short)
 pub returns-in_default : goal.returns-in_default
 returns-in_default c =
     let found : c.of.result ≡ found_at c.args.reading c.args.s.now c.trimmed-here.result.place.offset =
-      found-packed _ _ _ _ _ c.pack_value.ensures c.of.ensures in
+    found-packed _ _ _ _ _ c.pack_value.ensures c.of.ensures in
     let l = c.loop-kind in
     let a = c.args in
     let h = c.trimmed-here in
@@ -44,7 +44,7 @@ returns-in_default c =
 pub write_found-last-requires : goal.write_found-last-requires
 write_found-last-requires c =
     let found : c.of.result ≡ found_at c.args.reading c.args.s.now c.trimmed-here.result.place.offset =
-      found-packed _ _ _ _ _ c.pack_value.ensures c.of.ensures in
+    found-packed _ _ _ _ _ c.pack_value.ensures c.of.ensures in
     let l = c.loop-kind in
     let a = c.args in
     let h = c.trimmed-here in
@@ -58,7 +58,7 @@ write_found-last-requires c =
 pub loop-kind-smaller : goal.loop-kind-smaller
 loop-kind-smaller c =
     let found : c.of.result ≡ found_at c.args.reading c.args.s.now c.trimmed-here.result.place.offset =
-      found-packed _ _ _ _ _ c.pack_value.ensures c.of.ensures in
+    found-packed _ _ _ _ _ c.pack_value.ensures c.of.ensures in
     let l = c.loop-kind in
     let a = c.args in
     let h = c.trimmed-here in
@@ -73,7 +73,7 @@ loop-kind-smaller c =
 pub loop-kind-preserved : goal.loop-kind-preserved
 loop-kind-preserved c =
     let found : c.of.result ≡ found_at c.args.reading c.args.s.now c.trimmed-here.result.place.offset =
-      found-packed _ _ _ _ _ c.pack_value.ensures c.of.ensures in
+    found-packed _ _ _ _ _ c.pack_value.ensures c.of.ensures in
     let l = c.loop-kind in
     let a = c.args in
     let h = c.trimmed-here in

@@ -17,6 +17,6 @@ pack_value-requires c = omega (arith, c.requires.small)
 pub returns : goal.returns
 returns c =
     let found : c.of.result ≡ found_at c.args.reading c.args.s.now c.gap_end-stop.result =
-      found-packed _ _ _ _ _ c.pack_value.ensures c.of.ensures in
+    found-packed _ _ _ _ _ c.pack_value.ensures c.of.ensures in
     let a = c.args in
     next-value a.reading a.s.now a.at _ _ _ _ c.requires.none c.name_end-end.ensures c.if-end-at.false c.gap_end-stop.ensures (sym c.in-Value.is ∙ found)
