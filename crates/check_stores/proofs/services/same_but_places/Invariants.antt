@@ -2,8 +2,5 @@
 use Rattle.std.proofs.Common.{◌-◌, length}
 use Rattle.check_stores.proofs.services.same_but_places.Given as goal
 
-abbrev pub invariant-loop-at : goal.invariant-loop-at
-invariant-loop-at l = Unit
-
 abbrev pub decreases-loop-at : goal.decreases-loop-at
 decreases-loop-at l = length l.a - l.at

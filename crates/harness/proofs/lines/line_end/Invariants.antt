@@ -1,6 +1,5 @@
 -- `harness::lines::line_end`: the offset stays between where it began and the end. Assumes nothing.
-use Prim.Native.Nat.{◌-◌, ◌≤◌}
-use lib.ListN.{length}
+use Rattle.std.proofs.Common.{◌-◌, ◌≤◌, length}
 use Rattle.harness.proofs.lines.line_end.Given as goal
 
 abbrev pub invariant-loop-at : goal.invariant-loop-at

@@ -1,6 +1,5 @@
 -- `harness::lines::number`: the digits stay within the line. Assumes nothing.
-use Prim.Native.Nat.{◌-◌, ◌≤◌}
-use lib.ListN.{length}
+use Rattle.std.proofs.Common.{◌-◌, ◌≤◌, length}
 use Rattle.harness.proofs.lines.number.Given as goal
 
 abbrev pub invariant-loop-at : goal.invariant-loop-at

@@ -1,7 +1,5 @@
 -- `harness::lines::unfold`: each step stays within the line, and what is written keeps its length. Assumes nothing.
-use Prim.Native.Nat.{◌-◌, ◌≤◌}
-use mathlib.Core.Path.{◌≡◌}
-use lib.ListN.{length}
+use Rattle.std.proofs.Common.{◌≡◌, ◌-◌, ◌≤◌, length}
 use Rattle.harness.proofs.lines.unfold.Given as goal
 
 abbrev pub invariant-loop-at : goal.invariant-loop-at

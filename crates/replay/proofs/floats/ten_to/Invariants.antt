@@ -1,8 +1,5 @@
 -- `replay::floats::ten_to`: nothing but that it ends. Assumes nothing.
 use Rattle.replay.proofs.floats.ten_to.Given as goal
 
-abbrev pub invariant-loop-left : goal.invariant-loop-left
-invariant-loop-left l = Unit
-
 abbrev pub decreases-loop-left : goal.decreases-loop-left
 decreases-loop-left l = l.left
