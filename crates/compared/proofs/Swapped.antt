@@ -156,6 +156,7 @@ module _ (st ar st' ar' : List ℕ) (s : Sole st ar) where
   new-turned : (y : Cell) (o : Option Cell) → partner st' ar' st ar y ≡ o → In y (cells st') → (c : Change) → In c (of_new y o) → In (turned c) (changes st' ar' st ar)
   unfolding of_new changes side_of
   new-turned y none e m c q = in_left (of_all false st ar st' ar' (cells st)) (to-all true st' ar' st ar (turned c) (cells st') y m (fresh-turned y e c q))
+  new-turned y (some _) e m c q = elim q [ ]
 
   old-side : (c : Change) → From true st ar st' ar' (cells st) c → In (turned c) (changes st' ar' st ar)
   unfolding of_side
