@@ -148,13 +148,13 @@ fn fixed_sentence(number: u64) -> &'static str {
             "this number has too many digits: at most 9 before the point, 18 behind it, \
              9 in the exponent and 9 in the brackets are kept exactly"
         }
-        number::STORE_FULL => "the store, or the list of a comparison, has too little room",
+        number::STORE_FULL => "the store has too little room",
         number::AREA_FULL => "the area, or the text to be written, has too little room",
         number::UNSOUND => {
             "the store is damaged, its area is not the one written with it, \
-             or it was written in another reading (or it has several blocks, where it is compared)"
+             or it was written in another reading"
         }
-        number::NAME_TWICE => "the same tag stands twice (or the same frame, where it is compared)",
+        number::NAME_TWICE => "the same tag stands twice",
         number::NO_CONTENT => "there is no such record, or it holds no name or text",
         number::NO_SPACE => {
             "the `;` before this closes a text field: put space or a line end behind it \
@@ -253,7 +253,7 @@ mod tests {
         assert_eq!((refusal.place, refusal.records), (None, Some((1, 5))));
         assert_eq!(
             refusal.to_string(),
-            "refused 13 at records 1 and 5: the same tag stands twice (or the same frame, where it is compared)"
+            "refused 13 at records 1 and 5: the same tag stands twice"
         );
     }
 
@@ -331,7 +331,7 @@ mod tests {
         assert_eq!(
             Refusal::bare(12, 0).to_string(),
             "refused 12: the store is damaged, its area is not the one written with it, \
-             or it was written in another reading (or it has several blocks, where it is compared)"
+             or it was written in another reading"
         );
         let long_line = Refusal::bare(16, 0).sentence();
         let cure =

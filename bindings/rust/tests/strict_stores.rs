@@ -263,7 +263,7 @@ fn each_reading_refuses_the_others_texts() {
     assert_eq!(refusal.number, 12);
     assert!(refusal
         .sentence()
-        .contains("or it was written in another reading"));
+        .ends_with("or it was written in another reading"));
     assert_eq!(Document::from_parts_as(STRICT, store, area), Ok(second));
 }
 
