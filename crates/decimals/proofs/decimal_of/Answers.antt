@@ -1,5 +1,5 @@
 -- `numbers::decimal_of`: a word that ends behind its fraction or a bracket there has no exponent. Assumes nothing.
-use mathlib.Core.Path.{sym, ◌∙◌}
+use mathlib.Core.Path.{◌≡◌, sym, ◌∙◌}
 use native.Mathlib.Omega.{arith}
 use Rattle.cuts.specs.Digits.{digits_at}
 use Rattle.cuts.proofs.DigitRuns.{digits_from}
@@ -34,7 +34,8 @@ digits_at-inner-requires c = bracket-few _ _ c.if-w-behind.false c.if-w-behind-g
 pub overflow_cast-result : goal.overflow_cast-result
 unfolding digits_at
 overflow_cast-result c =
-    let z = rw c.digits_at-inner.ensures at (sym c.byte_at.ensures ∙ c.if-byte_at-ne41.false) in
+    let closed : c.byte_at.result ≡ 41 = omega arith in
+    let z = rw c.digits_at-inner.ensures at (sym c.byte_at.ensures ∙ closed) in
     rw c.digits_at-inner.ensures
     (omega (arith, bracket-fits c.args.w.now c.digits_at-part.result.end c.if-w-behind.false c.if-w-behind-gt11.false z))
 
@@ -42,5 +43,6 @@ pub returns : goal.returns
 unfolding digits_at sign_end integer_end point_end fraction_end unscaled
 returns c =
     let o = rw (c.digits_at-part.ensures, c.after_one-point.ensures, c.digits_at-whole.ensures, c.after_one-sign.ensures) at c.if-w-behind-ne40.false in
-    let z = rw (c.digits_at-inner.ensures, c.digits_at-part.ensures, c.after_one-point.ensures, c.digits_at-whole.ensures, c.after_one-sign.ensures) at (sym c.byte_at.ensures ∙ c.if-byte_at-ne41.false) in
+    let closed : c.byte_at.result ≡ 41 = omega arith in
+    let z = rw (c.digits_at-inner.ensures, c.digits_at-part.ensures, c.after_one-point.ensures, c.digits_at-whole.ensures, c.after_one-sign.ensures) at (sym c.byte_at.ensures ∙ closed) in
     rw (c.is_minus-minus.ensures, c.digits_at-inner.ensures, c.digits_at-part.ensures, c.after_one-point.ensures, c.digits_at-whole.ensures, c.after_one-sign.ensures) (ends-bracketed _ o z)

@@ -1,5 +1,6 @@
 -- `desk::behind`: over a token without line ends the column grows by its length. Assumes nothing.
 use borrow.Author.Tests.{ne_eqb}
+use mathlib.Core.Path.{◌≡◌}
 use native.Mathlib.Omega.{arith}
 use Rattle.places.proofs.Places.{place-column}
 use Rattle.desk.proofs.Places.{behind-line}
@@ -14,4 +15,4 @@ pub returns : goal.returns
 returns c =
     let a = c.args in
     let p = c.requires in
-    behind-line _ a.p a.kind a.size p.0 p.1 (ne_eqb _ _ c.if-kind-eq-MULTILINE.false)
+    behind-line _ a.p a.kind a.size p.0 p.1 (ne_eqb a.kind 13 (λ (e : a.kind ≡ 13). omega arith))

