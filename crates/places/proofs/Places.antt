@@ -1,15 +1,15 @@
 -- Laws of places. Assumes nothing.
 use Prim.Native.Nat.{ℕ, zero, suc, ◌+◌, ◌-◌, ◌≤◌, ◌<◌}
 use mathlib.Core.Path.{◌≡◌, refl, sym, ap, ◌∙◌}
-use mathlib.Core.Bool.{Bool, true, false, cond, ◌&&◌, ◌||◌, and-false}
+use mathlib.Core.Bool.{Bool, true, false, cond, and-false}
 use mathlib.Core.List.{List, [], ◌∷◌, ◌++◌}
 use native.Mathlib.Numerals.{add-one}
-use native.Mathlib.Nat.{add-suc, add-zero, suc-add}
+use native.Mathlib.Nat.{add-zero}
 use native.Mathlib.Omega.{arith}
 use borrow.Author.Tests.{eqb-true}
 use lib.Dec.{eqb}
-use lib.ListN.{length, take, drop, get_or, length-take}
-use lib.Seq.{take-suc, take_all, get_or-drop, get_or-take, length-take-le}
+use lib.ListN.{length, take, get_or, length-take}
+use lib.Seq.{take-suc, take_all, get_or-take, length-take-le}
 use Rattle.places.specs.declared.Place.{Place}
 use Rattle.places.specs.declared.Scan.{Scan}
 use Rattle.text.specs.Bytes.{is, is_eol}

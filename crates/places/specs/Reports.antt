@@ -27,3 +27,7 @@ refused_bare n = record { number = n; offset = 0; line = 0; column = 0; detail =
 -- no room: the lengths needed
 unfoldable pub no_room : ℕ → ℕ → ℕ → Report
 no_room n m k = record { number = n; offset = 0; line = 0; column = 0; detail = 0; first = m; second = k }
+
+-- a number and those of two records, where a place stands else
+unfoldable pub of_records : ℕ → ℕ → ℕ → Report
+of_records n i j = record { number = n; offset = i; line = j; column = 0; detail = 0; first = 0; second = 0 }

@@ -5,6 +5,7 @@ ghost use Rattle.std.specs.Prelude.{◌≡◌, ◌+◌, ◌-◌, ◌≤◌, ◌<
 ghost use Rattle.text.specs.Bytes.{is};
 ghost use Rattle.text.specs.Runs.{runs};
 ghost use Rattle.places.specs.Lines.{in_line, line_end, feed as feed_of, feeds_or, last_start};
+ghost use Rattle.places.specs.Reports.{no_room, refused_bare, refused_at, of_records};
 ghost use Rattle.places.specs.Places.{step as step_of, along as along_of, place_at, IsPlace};
 
 // Where a byte stands in a text.
@@ -26,6 +27,60 @@ pub struct Report {
     pub detail: usize,
     pub first: usize,
     pub second: usize,
+}
+
+impl Report {
+    // A number and two lengths: those written, or those needed.
+    pub fn lengths(number: usize, first: usize, second: usize) -> Report
+        ensures { result ≡ no_room number first second }
+    {
+        Report {
+            number,
+            offset: 0,
+            line: 0,
+            column: 0,
+            detail: 0,
+            first,
+            second,
+        }
+    }
+
+    // A number alone.
+    pub fn bare(number: usize) -> Report
+        ensures { result ≡ refused_bare number }
+    {
+        Report::lengths(number, 0, 0)
+    }
+
+    // A refusal at a place.
+    pub fn at(number: usize, place: Place, detail: usize) -> Report
+        ensures { result ≡ refused_at number place detail }
+    {
+        Report {
+            number,
+            offset: place.offset,
+            line: place.line,
+            column: place.column,
+            detail,
+            first: 0,
+            second: 0,
+        }
+    }
+
+    // A number and those of two records.
+    pub fn records(number: usize, first: usize, again: usize) -> Report
+        ensures { result ≡ of_records number first again }
+    {
+        Report {
+            number,
+            offset: first,
+            line: again,
+            column: 0,
+            detail: 0,
+            first: 0,
+            second: 0,
+        }
+    }
 }
 
 // Where the line that goes on at an offset ends: at its LF or CR, or at the text's end.

@@ -1,5 +1,4 @@
 -- `places::last_start`: backwards, byte by byte. Assumes nothing.
-use Prim.Native.Nat.{◌-◌}
 use mathlib.Core.Path.{◌≡◌, refl, sym, ◌∙◌}
 use native.Mathlib.Omega.{arith}
 use Rattle.places.proofs.Feeds.{last_none, last-here, last-before}
