@@ -12,9 +12,8 @@ use Rattle.entries.specs.declared.Entry.{Entry}
 use Rattle.entries.specs.Walk.{entries}
 use Rattle.nesting.specs.declared.Where.{Where}
 use Rattle.nesting.specs.declared.Where.TheVariants.{Start, Names, Values}
-use Rattle.nesting.specs.declared.Stand.{Stand}
-use Rattle.nesting.specs.declared.Stand.TheVariants.{Stands, Falls}
-use Rattle.nesting.specs.Nesting.{standing, after_name, at_names, at_values, ended, follow, nested_from, nested}
+use Rattle.nesting.specs.declared.Standing.{Standing}
+use Rattle.nesting.specs.Nesting.{standing, after_name, at_names, at_values, ended, follow, nested_from, nested, stands}
 use Rattle.cells.specs.Cells.{Cell, Under, outset, under, cell, cells_from, cells}
 use Rattle.soles.proofs.Leads.{Leads, block, tag, loop, frame, close, name, last, value, end, single, leads}
 use Rattle.std.specs.Prelude.{Option, Some, None}
@@ -58,7 +57,7 @@ run-names r (Some e ∷ es) g all zero n = absurd (true≢false (sym n))
 run-names r (Some e ∷ es) g all (suc left) n = by left (eqb (number_of e.kind) 6) n (λ l q. run-names r es g all l q)
   where
     by :
-        (left : ℕ) (t : Bool) → follow (cond t (after_name g all left) Falls) (λ f' w'. nested_from r es f' w') ≡ true → ((l : ℕ) → nested_from r es g (Names all l) ≡ true → run (kinds_of es) ≡ l) →
+        (left : ℕ) (t : Bool) → follow (cond t (after_name g all left) None) (λ f' w'. nested_from r es f' w') ≡ true → ((l : ℕ) → nested_from r es g (Names all l) ≡ true → run (kinds_of es) ≡ l) →
         cond t (suc (run (kinds_of es))) 0 ≡ suc left
     by left false n again = absurd (true≢false (sym n))
     by zero true n again = ap suc (run-values r es g all 0 n)
@@ -100,17 +99,17 @@ cells-kinds r (Some x ∷ es) g w i u n = on (standing r g w (number_of x.kind) 
     more cs = cond (is_value_kind (number_of x.kind)) (cell i u ∷ cs) cs
 
     on :
-        (s : Stand) → standing r g w (number_of x.kind) x.fields.number ≡ s → follow s (λ g' w'. nested_from r es g' w') ≡ true →
+        (s : Option Standing) → standing r g w (number_of x.kind) x.fields.number ≡ s → follow s (λ g' w'. nested_from r es g' w') ≡ true →
         ((g' : Bool) (w' : Where) (v : Under) → nested_from r es g' w' ≡ true → cells_from es (suc i) v ≡ cells_by (kinds_of es) (suc i) v) →
         more (cells_from es (suc i) (under (number_of x.kind) x.fields.number i u)) ≡ more (cells_by (kinds_of es) (suc i) (under (number_of x.kind) (run (kinds_of es)) i u))
-    on Falls q n again = absurd (true≢false (sym n))
-    on (Stands g' w') q n again =
+    on None q n again = absurd (true≢false (sym n))
+    on (Some s) q n again =
         let tags : number_of x.kind ≡ 5 → x.fields.number ≡ run (kinds_of es) =
         λ e.
-        let names : w' ≡ Names x.fields.number x.fields.number = loop-leads (leads r g w (number_of x.kind) x.fields.number g' w' q) e in
-        sym (run-names r es g' x.fields.number x.fields.number (ap (nested_from r es g') (sym names) ∙ n)) in
+        let names : s.place ≡ Names x.fields.number x.fields.number = loop-leads (leads r g w (number_of x.kind) x.fields.number s.frame s.place q) e in
+        sym (run-names r es s.frame x.fields.number x.fields.number (ap (nested_from r es s.frame) (sym names) ∙ n)) in
         let state = under-count (number_of x.kind) x.fields.number (run (kinds_of es)) i u tags in
-        ap more (ap (cells_from es (suc i)) state ∙ again g' w' (under (number_of x.kind) (run (kinds_of es)) i u) n)
+        ap more (ap (cells_from es (suc i)) state ∙ again s.frame s.place (under (number_of x.kind) (run (kinds_of es)) i u) n)
 
 -- STORES OF EQUAL KINDS HAVE THE SAME VALUES
 pub same-cells : (r r' : Reading) (st st' : List ℕ) → nested r (entries st) ≡ true → nested r' (entries st') ≡ true → kinds_of (entries st) ≡ kinds_of (entries st') → cells st ≡ cells st'

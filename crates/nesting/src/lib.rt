@@ -1,11 +1,11 @@
 // Whether a store is whole records, nested as the reading has them: a machine over their kinds.
 #![tactic(auto)]
 
-ghost use Rattle.std.specs.Prelude.{◌≡◌, ◌+◌, ◌%◌, ◌^◌, ◌<◌, eqb};
+ghost use Rattle.std.specs.Prelude.{◌≡◌, ◌+◌, ◌^◌, ◌<◌, Bool};
 ghost use Rattle.entries.specs.Walk.{entries};
 ghost use Rattle.kinds.specs.Kinds.{is_value_kind};
 ghost use Rattle.nesting.specs.Nesting.{opens_loop, further, at_items, at_names, ends_loop, at_values};
-ghost use Rattle.nesting.specs.Nesting.{counted, standing as standing_of, ended, nested};
+ghost use Rattle.nesting.specs.Nesting.{stands, counted, standing, ended, nested};
 
 use entries::Entry;
 use kinds::Kind;
@@ -26,216 +26,181 @@ pub enum Where {
     Wants,
 }
 
-// Where a record leads, in a frame or not; or that it may not stand there.
+// Whether a frame is open, and what may stand next.
 #[derive(Clone, Copy)]
-pub enum Stand {
-    Stands { frame: bool, place: Where },
-    Falls,
+pub struct Standing {
+    pub frame: bool,
+    pub place: Where,
 }
 
 // The kinds of values, from inapplicable to a number with uncertainty, and the strict reading's quoted ones.
+#[tactic(auto, unfolding(kinds::specs::Kinds::is_value_kind))]
 pub fn is_value(kind: u8) -> bool
     ensures { result ≡ is_value_kind kind }
 {
-    if kind < Kind::INAPPLICABLE {
-        return false;
-    }
-    if kind <= Kind::UNCERTAIN {
-        return true;
-    }
-    kind == Kind::QUOTED
+    matches!(kind, Kind::INAPPLICABLE..=Kind::UNCERTAIN | Kind::QUOTED)
+}
+
+// Where a record leads behind which items may stand.
+fn to_items(frame: bool) -> Option<Standing>
+    ensures { result ≡ stands frame (Where.Items Bool.false) }
+{
+    Some(Standing {
+        frame,
+        place: Where::Items { empty: false },
+    })
 }
 
 // A loop counts at least one tag.
-fn open_loop(frame: bool, tags: usize) -> Stand
+#[tactic(auto, unfolding(crate::specs::Nesting::opens_loop))]
+fn open_loop(frame: bool, tags: usize) -> Option<Standing>
     ensures { result ≡ opens_loop frame tags }
 {
     if tags == 0 {
-        return Stand::Falls;
+        return None;
     }
-    Stand::Stands {
+    Some(Standing {
         frame,
         place: Where::Names {
             all: tags,
             left: tags,
         },
-    }
+    })
 }
 
 // A record that is no item's and no frame's: in the strict reading a further block may stand outside frames.
-fn next_block(reading: Reading, frame: bool, kind: u8) -> Stand
+fn next_block(reading: Reading, frame: bool, kind: u8) -> Option<Standing>
     ensures { result ≡ further reading frame kind }
 {
     match reading {
-        Reading::First => Stand::Falls,
+        Reading::First => None,
         Reading::Strict => {
-            if kind != Kind::BLOCK {
-                return Stand::Falls;
+            if kind != Kind::BLOCK || frame {
+                return None;
             }
-            if frame {
-                return Stand::Falls;
-            }
-            Stand::Stands {
-                frame: false,
-                place: Where::Items { empty: false },
-            }
+            to_items(false)
         }
     }
 }
 
 // A record between items.
-fn at_items(reading: Reading, frame: bool, empty: bool, kind: u8, tags: usize) -> Stand
+#[tactic(auto, unfolding(crate::specs::Nesting::at_items))]
+fn at_items(reading: Reading, frame: bool, empty: bool, kind: u8, tags: usize) -> Option<Standing>
     ensures { result ≡ at_items reading frame empty kind tags }
 {
-    if kind == Kind::TAG {
-        if empty {
-            return Stand::Falls;
-        }
-        return Stand::Stands {
+    match kind {
+        Kind::TAG => (!empty).then_some(Standing {
             frame,
             place: Where::Wants,
-        };
-    }
-    if kind == Kind::LOOP {
-        return open_loop(frame, tags);
-    }
-    if kind == Kind::FRAME_OPEN {
-        if frame {
-            return Stand::Falls;
+        }),
+        Kind::LOOP => open_loop(frame, tags),
+        Kind::FRAME_OPEN => {
+            if frame {
+                return None;
+            }
+            to_items(true)
         }
-        return Stand::Stands {
-            frame: true,
-            place: Where::Items { empty: false },
-        };
-    }
-    if kind == Kind::FRAME_CLOSE {
-        if frame {
-            return Stand::Stands {
-                frame: false,
-                place: Where::Items { empty: false },
-            };
+        Kind::FRAME_CLOSE => {
+            if !frame {
+                return None;
+            }
+            to_items(false)
         }
-        return Stand::Falls;
+        _ => next_block(reading, frame, kind),
     }
-    next_block(reading, frame, kind)
 }
 
 // A record among a loop's tags.
-fn at_names(frame: bool, all: usize, left: usize, kind: u8) -> Stand
+#[tactic(auto, using(crate::proofs::Nesting::names_last, crate::proofs::Nesting::names_more), unfolding(crate::specs::Nesting::at_names, crate::specs::Nesting::after_name))]
+fn at_names(frame: bool, all: usize, left: usize, kind: u8) -> Option<Standing>
     ensures { result ≡ at_names frame all left kind }
 {
-    if left == 0 {
-        return Stand::Falls;
+    if left == 0 || kind != Kind::LOOP_TAG {
+        return None;
     }
-    if kind != Kind::LOOP_TAG {
-        return Stand::Falls;
-    }
-    if left == 1 {
-        return Stand::Stands {
-            frame,
-            place: Where::Values { all, count: 0 },
-        };
-    }
-    Stand::Stands {
-        frame,
-        place: Where::Names {
+    let place = if left == 1 {
+        Where::Values { all, count: 0 }
+    } else {
+        Where::Names {
             all,
             left: left - 1,
-        },
-    }
-}
-
-// Whether so many values are whole rows.
-fn whole_rows(all: usize, count: usize) -> bool
-    ensures { result ≡ eqb (count % all) 0 }
-{
-    if all == 0 {
-        return count == 0;
-    }
-    count % all == 0
+        }
+    };
+    Some(Standing { frame, place })
 }
 
 // The end of a loop of so many values: in the strict reading it has some.
-fn end_loop(reading: Reading, frame: bool, count: usize) -> Stand
+fn end_loop(reading: Reading, frame: bool, count: usize) -> Option<Standing>
     ensures { result ≡ ends_loop reading frame count }
 {
     match reading {
-        Reading::First => Stand::Stands {
+        Reading::First => Some(Standing {
             frame,
             place: Where::Items { empty: count == 0 },
-        },
+        }),
         Reading::Strict => {
             if count == 0 {
-                return Stand::Falls;
+                return None;
             }
-            Stand::Stands {
-                frame,
-                place: Where::Items { empty: false },
-            }
+            to_items(frame)
         }
     }
 }
 
-// A record among a loop's values.
-fn at_values(reading: Reading, frame: bool, all: usize, count: usize, kind: u8) -> Stand
+// A record among a loop's values; so many are whole rows at the end.
+#[tactic(auto, unfolding(crate::specs::Nesting::at_values))]
+fn at_values(reading: Reading, frame: bool, all: usize, count: usize, kind: u8) -> Option<Standing>
     requires { count + 1 < 2 ^ 64 }
     ensures { result ≡ at_values reading frame all count kind }
 {
     if kind == Kind::LOOP_END {
-        if whole_rows(all, count) {
+        if count.is_multiple_of(all) {
             return end_loop(reading, frame, count);
         }
-        return Stand::Falls;
+        return None;
     }
-    if is_value(kind) {
-        return Stand::Stands {
-            frame,
-            place: Where::Values {
-                all,
-                count: count + 1,
-            },
-        };
-    }
-    Stand::Falls
+    is_value(kind).then_some(Standing {
+        frame,
+        place: Where::Values {
+            all,
+            count: count + 1,
+        },
+    })
 }
 
-// Where a record of a kind, with its number of tags, leads.
-fn standing(reading: Reading, frame: bool, place: Where, kind: u8, tags: usize) -> Stand
-    requires { counted place + 1 < 2 ^ 64 }
-    ensures { result ≡ standing_of reading frame place kind tags }
-{
-    match place {
-        Where::Start => {
-            if kind == Kind::BLOCK {
-                return Stand::Stands {
-                    frame,
-                    place: Where::Items { empty: false },
-                };
+impl Standing {
+    // Where a record of a kind, with its number of tags, leads; or that it may not stand here.
+    #[tactic(auto, unfolding(crate::specs::Nesting::standing))]
+    fn after(self, reading: Reading, kind: u8, tags: usize) -> Option<Standing>
+        requires { counted self.place + 1 < 2 ^ 64 }
+        ensures { result ≡ standing reading self.frame self.place kind tags }
+    {
+        let frame = self.frame;
+        match self.place {
+            Where::Start => {
+                if kind != Kind::BLOCK {
+                    return None;
+                }
+                to_items(frame)
             }
-            Stand::Falls
-        }
-        Where::Items { empty } => at_items(reading, frame, empty, kind, tags),
-        Where::Names { all, left } => at_names(frame, all, left, kind),
-        Where::Values { all, count } => at_values(reading, frame, all, count, kind),
-        Where::Wants => {
-            if is_value(kind) {
-                return Stand::Stands {
-                    frame,
-                    place: Where::Items { empty: false },
-                };
+            Where::Items { empty } => at_items(reading, frame, empty, kind, tags),
+            Where::Names { all, left } => at_names(frame, all, left, kind),
+            Where::Values { all, count } => at_values(reading, frame, all, count, kind),
+            Where::Wants => {
+                if !is_value(kind) {
+                    return None;
+                }
+                to_items(frame)
             }
-            Stand::Falls
         }
     }
-}
 
-// A store ends between items, outside frames.
-fn has_ended(frame: bool, place: Where) -> bool
-    ensures { result ≡ ended frame place }
-{
-    match place {
-        Where::Items { empty: _ } => !frame,
-        _ => false,
+    // A store ends between items, outside frames.
+    #[tactic(auto, unfolding(crate::specs::Nesting::ended))]
+    fn has_ended(self) -> bool
+        ensures { result ≡ ended self.frame self.place }
+    {
+        matches!(self.place, Where::Items { empty: _ }) && !self.frame
     }
 }
 
@@ -243,24 +208,20 @@ fn has_ended(frame: bool, place: Where) -> bool
 pub fn is_nested(reading: Reading, store: &[u8]) -> bool
     ensures { result ≡ nested reading (entries store.now) }
 {
-    let mut frame = false;
-    let mut place = Where::Start;
+    let mut here = Standing {
+        frame: false,
+        place: Where::Start,
+    };
     let mut at = 0;
     while at < store.len() {
         let Some(Entry { kind, fields, next }) = entries::read_record(store, at) else {
             return false;
         };
-        let stand = standing(reading, frame, place, kind.number(), fields.number as usize);
-        let Stand::Stands {
-            frame: within,
-            place: then,
-        } = stand
-        else {
+        let Some(then) = here.after(reading, kind.number(), fields.number as usize) else {
             return false;
         };
-        frame = within;
-        place = then;
+        here = then;
         at = next;
     }
-    has_ended(frame, place)
+    here.has_ended()
 }

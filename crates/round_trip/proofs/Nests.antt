@@ -25,11 +25,10 @@ use Rattle.kinds.specs.declared.Shape.TheVariants.{Empty, Place, Content, Count,
 use Rattle.kinds.specs.Kinds.{kind_of, number_of, shape_of, shape_length, body_length, is_content, is_value_kind}
 use Rattle.entries.specs.Entries.{de32, parts_of, plain_fields, parts_fields, fields_of, is_kind, entry_of, entry_at, whole}
 use Rattle.entries.specs.Walk.{onward, entries_from}
-use Rattle.nesting.specs.declared.Stand.{Stand}
-use Rattle.nesting.specs.declared.Stand.TheVariants.{Stands, Falls}
+use Rattle.nesting.specs.declared.Standing.{Standing}
 use Rattle.nesting.specs.declared.Where.{Where}
 use Rattle.nesting.specs.declared.Where.TheVariants.{Items, Names, Values, Wants}
-use Rattle.nesting.specs.Nesting.{opens_loop, further as another, at_items, after_name, at_names, ends_loop, at_values, standing, ended, follow, nested_from}
+use Rattle.nesting.specs.Nesting.{opens_loop, further as another, at_items, after_name, at_names, ends_loop, at_values, standing, ended, follow, nested_from, stands}
 use Rattle.readable.specs.Tokens.{is_bare_field, is_led, lead}
 use Rattle.readable.specs.Readable.{is_name, readable_by}
 use Rattle.contents.specs.Contents.{content_bytes}
@@ -216,11 +215,11 @@ data Meets : Where → Spot → Type 0 where
   meet-wants : Meets Wants on_value
 
 -- the way that a test leads to
-follow-cond : {A : Type 0} (t : Bool) (x y : Stand) (go : Bool → Where → Bool) → (t ≡ true → follow x go ≡ true → A) → (t ≡ false → follow y go ≡ true → A) → follow (cond t x y) go ≡ true → A
+follow-cond : {A : Type 0} (t : Bool) (x y : Option Standing) (go : Bool → Where → Bool) → (t ≡ true → follow x go ≡ true → A) → (t ≡ false → follow y go ≡ true → A) → follow (cond t x y) go ≡ true → A
 follow-cond true x y go p q e = p refl e
 follow-cond false x y go p q e = q refl e
 
-follow-falls : {A : Type 0} (go : Bool → Where → Bool) → follow Falls go ≡ true → A
+follow-falls : {A : Type 0} (go : Bool → Where → Bool) → follow None go ≡ true → A
 unfolding follow
 follow-falls go e = absurd (false≢true e)
 
@@ -248,7 +247,7 @@ heading Strict ar es then k r next h f e q =
     (λ t. by f (of_number k 1 t))
     (λ t. follow-falls (λ f w. nested_from Strict es f w)) q
   where
-    by : (f : Bool) → k ≡ Block → follow (cond f Falls (Stands false (Items false))) (λ f w. nested_from Strict es f w) ≡ true → Nested Strict f (on_items e) (line_for Strict ar (whole k r next) ∷ lines_for Strict ar es)
+    by : (f : Bool) → k ≡ Block → follow (cond f None (stands false (Items false))) (λ f w. nested_from Strict es f w) ≡ true → Nested Strict f (on_items e) (line_for Strict ar (whole k r next) ∷ lines_for Strict ar es)
     by true z q = absurd (false≢true q)
     by false z q =
         let c = content_bytes ar Block r in
@@ -263,7 +262,7 @@ module _ (g : Reading) (ar : List ℕ) (es : List (Option Entry)) (then : (f : B
   Here : Bool → Spot → Type 0
   Here f x = Nested g f x (line_for g ar (whole k r next) ∷ lines_for g ar es)
 
-  want : (f : Bool) → follow (cond (is_value_kind (number_of k)) (Stands f (Items false)) Falls) onto ≡ true → Here f on_value
+  want : (f : Bool) → follow (cond (is_value_kind (number_of k)) (stands f (Items false)) None) onto ≡ true → Here f on_value
   unfolding follow onto Here line_for
   want f =
       follow-cond (is_value_kind (number_of k)) _ _ onto
@@ -318,7 +317,7 @@ module _ (g : Reading) (ar : List ℕ) (es : List (Option Entry)) (then : (f : B
       (λ _. follow-cond (eqb (number_of k) 3) _ _ onto (λ t. let z : k ≡ FrameClose = of_number k 3 t in by-shut z f)
       (λ _. heading g ar es (λ q. then false (Items false) (on_items false) (meet-items false) q) k r next h f e))))
     where
-      by-tag : k ≡ Tag → (e : Bool) → follow (cond e Falls (Stands f Wants)) onto ≡ true → Here f (on_items e)
+      by-tag : k ≡ Tag → (e : Bool) → follow (cond e None (stands f Wants)) onto ≡ true → Here f (on_items e)
       by-tag z true q = follow-falls onto q
       by-tag z false q =
           let c = content_bytes ar Tag r in
@@ -329,14 +328,14 @@ module _ (g : Reading) (ar : List ℕ) (es : List (Option Entry)) (then : (f : B
       by_loop z zero q = unfold opens_loop in follow-falls onto q
       by_loop z (suc n) q = unfold opens_loop in rw z (looped e _ _ (reads-loop g f (content_bytes ar Loop r)) (then f (Names (suc n) (suc n)) (on_names 0) (meet-names (suc n) 0 n (omega arith)) q))
 
-      by-open : k ≡ FrameOpen → (f : Bool) → follow (cond f Falls (Stands true (Items false))) onto ≡ true → Here f (on_items e)
+      by-open : k ≡ FrameOpen → (f : Bool) → follow (cond f None (stands true (Items false))) onto ≡ true → Here f (on_items e)
       by-open z true q = follow-falls onto q
       by-open z false q =
           let c = content_bytes ar FrameOpen r in
           let b = by_kind g ar r FrameOpen refl (rw z at h) in
           rw z (opened e (lead g FrameOpen c) (key_save ++ c) (reads-open g c (and_r (heading_fits g (length (key_save ++ c))) (is_name c) b)) (and_l (heading_fits g (length (key_save ++ c))) (is_name c) b) (then true (Items false) (on_items false) (meet-items false) q))
 
-      by-shut : k ≡ FrameClose → (f : Bool) → follow (cond f (Stands false (Items false)) Falls) onto ≡ true → Here f (on_items e)
+      by-shut : k ≡ FrameClose → (f : Bool) → follow (cond f (stands false (Items false)) None) onto ≡ true → Here f (on_items e)
       by-shut z true q = rw z (shut e _ _ (reads-shut g (content_bytes ar FrameClose r)) shut-five (then false (Items false) (on_items false) (meet-items false) q))
       by-shut z false q = follow-falls onto q
 

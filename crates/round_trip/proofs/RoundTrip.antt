@@ -41,9 +41,8 @@ use Rattle.words.proofs.Ended.{word-ended}
 use Rattle.keywords.proofs.Ended.{starts-ended, no_lf}
 use Rattle.grammar.proofs.Advance.{advance₀}
 use Rattle.entries.specs.Walk.{entries}
-use Rattle.nesting.specs.declared.Stand.TheVariants.{Stands, Falls}
 use Rattle.nesting.specs.declared.Where.TheVariants.{Start, Items}
-use Rattle.nesting.specs.Nesting.{nested, nested_from, standing, ended, follow as follows}
+use Rattle.nesting.specs.Nesting.{nested, nested_from, standing, ended, follow as follows, stands}
 use Rattle.readable.specs.Readable.{is_name, readable_by}
 use Rattle.contents.specs.Contents.{content_bytes}
 use Rattle.stores.specs.Soundness.{filled}
@@ -64,7 +63,7 @@ use Rattle.round_trip.proofs.Nests.{standing-all, Filled, full, more, filled-by,
 use Rattle.round_trip.proofs.Passes.{Reads}
 use Rattle.round_trip.proofs.Screens.{rendering-kept, kept-checked}
 use Rattle.round_trip.proofs.Same.{all_same, store_same, area_same}
-use Rattle.std.specs.Prelude.{Option}
+use Rattle.std.specs.Prelude.{Option, None}
 use Rattle.entries.specs.Entries.{whole}
 
 -- the block's token, alone, is read whole
@@ -131,7 +130,7 @@ unfolding nested_from ended standing follows lines_for line_for is_end
 lines-read r ar (full e) q = absurd (false≢true q)
 lines-read r ar (more {es = es} {k = k} {f = f} {next = next} h z g) q = by (eqb (number_of k) 1) refl q
   where
-    by : (t : Bool) → eqb (number_of k) 1 ≡ t → follows (cond t (Stands false (Items false)) Falls) (λ f w. nested_from r es f w) ≡ true
+    by : (t : Bool) → eqb (number_of k) 1 ≡ t → follows (cond t (stands false (Items false)) None) (λ f w. nested_from r es f w) ≡ true
         → run r (tokens_from r (render (line_for r ar (whole k f next) ∷ lines_for r ar es)) 10 0 before 0) (config start none [] []) ≡ done (recs_at 0 (line_for r ar (whole k f next) ∷ lines_for r ar es))
     by true t q =
         let e : k ≡ Block = unfold kind_of in of_number k 1 t in

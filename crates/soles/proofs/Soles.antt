@@ -20,9 +20,8 @@ use Rattle.contents.specs.Contents.{content_bytes}
 use Rattle.folding.specs.Folding.{same_name}
 use Rattle.nesting.specs.declared.Where.{Where}
 use Rattle.nesting.specs.declared.Where.TheVariants.{Start, Items, Names, Values, Wants}
-use Rattle.nesting.specs.declared.Stand.{Stand}
-use Rattle.nesting.specs.declared.Stand.TheVariants.{Stands, Falls}
-use Rattle.nesting.specs.Nesting.{standing, ended, follow, nested_from, nested}
+use Rattle.nesting.specs.declared.Standing.{Standing}
+use Rattle.nesting.specs.Nesting.{standing, ended, follow, nested_from, nested, stands}
 use Rattle.stores.specs.Content.{nth}
 use Rattle.stores.proofs.Numbered.{nth_drop}
 use Rattle.steps.specs.Steps.{held_by}
@@ -368,10 +367,10 @@ module _ (st ar : List ℕ) where
       on (standing r g w (number_of e.kind) e.fields.number) refl n rest.0 (λ g' w' n' ft' q. walked r es g' w' (suc i) (under (number_of e.kind) e.fields.number i u) n' rest.1 (common-step e.kind e.fields e.next es i u c rest.0) ft' y q)
     where
       on :
-          (s : Stand) → standing r g w (number_of e.kind) e.fields.number ≡ s → follow s (λ g' w'. nested_from r es g' w') ≡ true → (number_of e.kind ≡ 1 → ⊥) →
+          (s : Option Standing) → standing r g w (number_of e.kind) e.fields.number ≡ s → follow s (λ g' w'. nested_from r es g' w') ≡ true → (number_of e.kind ≡ 1 → ⊥) →
           ((g' : Bool) (w' : Where) → nested_from r es g' w' ≡ true → Fit w' (suc i) (under (number_of e.kind) e.fields.number i u) → In y (cells_from es (suc i) (under (number_of e.kind) e.fields.number i u)) → Told y) → Told y
-      on (Stands g' w') q n d again = step e.kind e.fields e.next es i u c y w w' (leads r g w (number_of e.kind) e.fields.number g' w' q) d ft (λ ft' x. again g' w' n ft' x) p
-      on Falls q n d again = absurd (true≢false (sym n))
+      on (Some s) q n d again = step e.kind e.fields e.next es i u c y w s.place (leads r g w (number_of e.kind) e.fields.number s.frame s.place q) d ft (λ ft' x. again s.frame s.place n ft' x) p
+      on None q n d again = absurd (true≢false (sym n))
   walked r [] g w i u n b c ft y p = elim p [ ]
   walked r (None ∷ es) g w i u n b c ft y p = elim p [ ]
 
@@ -393,17 +392,17 @@ module _ (st ar : List ℕ) where
   block-first (block q) = (q, tt)
 
   told-first :
-      (r : Reading) (k : Kind) (f : Fields) (m : ℕ) (es : List (Option Entry)) → entries st ≡ whole k f m ∷ es → (s : Stand) → standing r false Start (number_of k) f.number ≡ s →
+      (r : Reading) (k : Kind) (f : Fields) (m : ℕ) (es : List (Option Entry)) → entries st ≡ whole k f m ∷ es → (s : Option Standing) → standing r false Start (number_of k) f.number ≡ s →
       follow s (λ g' w'. nested_from r es g' w') ≡ true → blocks_in (whole k f m ∷ es) ≡ 1 → (y : Cell) → In y (cells_from (whole k f m ∷ es) 0 outset) → Told y
   unfolding follow blocks_in cells_from under is_value_kind
-  told-first r k f m es e Falls q n b y p = absurd (true≢false (sym n))
-  told-first r k f m es e (Stands g' w') q n b y p =
-      let first = block-first (leads r false Start (number_of k) f.number g' w' q) in
+  told-first r k f m es e None q n b y p = absurd (true≢false (sym n))
+  told-first r k f m es e (Some s) q n b y p =
+      let first = block-first (leads r false Start (number_of k) f.number s.frame s.place q) in
       let one : number_of k ≡ 1 = first.0 in
       let left : suc (blocks_in es) ≡ 1 = rw one at b in
       let none : blocks_in es ≡ 0 = omega arith in
       let among : In y (cells_from es 1 outset) = rw one at p in
-      walked r es g' w' 1 outset n none (common-first k f m es e one) first.1 y among
+      walked r es s.frame s.place 1 outset n none (common-first k f m es e one) first.1 y among
 
   pub told-all : (r : Reading) → nested r (entries st) ≡ true → blocks_in (entries st) ≡ 1 → (y : Cell) → In y (cells st) → Told y
   unfolding nested cells nested_from ended

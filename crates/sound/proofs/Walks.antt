@@ -15,8 +15,7 @@ use Rattle.values.proofs.Laws.{found-lies, found-value}
 use Rattle.grammar.specs.Machine.{Rec, loop_end}
 use Rattle.sizes.specs.Sizes.{content_size}
 use Rattle.walking.specs.Writing.{tags_of}
-use Rattle.nesting.specs.declared.Stand.{Stand}
-use Rattle.nesting.specs.declared.Stand.TheVariants.{Stands, Falls}
+use Rattle.nesting.specs.declared.Standing.{Standing}
 use Rattle.nesting.specs.declared.Where.{Where}
 use Rattle.nesting.specs.declared.Where.TheVariants.{Start, Items, Names, Values, Wants}
 use Rattle.nesting.specs.Nesting.{opens_loop, at_items, after_name, at_names, at_values, standing, ended, follow, nested_from, nested}
@@ -24,6 +23,7 @@ use Rattle.written.proofs.Lexing.{mode_of, never}
 use Rattle.written.proofs.Taken.{Took, Tags, opens, named, Rows, first, next, Taken, heading, single, rows, no_rows, opened, further, shut, Outline}
 use Rattle.written.proofs.Sources.{Each, none, also, each_map, sources, value-reads, value_found, Facts, facts}
 use Rattle.written.proofs.Written.{fields_in, entry_of, written}
+use Rattle.std.specs.Prelude.{Option, Some, None}
 
 -- records nested, by their kinds; a loop counts the tags that stand directly behind it
 unfoldable nest_recs : Reading → List Rec → Bool → Where → Bool
@@ -31,7 +31,7 @@ nest_recs g [] f w = ended f w
 nest_recs g (r ∷ rs) f w = follow (standing g f w r.kind (tags_of rs)) (λ f' w'. nest_recs g rs f' w')
 
 -- the number matters to a loop alone
-second : (t u : Bool) (x y z rest : Stand) → (u ≡ true → y ≡ z) → cond t x (cond u y rest) ≡ cond t x (cond u z rest)
+second : (t u : Bool) (x y z rest : Option Standing) → (u ≡ true → y ≡ z) → cond t x (cond u y rest) ≡ cond t x (cond u z rest)
 second true u x y z rest e = refl
 second false true x y z rest e = e refl
 second false false x y z rest e = refl
@@ -53,9 +53,9 @@ nested-recs g s (also {r = r} {rs = rs} p h) a f w =
     rw (p.known, standing-number g f w r.kind n (tags_of rs) (λ e. unfold kind_of shape_of fields_in in rw (eqb-true r.kind 5 e)))
     (by (standing g f w r.kind (tags_of rs)) (λ f w. nested-recs g s h (a + content_size r.kind r.size) f w))
   where
-    by : (x : Stand) → ((f : Bool) (w : Where) → nested_from g (written s (a + content_size r.kind r.size) rs) f w ≡ nest_recs g rs f w) → follow x (λ f w. nested_from g (written s (a + content_size r.kind r.size) rs) f w) ≡ follow x (λ f w. nest_recs g rs f w)
-    by (Stands f w) ih = unfold follow in ih f w
-    by Falls ih = unfold follow in refl
+    by : (x : Option Standing) → ((f : Bool) (w : Where) → nested_from g (written s (a + content_size r.kind r.size) rs) f w ≡ nest_recs g rs f w) → follow x (λ f w. nested_from g (written s (a + content_size r.kind r.size) rs) f w) ≡ follow x (λ f w. nest_recs g rs f w)
+    by (Some s) ih = unfold follow in ih s.frame s.place
+    by None ih = unfold follow in refl
 
 -- The walk over each form
 
