@@ -25,7 +25,7 @@ use Rattle.kinds.specs.declared.Shape.TheVariants.{Empty, Place, Content, Count,
 use Rattle.kinds.specs.Kinds.{kind_of, number_of, shape_of, shape_length, body_length, is_content, is_value_kind}
 use Rattle.entries.specs.Entries.{de32, parts_of, plain_fields, parts_fields, fields_of, is_kind, entry_of, entry_at, whole}
 use Rattle.entries.specs.Walk.{onward, entries_from}
-use Rattle.nesting.specs.declared.Standing.{Standing}
+use Rattle.nesting.specs.declared.Standing.{Standing as Stand}
 use Rattle.nesting.specs.declared.Where.{Where}
 use Rattle.nesting.specs.declared.Where.TheVariants.{Items, Names, Values, Wants}
 use Rattle.nesting.specs.Nesting.{opens_loop, further as another, at_items, after_name, at_names, ends_loop, at_values, standing, ended, follow, nested_from, stands}
@@ -215,7 +215,7 @@ data Meets : Where → Spot → Type 0 where
   meet-wants : Meets Wants on_value
 
 -- the way that a test leads to
-follow-cond : {A : Type 0} (t : Bool) (x y : Option Standing) (go : Bool → Where → Bool) → (t ≡ true → follow x go ≡ true → A) → (t ≡ false → follow y go ≡ true → A) → follow (cond t x y) go ≡ true → A
+follow-cond : {A : Type 0} (t : Bool) (x y : Option Stand) (go : Bool → Where → Bool) → (t ≡ true → follow x go ≡ true → A) → (t ≡ false → follow y go ≡ true → A) → follow (cond t x y) go ≡ true → A
 follow-cond true x y go p q e = p refl e
 follow-cond false x y go p q e = q refl e
 

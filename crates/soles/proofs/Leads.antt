@@ -10,6 +10,7 @@ use Rattle.rules.specs.declared.Reading.TheVariants.{First, Strict}
 use Rattle.nesting.specs.declared.Where.{Where}
 use Rattle.nesting.specs.declared.Where.TheVariants.{Start, Items, Names, Values, Wants}
 use Rattle.kinds.specs.Kinds.{is_value_kind}
+use Rattle.nesting.specs.declared.Standing.{Standing}
 use Rattle.nesting.specs.Nesting.{opens_loop, further, at_items, after_name, at_names, ends_loop, at_values, standing, stands}
 use Rattle.std.specs.Prelude.{None}
 
@@ -33,8 +34,8 @@ never e =
 -- what stands where a test holds
 stood : {w₀ w₁ : Where} {k n : ℕ} (f f' : Bool) → Leads w₀ k n w₁ → (w' : Where) → stands f w₁ ≡ stands f' w' → Leads w₀ k n w'
 stood {w₀} {w₁} {k} {n} f f' l w' e =
-    let same : w₁ ≡ w' = cc in
-    rw (← same) l
+    let r : ◌≡◌ {A = Standing} (record { frame = f; place = w₁ }) (record { frame = f'; place = w' }) = cc in
+    rw (← ap (λ (s : Standing). s.place) r) l
 
 pub leads : (r : Reading) (f : Bool) (w : Where) (k n : ℕ) (f' : Bool) (w' : Where) → standing r f w k n ≡ stands f' w' → Leads w k n w'
 unfolding standing at_items opens_loop after_name at_names at_values
