@@ -3,7 +3,7 @@
 
 ghost use Rattle.std.specs.Prelude.{◌≡◌, ◌+◌, ◌*◌, ◌≤◌, ◌<◌, length, drop};
 ghost use Rattle.kinds.specs.Kinds.{shape_length};
-ghost use Rattle.entries.specs.Entries.{de32, de64, token_of, parts_of, no_parts, no_fields, plain_fields};
+ghost use Rattle.entries.specs.Entries.{de32, de64, token_of, parts_of, no_fields, plain_fields};
 ghost use Rattle.entries.specs.Entries.{parts_fields, fields_of, entry_at};
 
 use kinds::{Kind, Shape};
@@ -12,7 +12,7 @@ use records::Token;
 
 // Decimal parts as they are stored: the sign byte, the fraction digits and the exponent's two's complement are not
 // judged.
-#[derive(Clone, Copy)]
+#[derive(Clone, Copy, Default)]
 pub struct Parts {
     pub sign: u8,
     pub integer: u32,
@@ -38,19 +38,12 @@ pub struct Entry {
     pub next: usize,
 }
 
-// Four bytes as a number, the lowest first.
-fn joined(a: u8, b: u8, c: u8, d: u8) -> u32
-    ensures { result ≡ a + b * 256 + c * 65536 + d * 16777216 }
-{
-    a as u32 + b as u32 * 256 + c as u32 * 65536 + d as u32 * 16777216
-}
-
 // The number that four bytes give.
 fn u32_at(store: &[u8], at: usize) -> u32
     requires { at + 4 ≤ length store.now }
     ensures { result ≡ de32 (drop at store.now) }
 {
-    joined(store[at], store[at + 1], store[at + 2], store[at + 3])
+    u32::from_le_bytes([store[at], store[at + 1], store[at + 2], store[at + 3]])
 }
 
 // The number that eight bytes give.
@@ -91,20 +84,6 @@ fn parts_at(store: &[u8], at: usize, uncertainty: u32) -> Parts
     }
 }
 
-// The parts of a body that has none.
-fn no_parts() -> Parts
-    ensures { result ≡ no_parts }
-{
-    Parts {
-        sign: 0,
-        integer: 0,
-        fraction: 0,
-        places: 0,
-        exponent: 0,
-        uncertainty: 0,
-    }
-}
-
 // What an empty body holds.
 fn no_fields() -> Fields
     ensures { result ≡ no_fields }
@@ -118,11 +97,12 @@ fn no_fields() -> Fields
     Fields {
         token,
         number: 0,
-        parts: no_parts(),
+        parts: Parts::default(),
     }
 }
 
 // P and a number.
+#[tactic(auto, unfolding(crate::specs::Entries::plain_fields))]
 fn plain_fields(store: &[u8], at: usize, number: u32) -> Fields
     requires { at + 16 ≤ length store.now }
     ensures { result ≡ plain_fields (drop at store.now) number }
@@ -130,7 +110,7 @@ fn plain_fields(store: &[u8], at: usize, number: u32) -> Fields
     Fields {
         token: token_at(store, at),
         number,
-        parts: no_parts(),
+        parts: Parts::default(),
     }
 }
 
@@ -147,6 +127,7 @@ fn parts_fields(store: &[u8], at: usize, uncertainty: u32) -> Fields
 }
 
 // A body by its shape.
+#[tactic(auto, unfolding(crate::specs::Entries::fields_of, kinds::specs::Kinds::shape_length))]
 fn fields_at(store: &[u8], at: usize, shape: Shape) -> Fields
     requires { at + shape_length shape ≤ length store.now }
     ensures { result ≡ fields_of shape (drop at store.now) }
@@ -154,8 +135,7 @@ fn fields_at(store: &[u8], at: usize, shape: Shape) -> Fields
     match shape {
         Shape::Empty => no_fields(),
         Shape::Place => plain_fields(store, at, 0),
-        Shape::Content => plain_fields(store, at, u32_at(store, at + Kind::PLACE)),
-        Shape::Count => plain_fields(store, at, u32_at(store, at + Kind::PLACE)),
+        Shape::Content | Shape::Count => plain_fields(store, at, u32_at(store, at + Kind::PLACE)),
         Shape::Parts => parts_fields(store, at, 0),
         Shape::PartsUncertain => parts_fields(
             store,
@@ -169,11 +149,8 @@ fn fields_at(store: &[u8], at: usize, shape: Shape) -> Fields
 pub fn read_record(store: &[u8], at: usize) -> Option<Entry>
     ensures { result ≡ entry_at store.now at }
 {
-    if store.len() <= at {
-        return None;
-    }
-    let kind = Kind::of(store[at]);
-    if kind.number() == 0 {
+    let kind = Kind::of(*store.get(at)?);
+    if matches!(kind, Kind::NoKind) {
         return None;
     }
     let body = at + 1;

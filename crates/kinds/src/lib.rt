@@ -5,7 +5,8 @@ ghost use Rattle.std.specs.Prelude.{◌≡◌, ◌+◌, length};
 ghost use Rattle.kinds.specs.Kinds.{kind_of, number_of, shape_of, shape_length, marks_of, opening as opening_of};
 ghost use Rattle.kinds.specs.Kinds.{body_length, outline_length};
 
-// The kinds of records, as document 01 and document 02 number them; `NoKind` stands for every other number.
+// The kinds of records, as document 01 and document 02 number them; `NoKind` stands for every other number. It is no
+// Option: the definitions give each number a kind, with its shape, length and marks.
 #[derive(Clone, Copy)]
 pub enum Kind {
     NoKind,
@@ -24,7 +25,7 @@ pub enum Kind {
     Multiline,
     Number,
     Uncertain,
-    Quoted,
+    Quoted = 21,
 }
 
 // The shapes of bodies: nothing; a place; a place and an area offset; a place and a count of tags; a place and decimal
@@ -104,7 +105,8 @@ impl Kind {
     // The one that closes a quoted value, where the mark that opens it is content.
     pub const CLOSING_MARK: usize = 1;
 
-    // The kind of a number.
+    // The kind of a number. No `From`, which loses nothing: here all numbers of no kind become one.
+    #[tactic(auto, unfolding(crate::specs::Kinds::kind_of))]
     pub fn of(number: u8) -> Kind
         ensures { result ≡ kind_of number }
     {
@@ -133,28 +135,11 @@ impl Kind {
     pub fn number(self) -> u8
         ensures { result ≡ number_of self }
     {
-        match self {
-            Kind::NoKind => 0,
-            Kind::Block => Self::BLOCK,
-            Kind::FrameOpen => Self::FRAME_OPEN,
-            Kind::FrameClose => Self::FRAME_CLOSE,
-            Kind::Tag => Self::TAG,
-            Kind::Loop => Self::LOOP,
-            Kind::LoopTag => Self::LOOP_TAG,
-            Kind::LoopEnd => Self::LOOP_END,
-            Kind::Inapplicable => Self::INAPPLICABLE,
-            Kind::Unknown => Self::UNKNOWN,
-            Kind::Bare => Self::BARE,
-            Kind::SingleQuoted => Self::SINGLE_QUOTED,
-            Kind::DoubleQuoted => Self::DOUBLE_QUOTED,
-            Kind::Multiline => Self::MULTILINE,
-            Kind::Number => Self::NUMBER,
-            Kind::Uncertain => Self::UNCERTAIN,
-            Kind::Quoted => Self::QUOTED,
-        }
+        self as u8
     }
 
     // The shape of a kind's body.
+    #[tactic(auto, unfolding(crate::specs::Kinds::shape_of))]
     pub fn shape(self) -> Shape
         ensures { result ≡ shape_of self }
     {
@@ -169,6 +154,7 @@ impl Kind {
     }
 
     // How many bytes of a token are no content.
+    #[tactic(auto, unfolding(crate::specs::Kinds::marks_of))]
     pub fn marks(self) -> usize
         ensures { result ≡ marks_of self }
     {
@@ -182,6 +168,7 @@ impl Kind {
     }
 
     // How many of them stand before it.
+    #[tactic(auto, unfolding(crate::specs::Kinds::opening))]
     pub fn opening(self) -> usize
         ensures { result ≡ opening_of self }
     {
@@ -194,6 +181,7 @@ impl Kind {
     }
 
     // The bytes of a body, by the kind's number.
+    #[tactic(auto, unfolding(crate::specs::Kinds::body_length))]
     pub fn body_length(kind: u8) -> usize
         ensures { result ≡ body_length kind }
     {
@@ -213,6 +201,7 @@ impl Kind {
 
 impl Shape {
     // The bytes of a body.
+    #[tactic(auto, unfolding(crate::specs::Kinds::shape_length))]
     pub fn length(self) -> usize
         ensures { result ≡ shape_length self }
     {

@@ -26,26 +26,17 @@ pub fn is_bare(reading: Reading, content: &[u8]) -> bool
     let Found::Value { kind, size } = Found::of(values::pack_value(reading, content, 0)) else {
         return false;
     };
-    if kind != Kind::BARE {
-        return false;
-    }
-    size == content.len()
+    kind == Kind::BARE && size == content.len()
 }
 
 // Neither the mark nor a line end: the content of a quoted value of the first reading.
 fn is_plain(content: &[u8], mark: u8) -> bool
     ensures { result ≡ plain mark content.now }
 {
-    let mut at = 0;
-    while at < content.len() {
-        let b = content[at];
-        if b == mark {
+    for b in content {
+        if *b == mark || text::is_eol(*b) {
             return false;
         }
-        if text::is_eol(b) {
-            return false;
-        }
-        at += 1;
     }
     true
 }
@@ -69,6 +60,7 @@ pub fn is_field(reading: Reading, content: &[u8]) -> bool
 }
 
 // Whether a content could be read as its kind in the first reading, if it is all ASCII.
+#[tactic(auto, unfolding(crate::specs::Readable::readable_by))]
 pub fn is_first(kind: Kind, content: &[u8]) -> bool
     requires { length content.now < 2 ^ 32 }
     ensures { result ≡ readable_by Reading.First kind content.now }

@@ -2,12 +2,13 @@
 -- token's lines are fine just where its content fits behind what stands before it. Assumes nothing.
 use Prim.Native.Nat.{ℕ, suc, ◌+◌, ◌-◌, ◌≤◌, ◌<◌}
 use mathlib.Core.Path.{◌≡◌, refl, sym, ap, ◌∙◌}
-use mathlib.Core.Bool.{Bool, true, false, cond, ◌&&◌, ◌||◌, and-true, and-false, true≢false, false≢true}
+use mathlib.Core.Bool.{Bool, true, false, cond, ◌&&◌, and-true, and-false, true≢false, false≢true}
 use mathlib.Core.List.{List, [], ◌∷◌, ◌++◌}
 use native.Mathlib.Omega.{arith}
 use borrow.Author.Tests.{eqb-true, eqb-false}
 use lib.Dec.{eqb}
-use lib.ListN.{length, drop, get_or, length-append, get_or-append}
+use lib.ListN.{length, take, drop, get_or, length-append, get_or-append}
+use Rattle.std.proofs.lemmas.List.{take_rest}
 use Rattle.rules.specs.declared.Reading.TheVariants.{Strict}
 use Rattle.text.specs.Bytes.{is, is_eol}
 use Rattle.words.specs.Names.{fits_tag, heading_fits}
@@ -20,7 +21,7 @@ use Rattle.lines.specs.Lines.{screened, is_fine, fits}
 use Rattle.lines.proofs.Lines.{fits-screened, fits-printable, fits-quote, fits-field}
 use Rattle.values.specs.Alone.{is_alone}
 use Rattle.values.proofs.Alone.{strict-single, strict-double, strict-other, alone-semicolon, alone-none, alone-plain, field-some, field-last}
-use Rattle.readable.specs.Tokens.{mark, marked, starts_field, is_bare_field, is_led, lead}
+use Rattle.readable.specs.Tokens.{mark, marked, starts_field, is_bare_field, lead}
 use Rattle.readable.specs.Readable.{is_name, is_heading, is_tag, is_value, readable_by, is_kept}
 use Rattle.readable.proofs.Readable.{strict-no-single, strict-no-double}
 use Rattle.readable_strict.specs.Columns.{column_of}
@@ -35,11 +36,11 @@ unfolding key_save
 save-length c = omega arith
 
 -- a name by the length of its token
-pub heading-by : (c : List ℕ) → is_heading Strict Block c ≡ (heading_fits Strict (5 + length c) && is_name c)
-heading-by c = rw (data-length c)
+pub heading_by : (c : List ℕ) → is_heading Strict Block c ≡ (heading_fits Strict (5 + length c) && is_name c)
+heading_by c = rw (data-length c)
 
-pub tag-by : (c : List ℕ) → is_tag Strict Tag c ≡ (fits_tag Strict (1 + length c) && is_name c)
-tag-by c = let e : suc (length c) ≡ 1 + length c = omega arith in rw e
+pub tag_by : (c : List ℕ) → is_tag Strict Tag c ≡ (fits_tag Strict (1 + length c) && is_name c)
+tag_by c = let e : suc (length c) ≡ 1 + length c = omega arith in rw e
 
 -- the names of blocks and of frames keep one rule
 pub frame-heading : (c : List ℕ) → is_heading Strict Block c ≡ is_heading Strict FrameOpen c
@@ -54,44 +55,26 @@ bare-led (b ∷ c) h = rw (eqb-true b 59 h) (alone-semicolon c)
 pub bare-plain : (c : List ℕ) → is_bare_field Bare c ≡ false → is_value Strict Bare c ≡ is_alone Strict 10 10 c
 bare-plain c h = rw h
 
--- a space stands before no other kind
-module _ (c : List ℕ) where
-  pub led-empty : length c ≡ 0 → is_bare_field Bare c ≡ false
-  unfolding is_bare_field starts_field
-  led-empty h = by c h
-    where
-      by : (c : List ℕ) → length c ≡ 0 → starts_field c ≡ false
-      by [] h = refl
-      by (b ∷ c) h = absurd (omega arith)
-
-  pub led-first : (length c ≡ 0 → ⊥) → is_bare_field Bare c ≡ eqb (get_or c 0 0) 59
-  unfolding is_bare_field starts_field is
-  led-first h = by c h
-    where
-      by : (c : List ℕ) → (length c ≡ 0 → ⊥) → starts_field c ≡ eqb (get_or c 0 0) 59
-      by [] h = absurd (h refl)
-      by (b ∷ c) h = refl
-
 -- a quoted content: none, a mark and what may stand behind it, any other byte
-pub quoted-empty : (c : List ℕ) → length c ≡ 0 → is_value Strict Quoted c ≡ false
+pub quoted_none : (c : List ℕ) → length c < 1 → is_value Strict Quoted c ≡ false
 unfolding is_bare_field mark
-quoted-empty [] h = alone-none Strict 10 21
-quoted-empty (b ∷ c) h = absurd (omega arith)
+quoted_none [] h = alone-none Strict 10 21
+quoted_none (b ∷ c) h = absurd (omega arith)
 
-pub quoted-single : (c : List ℕ) → (length c ≡ 0 → ⊥) → get_or c 0 0 ≡ 39 → strict_plain false 39 (drop 1 c) ≡ is_value Strict Quoted c
+pub quoted_single : (c : List ℕ) → 1 ≤ length c → get_or c 0 0 ≡ 39 → strict_plain false (get_or c 0 0) (take (length c - 1) (drop 1 c)) ≡ is_value Strict Quoted c
 unfolding is_bare_field mark
-quoted-single [] h e = absurd (h refl)
-quoted-single (b ∷ c) h e = let q : b ≡ 39 = e in rw q (strict-single c)
+quoted_single [] h e = absurd (omega arith)
+quoted_single (b ∷ c) h e = let q : b ≡ 39 = e in rw (q, take_rest (39 ∷ c) 1) (strict-single c)
 
-pub quoted-double : (c : List ℕ) → (length c ≡ 0 → ⊥) → get_or c 0 0 ≡ 34 → strict_plain false 34 (drop 1 c) ≡ is_value Strict Quoted c
+pub quoted_double : (c : List ℕ) → 1 ≤ length c → get_or c 0 0 ≡ 34 → strict_plain false (get_or c 0 0) (take (length c - 1) (drop 1 c)) ≡ is_value Strict Quoted c
 unfolding is_bare_field mark
-quoted-double [] h e = absurd (h refl)
-quoted-double (b ∷ c) h e = let q : b ≡ 34 = e in rw q (strict-double c)
+quoted_double [] h e = absurd (omega arith)
+quoted_double (b ∷ c) h e = let q : b ≡ 34 = e in rw (q, take_rest (34 ∷ c) 1) (strict-double c)
 
-pub quoted-other : (c : List ℕ) → (length c ≡ 0 → ⊥) → (get_or c 0 0 ≡ 39 → ⊥) → (get_or c 0 0 ≡ 34 → ⊥) → is_value Strict Quoted c ≡ false
+pub quoted_other : (c : List ℕ) → 1 ≤ length c → (get_or c 0 0 ≡ 39 → ⊥) → (get_or c 0 0 ≡ 34 → ⊥) → is_value Strict Quoted c ≡ false
 unfolding is_bare_field mark
-quoted-other [] h f g = absurd (h refl)
-quoted-other (b ∷ c) h f g = strict-other 10 b (c ++ (b ∷ [])) f g
+quoted_other [] h f g = absurd (omega arith)
+quoted_other (b ∷ c) h f g = strict-other 10 b (c ++ (b ∷ [])) f g
 
 -- The lines of a token that is read as its kind: its content fits behind what stands before it
 
@@ -148,8 +131,8 @@ lines-kept Quoted [] h = absurd (true≢false (sym h ∙ alone-none Strict 10 21
 lines-kept Quoted (b ∷ c) h = quote-lines b c h
 
 -- all that is asked of it
-pub kept-refused : (k : Kind) (c : List ℕ) → readable_by Strict k c ≡ false → is_kept Strict k c ≡ false
-kept-refused k c h = rw h (and-false (is_fine (screened (lead Strict k c ++ marked k c))))
+pub kept_refused : (k : Kind) (c : List ℕ) → readable_by Strict k c ≡ false → is_kept Strict k c ≡ false
+kept_refused k c h = rw h (and-false (is_fine (screened (lead Strict k c ++ marked k c))))
 
 pub kept_by : (k : Kind) (c : List ℕ) → readable_by Strict k c ≡ true → is_kept Strict k c ≡ fits (column_of k c) c
 kept_by k c h = rw h (and-true (is_fine (screened (lead Strict k c ++ marked k c))) ∙ lines-kept k c h)

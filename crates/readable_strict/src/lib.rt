@@ -1,9 +1,8 @@
 // Whether a content could be read as its kind in the strict reading, by its own bytes, its marks left out.
 #![tactic(auto)]
 
-ghost use Rattle.std.specs.Prelude.{◌≡◌, false, ◌&&◌, ◌^◌, ◌≤◌, ◌<◌, length, drop};
+ghost use Rattle.std.specs.Prelude.{◌≡◌, false, ◌^◌, ◌≤◌, ◌<◌, length};
 ghost use Rattle.kinds.specs.declared.Kind.TheVariants.{Block, Tag, Bare, Quoted};
-ghost use Rattle.text.specs.Bytes.{is_space};
 ghost use Rattle.quotes.specs.Content.{strict_plain};
 ghost use Rattle.readable.specs.Tokens.{is_led};
 ghost use Rattle.readable.specs.Readable.{is_heading, is_tag, is_value, readable_by, is_kept};
@@ -13,41 +12,31 @@ use kinds::Kind;
 use rules::Reading;
 
 // The name of a block or frame: not empty, and not too long.
+#[tactic(auto, using(crate::proofs::Kept::heading_by))]
 fn is_heading(content: &[u8]) -> bool
     requires { length content.now < 2 ^ 32 }
     ensures { result ≡ is_heading Reading.Strict Block content.now }
 {
-    if !words::heading_fits(Reading::Strict, 5 + content.len()) {
-        return false;
-    }
-    readable::is_name(content)
+    words::heading_fits(Reading::Strict, 5 + content.len()) && readable::is_name(content)
 }
 
 // The name of a tag: so too.
+#[tactic(auto, using(crate::proofs::Kept::tag_by))]
 fn is_tag(content: &[u8]) -> bool
     requires { length content.now < 2 ^ 32 }
     ensures { result ≡ is_tag Reading.Strict Tag content.now }
 {
-    if !words::tag_fits(Reading::Strict, 1 + content.len()) {
-        return false;
-    }
-    readable::is_name(content)
+    words::tag_fits(Reading::Strict, 1 + content.len()) && readable::is_name(content)
 }
 
 // A bare value that starts with `;`: a space stands before it.
+#[tactic(auto, unfolding(readable::specs::Tokens::is_bare_field, readable::specs::Tokens::starts_field, text::specs::Bytes::is))]
 pub fn is_led(reading: Reading, kind: Kind, content: &[u8]) -> bool
     ensures { result ≡ is_led reading kind content.now }
 {
-    let Reading::Strict = reading else {
-        return false;
-    };
-    let Kind::Bare = kind else {
-        return false;
-    };
-    if content.len() == 0 {
-        return false;
-    }
-    content[0] == b';'
+    matches!(reading, Reading::Strict)
+        && matches!(kind, Kind::Bare)
+        && matches!(content, [b';', ..])
 }
 
 // A bare value: behind a space one that starts with `;` is any word.
@@ -61,54 +50,33 @@ fn is_bare(content: &[u8]) -> bool
     readable::is_bare(Reading::Strict, content)
 }
 
-// Whether a byte stands behind a mark that would close before it.
-fn is_shut(closes: bool, b: u8) -> bool
-    ensures { result ≡ (closes && is_space b) }
-{
-    if !closes {
-        return false;
-    }
-    text::is_space(b)
-}
-
-// Behind the mark that opens it no line end, and no space behind the same mark.
-fn is_inside(content: &[u8], mark: u8) -> bool
-    ensures { result ≡ strict_plain false mark (drop 1 content.now) }
+// What may stand in quotes: no line end, and no space behind the mark.
+fn is_inside(inside: &[u8], mark: u8) -> bool
+    ensures { result ≡ strict_plain false mark inside.now }
 {
     let mut closes = false;
-    let mut at = 1;
-    while at < content.len() {
-        let b = content[at];
-        if text::is_eol(b) {
+    for b in inside {
+        if text::is_eol(*b) || closes && text::is_space(*b) {
             return false;
         }
-        if is_shut(closes, b) {
-            return false;
-        }
-        closes = b == mark;
-        at += 1;
+        closes = *b == mark;
     }
     true
 }
 
 // A mark, and behind it what may stand in its quotes.
+#[tactic(auto, using(crate::proofs::Kept::quoted_none, crate::proofs::Kept::quoted_single, crate::proofs::Kept::quoted_double, crate::proofs::Kept::quoted_other))]
 fn is_quoted(content: &[u8]) -> bool
     ensures { result ≡ is_value Reading.Strict Quoted content.now }
 {
-    if content.len() == 0 {
+    let [mark, inside @ ..] = content else {
         return false;
-    }
-    let mark = content[0];
-    if mark == b'\'' {
-        return is_inside(content, b'\'');
-    }
-    if mark == b'"' {
-        return is_inside(content, b'"');
-    }
-    false
+    };
+    (*mark == b'\'' || *mark == b'"') && is_inside(inside, *mark)
 }
 
 // Whether a content could be read as its kind, if it is all ASCII and its lines are fine.
+#[tactic(auto, unfolding(readable::specs::Readable::readable_by, readable::specs::Tokens::is_bare_field, keywords::specs::Keywords::key_data, keywords::specs::Keywords::key_save))]
 fn is_strict(kind: Kind, content: &[u8]) -> bool
     requires { length content.now < 2 ^ 32 }
     ensures { result ≡ readable_by Reading.Strict kind content.now }
@@ -126,6 +94,7 @@ fn is_strict(kind: Kind, content: &[u8]) -> bool
 
 // How many bytes stand before a content on its line. The mark that closes a quoted value stands behind it on the same
 // line, and is counted here.
+#[tactic(auto, unfolding(crate::specs::Columns::column_of))]
 fn column_of(kind: Kind, content: &[u8]) -> usize
     ensures { result ≡ column_of kind content.now }
 {
@@ -134,21 +103,20 @@ fn column_of(kind: Kind, content: &[u8]) -> usize
         Kind::Tag | Kind::LoopTag | Kind::Multiline | Kind::Quoted => 1,
         Kind::Bare => {
             if is_led(Reading::Strict, Kind::Bare, content) {
-                return 1;
+                1
+            } else {
+                0
             }
-            0
         }
         _ => 0,
     }
 }
 
 // Whether a content could be read as its kind, if it is all ASCII: by the rule of its kind, then by its lines.
+#[tactic(auto, using(crate::proofs::Kept::kept_refused, crate::proofs::Kept::kept_by))]
 pub fn is_kept(kind: Kind, content: &[u8]) -> bool
     requires { length content.now < 2 ^ 32 }
     ensures { result ≡ is_kept Reading.Strict kind content.now }
 {
-    if !is_strict(kind, content) {
-        return false;
-    }
-    lines::fits(content, column_of(kind, content))
+    is_strict(kind, content) && lines::fits(content, column_of(kind, content))
 }

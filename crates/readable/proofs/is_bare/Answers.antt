@@ -14,14 +14,14 @@ returns-in_default c =
     found-packed _ _ _ _ _ c.pack_value.ensures c.of.ensures in
     sym (bare-other _ _ (λ k n q. not-value c.of.result (opened c.in_default.in_default-own.keys2) k n (found ∙ q)))
 
-pub returns-then-kind-ne-BARE : goal.returns-then-kind-ne-BARE
-returns-then-kind-ne-BARE c =
+pub returns-else-kind-eq-BARE : goal.returns-else-kind-eq-BARE
+returns-else-kind-eq-BARE c =
     let found : c.of.result ≡ found_at c.args.reading c.args.content.now 0 =
     found-packed _ _ _ _ _ c.pack_value.ensures c.of.ensures in
-    sym (bare-value _ _ _ _ (sym (found) ∙ c.in-Value.is) ∙ rw (ne_eqb _ _ c.if-kind-ne-BARE.true))
+    sym (bare-value _ _ _ _ (sym (found) ∙ c.in-Value.is) ∙ rw (ne_eqb _ _ c.if-kind-eq-BARE.false))
 
-pub returns : goal.returns
-returns c =
+pub returns-then-kind-eq-BARE : goal.returns-then-kind-eq-BARE
+returns-then-kind-eq-BARE c =
     let found : c.of.result ≡ found_at c.args.reading c.args.content.now 0 =
     found-packed _ _ _ _ _ c.pack_value.ensures c.of.ensures in
-    sym (bare-value _ _ _ _ (sym (found) ∙ c.in-Value.is) ∙ rw (eq-eqb _ _ c.if-kind-ne-BARE.false))
+    sym (bare-value _ _ _ _ (sym (found) ∙ c.in-Value.is) ∙ rw (eq-eqb _ _ c.if-kind-eq-BARE.true))
