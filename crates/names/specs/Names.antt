@@ -1,6 +1,6 @@
 -- The names of a store: those of kinds 4 and 6, each with its record's number and its scope (a block's own tags, or one frame's). A scope's number is that of the
 -- record that opens it. Records count from 0 over the whole store. Assumes nothing.
-use Rattle.std.specs.Prelude.{ℕ, zero, suc, Bool, cond, ◌&&◌, ◌||◌, List, [], ◌∷◌, eqb}
+use Rattle.std.specs.Prelude.{ℕ, suc, Bool, cond, ◌&&◌, ◌||◌, List, [], ◌∷◌, eqb}
 use Rattle.folding.specs.Folding.{same_name}
 use Rattle.entries.specs.declared.Entry.{Entry}
 use Rattle.entries.specs.declared.Entry.TheVariants.{Record, Nothing}
