@@ -2,7 +2,12 @@
 use mathlib.Core.Path.{◌≡◌}
 use mathlib.Core.Bool.{true}
 use borrow.Author.Tests.{eqb-true, eq-eqb}
+use Prim.Native.Nat.{ℕ}
 use lib.Dec.{eqb}
+use lib.Seq.{take-length}
+use lib.ListN.{length}
+use mathlib.Core.List.{List}
+use Rattle.text.specs.Parts.{part}
 use Rattle.text.proofs.Bools.{and_l, and_r}
 use Rattle.folding.specs.Folding.{same_name}
 use Rattle.names.specs.Names.{Name, same_both}
@@ -20,3 +25,8 @@ same_bytes x y e = and_r (eqb x.scope y.scope) (same_name x.bytes y.bytes) e
 pub same-within : (x y : Name) → x.scope ≡ y.scope → same_name x.bytes y.bytes ≡ same_both x y
 unfolding same_both
 same-within x y e = rw (eq-eqb x.scope y.scope e)
+
+-- a part that is all
+pub part-whole : (s : List ℕ) → part s 0 (length s) ≡ s
+unfolding part
+part-whole s = take-length s

@@ -2,7 +2,7 @@
 #![tactic(auto)]
 
 ghost use Rattle.std.specs.Prelude.{◌≡◌, ℕ, ◌-◌, min};
-ghost use Rattle.steps.specs.Steps.{Holds, HeldAt, Counted, first, Ahead, Before};
+ghost use Rattle.steps.specs.Steps.{Holds, HeldAt, Counted, first, Ahead, Before, held_at};
 
 use entries::{Entry, Fields};
 use kinds::Kind;
@@ -142,4 +142,11 @@ pub fn name_at(store: &[u8], area: &[u8], at: usize) -> Named
         };
     };
     name_of(area, kind, fields, at, 0, 0)
+}
+
+// The bytes of the name of the record at an offset; none where no record stands.
+pub fn bytes_at<'a>(store: &[u8], area: &'a [u8], at: usize) -> &'a [u8]
+    ensures { result.now ≡ held_at store.now area.now at }
+{
+    name_at(store, area, at).bytes(area)
 }
