@@ -27,6 +27,6 @@ unfolding same_both
 same-within x y e = rw (eq-eqb x.scope y.scope e)
 
 -- a part that is all
-pub part-whole : (s : List ℕ) → part s 0 (length s) ≡ s
+pub part_whole : (s : List ℕ) → part s 0 (length s) ≡ s
 unfolding part
-part-whole s = take-length s
+part_whole s = take-length s

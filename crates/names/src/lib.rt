@@ -5,37 +5,25 @@ ghost use Rattle.std.specs.Prelude.{◌≡◌, ℕ};
 ghost use Rattle.names.specs.Names.{same_both, block_after, scope_after, is_name_kind};
 ghost use Rattle.names.specs.Order.{less_name};
 ghost use Rattle.names.specs.Numbers.{mix as mix_of, hash_of};
-ghost use Rattle.names.specs.Parts.{name_of, Inside};
+ghost use Rattle.names.specs.Parts.{name_of};
 
 use kinds::Kind;
 
-// A name: its record's offset and number, its scope, and the part of the area that holds it.
+// A name: its record's offset and number, its scope, and its bytes.
 #[derive(Clone, Copy)]
-pub struct Named {
+pub struct Named<'a> {
     pub at: usize,
     pub number: usize,
     pub scope: usize,
-    pub from: usize,
-    pub size: usize,
-}
-
-impl Named {
-    // The part of the area that holds it.
-    pub fn bytes(self, area: &[u8]) -> &[u8]
-        requires { Inside area.now self }
-        ensures { result.now ≡ (name_of area.now self).bytes }
-    {
-        &area[self.from..self.from + self.size]
-    }
+    pub bytes: &'a [u8],
 }
 
 // Whether two names are the same in the same scope.
-#[tactic(auto, unfolding(crate::specs::Names::same_both))]
-pub fn same_both(area: &[u8], x: Named, y: Named) -> bool
-    requires { Inside area.now x × Inside area.now y }
-    ensures { result ≡ same_both (name_of area.now x) (name_of area.now y) }
+#[tactic(auto, using(crate::proofs::Same::part_whole), unfolding(crate::specs::Names::same_both))]
+pub fn same_both(x: Named<'_>, y: Named<'_>) -> bool
+    ensures { result ≡ same_both (name_of x.entry) (name_of y.entry) }
 {
-    x.scope == y.scope && folding::same_name(area, x.from, x.size, area, y.from, y.size)
+    x.scope == y.scope && folding::same_name(x.bytes, 0, x.bytes.len(), y.bytes, 0, y.bytes.len())
 }
 
 // Whether one name comes before another: the shorter first, then by their bytes, folded. Names that are the same stand alike to any other.
@@ -92,12 +80,11 @@ fn mix(h: usize, b: u8) -> usize
 }
 
 // The number by which a name is spread over the table.
-pub fn hash_name(area: &[u8], x: Named) -> usize
-    requires { Inside area.now x }
-    ensures { result ≡ hash_of (name_of area.now x) }
+pub fn hash_name(x: Named<'_>) -> usize
+    ensures { result ≡ hash_of (name_of x.entry) }
 {
     let h = x
-        .bytes(area)
+        .bytes
         .iter()
         .fold(x.scope, |h, b| mix(h, folding::to_lower(*b)));
     mix(mix(h, 0), 0)

@@ -9,5 +9,5 @@ use Rattle.names.proofs.hash_name.Goals as goal
 pub returns : goal.returns
 unfolding hash_of
 returns c =
-    let all : c.fold-h.result ≡ fold (λ (n b : ℕ). mix n (lower b)) c.args.x.scope c.bytes.result.now = search rules in
-    c.mix-2.ensures ∙ rw (c.mix.ensures, all, mix-fold, c.bytes.ensures)
+    let all : c.fold-h.result ≡ fold (λ (n b : ℕ). mix n (lower b)) c.args.x.scope c.args.x.bytes.now = search rules in
+    c.mix-2.ensures ∙ rw (c.mix.ensures, all, mix-fold)

@@ -1,7 +1,7 @@
 -- `sorted::find`: the name has no place among the entries, or its place holds it, or another. Assumes nothing.
 use Rattle.std.proofs.Common.{◌≡◌, ◌≤◌, length, rules, ◌∙◌}
 use Rattle.std.specs.Prelude.{None}
-use Rattle.names.proofs.Same.{part-whole}
+use Rattle.names.proofs.Same.{part_whole}
 use Rattle.sorted.proofs.Found.{find-end, find-is}
 use Rattle.sorted.proofs.find.Goals as goal
 
@@ -13,8 +13,8 @@ returns-in_err-held c =
 
 pub returns-then-same_name : goal.returns-then-same_name
 returns-then-same_name c =
-    find-is _ _ _ _ _ c.in_ok-held.field-0.now _ _ _ c.place_of.ensures (search rules) (search rules) c.bytes_at-y.ensures (c.same_name.ensures ∙ rw (part-whole c.bytes_at-y.result.now, part-whole c.args.x.now)) c.if-same_name.true
+    find-is _ _ _ _ _ c.in_ok-held.field-0.now _ _ _ c.place_of.ensures (search rules) (search rules) c.bytes_at-y.ensures (c.same_name.ensures ∙ rw (part_whole c.bytes_at-y.result.now, part_whole c.args.x.now)) c.if-same_name.true
 
 pub returns-else-same_name : goal.returns-else-same_name
 returns-else-same_name c =
-    find-is _ _ _ _ _ c.in_ok-held.field-0.now _ _ _ c.place_of.ensures (search rules) (search rules) c.bytes_at-y.ensures (c.same_name.ensures ∙ rw (part-whole c.bytes_at-y.result.now, part-whole c.args.x.now)) c.if-same_name.false
+    find-is _ _ _ _ _ c.in_ok-held.field-0.now _ _ _ c.place_of.ensures (search rules) (search rules) c.bytes_at-y.ensures (c.same_name.ensures ∙ rw (part_whole c.bytes_at-y.result.now, part_whole c.args.x.now)) c.if-same_name.false
