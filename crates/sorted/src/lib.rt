@@ -1,7 +1,7 @@
 // Names in order: a table of record offsets, sorted by the names that the records hold, in which a name is found by halving.
 #![tactic(auto)]
 
-ghost use Rattle.std.specs.Prelude.{◌≡◌, ℕ, ◌≤◌, length};
+ghost use Rattle.std.specs.Prelude.{◌≡◌, ℕ, ◌≤◌, ◌<◌, ◌^◌, length, IfSome};
 ghost use Rattle.sorted.specs.Found.{passed, place_of, find_in};
 
 use std::cmp::Ordering;
@@ -62,7 +62,8 @@ fn place_of(store: &[u8], area: &[u8], table: &[u32], x: &[u8]) -> usize
 
 // The offset of the record that a name is found at; none where its place holds another name.
 pub fn find(store: &[u8], area: &[u8], table: &[u32], x: &[u8]) -> Option<usize>
-    ensures { result ≡ find_in store.now area.now table.now x.now }
+    ensures found { result ≡ find_in store.now area.now table.now x.now }
+    ensures small { IfSome result (λ at. at < 2 ^ 32) }
 {
     let held = *table.get(place_of(store, area, table, x))? as usize;
     let y = steps::bytes_at(store, area, held);

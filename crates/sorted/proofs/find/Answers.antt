@@ -5,16 +5,16 @@ use Rattle.names.proofs.Same.{part_whole}
 use Rattle.sorted.proofs.Found.{find-end, find-is}
 use Rattle.sorted.proofs.find.Goals as goal
 
-pub returns-in_err-held : goal.returns-in_err-held
-returns-in_err-held c =
+pub returns-in_err-held-clause-found : goal.returns-in_err-held-clause-found
+returns-in_err-held-clause-found c =
     let e : c.from_residual.result ≡ None = search rules in
     let l : length c.args.table.now ≤ c.place_of.result = search rules in
     e ∙ find-end _ _ _ _ _ c.place_of.ensures l
 
-pub returns-then-same_name : goal.returns-then-same_name
-returns-then-same_name c =
+pub returns-then-same_name-clause-found : goal.returns-then-same_name-clause-found
+returns-then-same_name-clause-found c =
     find-is _ _ _ _ _ c.in_ok-held.field-0.now _ _ _ c.place_of.ensures (search rules) (search rules) c.bytes_at-y.ensures (c.same_name.ensures ∙ rw (part_whole c.bytes_at-y.result.now, part_whole c.args.x.now)) c.if-same_name.true
 
-pub returns-else-same_name : goal.returns-else-same_name
-returns-else-same_name c =
+pub returns-else-same_name-clause-found : goal.returns-else-same_name-clause-found
+returns-else-same_name-clause-found c =
     find-is _ _ _ _ _ c.in_ok-held.field-0.now _ _ _ c.place_of.ensures (search rules) (search rules) c.bytes_at-y.ensures (c.same_name.ensures ∙ rw (part_whole c.bytes_at-y.result.now, part_whole c.args.x.now)) c.if-same_name.false
