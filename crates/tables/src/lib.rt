@@ -3,6 +3,7 @@
 
 ghost use Rattle.std.specs.Prelude.{◌≡◌, ℕ};
 ghost use Rattle.names.specs.Parts.{name_of};
+ghost use Rattle.steps.specs.Steps.{Counted, Before};
 ghost use Rattle.tables.specs.Tables.{marked_with, found_by, met_by, last_after, Entering, Starts, Owned, Passed};
 
 use names::Named;
@@ -16,6 +17,16 @@ pub struct Scope<'a> {
     pub area: &'a [u8],
     pub number: usize,
     pub end: usize,
+}
+
+impl<'a> Scope<'a> {
+    // The next name at or behind a spot, of any scope.
+    pub fn next(self, spot: Spot) -> Option<Met<'a>>
+        requires { Counted spot }
+        ensures { Before self.entry.store.now self.entry.area.now self.entry.end spot result }
+    {
+        steps::next_before(self.store, self.area, self.end, spot)
+    }
 }
 
 // What names are asked for in: marks, of many names or a few, or sorted offsets.
@@ -45,12 +56,7 @@ pub fn pass_names(scope: Scope<'_>, table: Table<'_>, from: Spot) -> Spot
     ensures { Passed scope.entry (met_by scope.entry table.entry) from result }
 {
     let mut here = from;
-    while let Some(Met { name, after }) = steps::next_before(
-        scope.store,
-        scope.area,
-        scope.end,
-        here,
-    ) {
+    while let Some(Met { name, after }) = scope.next(here) {
         if is_met(scope, table, name) {
             return here;
         }
@@ -81,12 +87,7 @@ pub fn enter_names(scope: Scope<'_>, table: &mut [u32; SLOTS], many: bool, from:
     ensures { Owned scope.entry (marked_with table.new many scope.entry.number) from result }
 {
     let mut here = from;
-    while let Some(Met { name, after }) = steps::next_before(
-        scope.store,
-        scope.area,
-        scope.end,
-        here,
-    ) {
+    while let Some(Met { name, after }) = scope.next(here) {
         if enter(table, many, scope.number, name) {
             return here;
         }
@@ -115,12 +116,7 @@ pub fn find_names(scope: Scope<'_>, offsets: &[u32], from: Spot) -> Spot
 {
     let mut here = from;
     let mut last = 0;
-    while let Some(Met { name, after }) = steps::next_before(
-        scope.store,
-        scope.area,
-        scope.end,
-        here,
-    ) {
+    while let Some(Met { name, after }) = scope.next(here) {
         let Some(behind) = find_next(scope, offsets, last, name) else {
             return here;
         };
