@@ -1,8 +1,13 @@
 -- Laws of names that are the same in the same scope. Assumes nothing.
 use mathlib.Core.Path.{◌≡◌}
-use mathlib.Core.Bool.{true, false}
-use borrow.Author.Tests.{eqb-true, eq-eqb, ne_eqb}
+use mathlib.Core.Bool.{true}
+use borrow.Author.Tests.{eqb-true, eq-eqb}
+use Prim.Native.Nat.{ℕ}
 use lib.Dec.{eqb}
+use lib.Seq.{take-length}
+use lib.ListN.{length}
+use mathlib.Core.List.{List}
+use Rattle.text.specs.Parts.{part}
 use Rattle.text.proofs.Bools.{and_l, and_r}
 use Rattle.folding.specs.Folding.{same_name}
 use Rattle.names.specs.Names.{Name, same_both}
@@ -16,11 +21,12 @@ pub same_bytes : (x y : Name) → same_both x y ≡ true → same_name x.bytes y
 unfolding same_both
 same_bytes x y e = and_r (eqb x.scope y.scope) (same_name x.bytes y.bytes) e
 
--- names of one scope, and of two
+-- names of one scope
 pub same-within : (x y : Name) → x.scope ≡ y.scope → same_name x.bytes y.bytes ≡ same_both x y
 unfolding same_both
 same-within x y e = rw (eq-eqb x.scope y.scope e)
 
-pub same-other : (x y : Name) → (x.scope ≡ y.scope → ⊥) → false ≡ same_both x y
-unfolding same_both
-same-other x y d = rw (ne_eqb x.scope y.scope d)
+-- a part that is all
+pub part_whole : (s : List ℕ) → part s 0 (length s) ≡ s
+unfolding part
+part_whole s = take-length s

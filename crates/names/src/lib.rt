@@ -1,93 +1,78 @@
 // Names of a store: which records hold one, when two are the same, which comes first, and the number by which they are spread.
 #![tactic(auto)]
 
-ghost use Rattle.std.specs.Prelude.{◌≡◌, ℕ, ◌+◌, ◌≤◌, length};
-ghost use Rattle.text.specs.Parts.{part};
+ghost use Rattle.std.specs.Prelude.{◌≡◌, ℕ};
 ghost use Rattle.names.specs.Names.{same_both, block_after, scope_after, is_name_kind};
 ghost use Rattle.names.specs.Order.{less_name};
 ghost use Rattle.names.specs.Numbers.{mix as mix_of, hash_of};
-ghost use Rattle.names.specs.Parts.{name_of, Inside};
+ghost use Rattle.names.specs.Parts.{name_of};
 
 use kinds::Kind;
 
-// A name: its record's offset and number, its scope, and the part of the area that holds it.
+// A name: its record's offset and number, its scope, and its bytes.
 #[derive(Clone, Copy)]
-pub struct Named {
+pub struct Named<'a> {
     pub at: usize,
     pub number: usize,
     pub scope: usize,
-    pub from: usize,
-    pub size: usize,
+    pub bytes: &'a [u8],
 }
 
 // Whether two names are the same in the same scope.
-pub fn same_both(area: &[u8], x: Named, y: Named) -> bool
-    requires { Inside area.now x × Inside area.now y }
-    ensures { result ≡ same_both (name_of area.now x) (name_of area.now y) }
+#[tactic(auto, using(crate::proofs::Same::part_whole), unfolding(crate::specs::Names::same_both))]
+pub fn same_both(x: Named<'_>, y: Named<'_>) -> bool
+    ensures { result ≡ same_both (name_of x.entry) (name_of y.entry) }
 {
-    if x.scope != y.scope {
-        return false;
-    }
-    folding::same_name(area, x.from, x.size, area, y.from, y.size)
+    x.scope == y.scope && folding::same_name(x.bytes, 0, x.bytes.len(), y.bytes, 0, y.bytes.len())
 }
 
-// Whether one part of the area comes before another: the shorter first, then by their bytes, folded. Parts that are the same name stand alike to any other.
-pub fn is_before(area: &[u8], a: usize, n: usize, b: usize, m: usize) -> bool
-    requires { (a + n ≤ length area.now) × (b + m ≤ length area.now) }
-    ensures { result ≡ less_name (part area.now a n) (part area.now b m) }
+// Whether one name comes before another: the shorter first, then by their bytes, folded. Names that are the same stand alike to any other.
+pub fn is_before(u: &[u8], v: &[u8]) -> bool
+    ensures { result ≡ less_name u.now v.now }
 {
-    if n != m {
-        return n < m;
+    if u.len() != v.len() {
+        return u.len() < v.len();
     }
-    let mut k = 0;
-    while k < n {
-        let x = folding::to_lower(area[a + k]);
-        let y = folding::to_lower(area[b + k]);
+    for (i, x) in u.iter().enumerate() {
+        let x = folding::to_lower(*x);
+        let y = folding::to_lower(v[i]);
         if x != y {
             return x < y;
         }
-        k += 1;
     }
     false
 }
 
 // Whether records of a kind hold a name.
+#[tactic(auto, unfolding(crate::specs::Names::is_name_kind))]
 pub fn is_name(kind: u8) -> bool
     ensures { result ≡ is_name_kind kind }
 {
-    if kind == Kind::TAG {
-        return true;
-    }
-    kind == Kind::LOOP_TAG
+    matches!(kind, Kind::TAG | Kind::LOOP_TAG)
 }
 
 // The block behind a record: its number is that of its own record.
+#[tactic(auto, unfolding(crate::specs::Names::block_after))]
 pub fn block_after(kind: u8, number: usize, block: usize) -> usize
     ensures { result ≡ block_after kind number block }
 {
-    if kind == Kind::BLOCK {
-        return number;
-    }
-    block
+    if kind == Kind::BLOCK { number } else { block }
 }
 
 // The scope behind a record: the block or the frame that it opens, or behind a frame its block again.
+#[tactic(auto, unfolding(crate::specs::Names::scope_after))]
 pub fn scope_after(kind: u8, number: usize, block: usize, scope: usize) -> usize
     ensures { result ≡ scope_after kind number block scope }
 {
-    if kind == Kind::BLOCK {
-        return number;
+    match kind {
+        Kind::BLOCK | Kind::FRAME_OPEN => number,
+        Kind::FRAME_CLOSE => block,
+        _ => scope,
     }
-    if kind == Kind::FRAME_OPEN {
-        return number;
-    }
-    if kind == Kind::FRAME_CLOSE {
-        return block;
-    }
-    scope
 }
 
 // One byte more of a name's number.
+#[tactic(auto, unfolding(crate::specs::Numbers::mix))]
 fn mix(h: usize, b: u8) -> usize
     ensures { result ≡ mix_of h b }
 {
@@ -95,17 +80,12 @@ fn mix(h: usize, b: u8) -> usize
 }
 
 // The number by which a name is spread over the table.
-pub fn hash_name(area: &[u8], x: Named) -> usize
-    requires { Inside area.now x }
-    ensures { result ≡ hash_of (name_of area.now x) }
+pub fn hash_name(x: Named<'_>) -> usize
+    ensures { result ≡ hash_of (name_of x.entry) }
 {
-    let from = x.from;
-    let size = x.size;
-    let mut h = x.scope;
-    let mut i = 0;
-    while i < size {
-        h = mix(h, folding::to_lower(area[from + i]));
-        i += 1;
-    }
+    let h = x
+        .bytes
+        .iter()
+        .fold(x.scope, |h, b| mix(h, folding::to_lower(*b)));
     mix(mix(h, 0), 0)
 }

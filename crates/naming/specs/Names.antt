@@ -1,15 +1,15 @@
 -- NAME CHECK (document 01): within one scope (a block's own tags, or one frame's) no two names of kinds 4 and 6 are the same, which they are once A to Z is taken
 -- as a to z (document 02, Two). 13 gives the number of the first record of that name, then of the earliest record that repeats one. Records count from 0 over the
 -- whole store. Assumes nothing.
-use Rattle.std.specs.Prelude.{ℕ, cond, List, [], ◌∷◌, ◌++◌}
+use Rattle.std.specs.Prelude.{ℕ, cond, List, [], ◌∷◌, ◌++◌, Result, Ok, Err}
 use Rattle.std.proofs.Math.Option.{Option, none, some}
 use Rattle.rules.specs.declared.Reading.{Reading}
 use Rattle.places.specs.declared.Report.{Report}
-use Rattle.places.specs.Reports.{success, refused_bare}
+use Rattle.places.specs.Reports.{success, refused_bare, of_records}
 use Rattle.stores.specs.Soundness.{sound}
 use Rattle.names.specs.Names.{Name, names, same_both}
-use Rattle.naming.specs.declared.Naming.{Naming}
-use Rattle.naming.specs.declared.Naming.TheVariants.{Distinct, NotSound, Repeated}
+use Rattle.naming.specs.declared.NameError.{NameError}
+use Rattle.naming.specs.declared.NameError.TheVariants.{NotSound, Repeated}
 
 -- the first of the names that is the same as x
 unfoldable pub first_same : List Name → Name → Option ℕ
@@ -33,15 +33,15 @@ repeat_from before (x ∷ xs) = repeat_or (first_same before x) x.number (repeat
 unfoldable pub first_repeat : List Name → Repeat
 first_repeat xs = repeat_from [] xs
 
-unfoldable pub naming_of : Repeat → Naming
-naming_of fresh = Distinct
-naming_of (repeats i j) = Repeated i j
+unfoldable pub naming_of : Repeat → Result Unit NameError
+naming_of fresh = Ok tt
+naming_of (repeats i j) = Err (Repeated i j)
 
 -- NAME CHECK: 12, 13
-unfoldable pub name_check : Reading → List ℕ → List ℕ → Naming
-name_check r st ar = cond (sound r st ar) (naming_of (first_repeat (names st ar))) NotSound
+unfoldable pub name_check : Reading → List ℕ → List ℕ → Result Unit NameError
+name_check r st ar = cond (sound r st ar) (naming_of (first_repeat (names st ar))) (Err NotSound)
 
-unfoldable pub naming_report : Naming → Report
-naming_report Distinct = success 0 0
-naming_report NotSound = refused_bare 12
-naming_report (Repeated i j) = record { number = 13; offset = i; line = j; column = 0; detail = 0; first = 0; second = 0 }
+unfoldable pub naming_report : Result Unit NameError → Report
+naming_report (Ok u) = success 0 0
+naming_report (Err NotSound) = refused_bare 12
+naming_report (Err (Repeated i j)) = of_records 13 i j

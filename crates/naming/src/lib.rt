@@ -1,114 +1,119 @@
 // The name check: within one scope no name stands twice.
 #![tactic(auto)]
 
-ghost use Rattle.std.specs.Prelude.{◌≡◌, ℕ, take};
-ghost use Rattle.places.specs.Reports.{refused_bare};
-ghost use Rattle.names.specs.Names.{names};
-ghost use Rattle.names.specs.Parts.{name_of, Inside};
-ghost use Rattle.steps.specs.Steps.{names_at, Reached};
+ghost use Rattle.std.specs.Prelude.{◌≡◌, ℕ, List, Option, drop, take};
+ghost use Rattle.names.specs.Names.{Name};
+ghost use Rattle.names.specs.Parts.{name_of};
 ghost use Rattle.naming.specs.Names.{first_same, repeat_from, naming_of, name_check, naming_report};
-ghost use Rattle.naming.specs.Search.{earlier_of};
+ghost use Rattle.naming.specs.Search.{maybe, Tells, Follows};
 
 use names::Named;
 use places::Report;
 use rules::Reading;
-use steps::{Next, Spot};
+use steps::Spot;
 
-// The name check's answer: no name stands twice; 12; or 13 with two record numbers.
+// What the name check refuses: a store that is not sound; a name that stands twice, with the numbers of both records.
 #[derive(Clone, Copy)]
-pub enum Naming {
-    Distinct,
+pub enum NameError {
     NotSound,
     Repeated { first: usize, again: usize },
 }
 
-impl Naming {
-    // The answer in document 01's numbers.
-    pub fn report(self) -> Report
-        ensures { result ≡ naming_report self }
-    {
-        match self {
-            Naming::Distinct => bare(0),
-            Naming::NotSound => bare(12),
-            Naming::Repeated { first, again } => Report {
-                number: 13,
-                offset: first,
-                line: again,
-                column: 0,
-                detail: 0,
-                first: 0,
-                second: 0,
-            },
-        }
+// The answer in document 01's numbers: 0, 12 or 13.
+#[tactic(auto, unfolding(crate::specs::Names::naming_report))]
+pub fn report(answer: Result<(), NameError>) -> Report
+    ensures { result ≡ naming_report answer }
+{
+    match answer {
+        Ok(()) => Report::bare(0),
+        Err(NameError::NotSound) => Report::bare(12),
+        Err(NameError::Repeated { first, again }) => Report::records(13, first, again),
     }
 }
 
-// The record number of an earlier name that is the same.
-#[derive(Clone, Copy)]
-enum Earlier {
-    At(usize),
-    Missing,
+// Where a walk from name to name of a store stands.
+pub trait Walk: Copy {
+    // The names from here on, what is known of a place that the walk comes to, and how many names stand before it.
+    ghost rest: { List ℕ → List ℕ → Self → List Name };
+
+    ghost ready: { Self → Type 0 };
+
+    ghost passed: { Self → ℕ };
+
+    // The next name, and where the walk stands behind it.
+    fn next<'a>(self, store: &[u8], area: &'a [u8]) -> Option<(Named<'a>, Self)>
+        requires { ready self }
+        ensures { Tells (rest store.now area.now) ready passed self result };
+
+    fn passed(self) -> usize
+        ensures { result ≡ passed self };
 }
 
 // The first of so many names that is the same as x.
-fn first_same(store: &[u8], area: &[u8], x: Named, count: usize) -> Earlier
-    requires { Inside area.now x }
-    ensures { result ≡ earlier_of (first_same (take count (names store.now area.now)) (name_of area.now x)) }
+fn first_same<W: Walk>(
+    store: &[u8],
+    area: &[u8],
+    start: W,
+    x: Named<'_>,
+    count: usize,
+) -> Option<usize>
+    requires { W.ready start }
+    ensures { result ≡ maybe (first_same (take count (W.rest store.now area.now start)) (name_of x.entry)) }
 {
-    let mut spot = steps::start();
-    loop {
-        let Next::Met { name, after } = steps::next_before(store, area, count, spot) else {
-            return Earlier::Missing;
-        };
-        if names::same_both(area, name, x) {
-            return Earlier::At(name.number);
+    let mut here = start;
+    for _passed in 0..count {
+        let met = here.next(store, area)?;
+        let name = met.0;
+        if names::same_both(name, x) {
+            return Some(name.number);
         }
-        spot = after;
+        here = met.1;
     }
+    None
 }
 
-// The earliest repeat from a spot on, each name looked for among all before it.
-fn repeat_from(store: &[u8], area: &[u8], spot: Spot) -> Naming
-    requires { Reached store.now area.now spot }
-    ensures { result ≡ naming_of (repeat_from (take spot.count (names store.now area.now)) (names_at store.now area.now spot)) }
+// The earliest repeat from a place of the walk on, each name looked for among all before it.
+pub fn first_repeat<W: Walk>(store: &[u8], area: &[u8], start: W, from: W) -> Result<(), NameError>
+    requires { Follows (W.rest store.now area.now) W.ready W.passed start from }
+    ensures { result ≡ naming_of (repeat_from (take (W.passed from) (W.rest store.now area.now start)) (W.rest store.now area.now from)) }
 {
-    let mut here = spot;
-    loop {
-        let Next::Met { name, after } = steps::next_name(store, area, here) else {
-            return Naming::Distinct;
-        };
-        let earlier = first_same(store, area, name, here.count);
-        if let Earlier::At(first) = earlier {
-            return Naming::Repeated {
-                first,
-                again: name.number,
-            };
+    let mut here = from;
+    while let Some(met) = here.next(store, area) {
+        let name = met.0;
+        if let Some(first) = first_same(store, area, start, name, here.passed()) {
+            let again = name.number;
+            return Err(NameError::Repeated { first, again });
         }
-        here = after;
+        here = met.1;
+    }
+    Ok(())
+}
+
+impl Walk for Spot {
+    ghost use Rattle.steps.specs.Steps.{names_at, Counted};
+
+    ghost rest = { names_at };
+
+    ghost ready = { Counted };
+
+    ghost passed = { λ s. s.count };
+
+    fn next<'a>(self, store: &[u8], area: &'a [u8]) -> Option<(Named<'a>, Spot)> {
+        let met = steps::next_name(store, area, self)?;
+        Some((met.name, met.after))
+    }
+
+    fn passed(self) -> usize {
+        self.count
     }
 }
 
 // The service Name check: 12, 13.
-pub fn check_names(reading: Reading, store: &[u8], area: &[u8]) -> Naming
+pub fn check_names(reading: Reading, store: &[u8], area: &[u8]) -> Result<(), NameError>
     ensures { result ≡ name_check reading store.now area.now }
 {
     if !stores::is_sound(reading, store, area) {
-        return Naming::NotSound;
+        return Err(NameError::NotSound);
     }
-    repeat_from(store, area, scopes::fresh_end(store, area))
-}
-
-// A report of a number alone.
-fn bare(number: usize) -> Report
-    ensures { result ≡ refused_bare number }
-{
-    Report {
-        number,
-        offset: 0,
-        line: 0,
-        column: 0,
-        detail: 0,
-        first: 0,
-        second: 0,
-    }
+    first_repeat(store, area, steps::start(), scopes::fresh_end(store, area))
 }

@@ -17,6 +17,8 @@ use Rattle.text.proofs.Bools.{never_true, or_cases}
 use Rattle.names.proofs.Same.{same-scope}
 use Rattle.steps.proofs.Steps.{Meets, reached-first, reached-next}
 use Rattle.windows.specs.Windows.{Ran}
+use Rattle.tables.specs.declared.Scope.{Scope}
+use Rattle.tables.specs.Tables.{Apart, Walked}
 use Rattle.tables.proofs.Tables.{apart-at}
 use Rattle.scopes.specs.declared.Blocked.{Blocked}
 use Rattle.scopes.specs.Scopes.{OfScope, Between, Stretch, Framed, FramesApart, Frames, AllApart, Fresh}
@@ -38,16 +40,16 @@ stretch-next st ar s from h x after w m c =
     by : (j : ℕ) (y : Name) (q : List Name) → from.count ≤ j → j < after.count → drop j (names st ar) ≡ y ∷ q → (b : Bool) → eqb j h.count ≡ b → y.scope ≡ s
     by j y q l k d true e =
         let o : j ≡ h.count = eqb-true j h.count e in
-        let v : y ≡ name_of ar x = same_head (drop h.count (names st ar)) y (name_of ar x) q _ (rw o at d) (sym w.reached.names ∙ m.names) in
+        let v : y ≡ name_of x = same_head (drop h.count (names st ar)) y (name_of x) q _ (rw o at d) (sym w.reached.names ∙ m.names) in
         rw v c
     by j y q l k d false e =
         let o : ¬ (j ≡ h.count) = eqb-false j h.count e in
         w.all j y q l (omega (arith, m.count)) d
 
 -- a frame: up to an earlier spot its names are of one scope too
-pub framed : (st ar : List ℕ) (s end : ℕ) (from last r : Spot) → Stretch st ar s from last → end ≡ last.count → Ran st ar s end from r → Framed st ar s from r
+pub framed : (scope : Scope) (from last r : Spot) → Stretch scope.store.now scope.area.now scope.number from last → scope.end ≡ last.count → Ran scope from r → Framed scope.store.now scope.area.now scope.number from r
 unfolding OfScope
-framed st ar s end from last r w e n =
+framed scope from last r w e n =
     record {
       stretch = record { reached = n.walked.reached; onwards = n.walked.onwards; all = λ j y q l k d. w.all j y q l (omega (arith, n.walked.within)) d };
       apart = n.apart;
@@ -128,7 +130,7 @@ module _ (st ar : List ℕ) where
       rw e (record { fresh = record { reached = reached-first st ar; apart = λ i j x y p q l m. absurd (omega arith) }; below = λ j y q l. absurd (omega arith) })
 
   -- one block more: its frames' names and its own are all of its names, and no block before it has one of their scopes
-  module _ (top s end : ℕ) (h r : Spot) (g : Blocked) (w : Blocks top h) (o : (eqb h.count 0 || ltb top s) ≡ true) (f : Frames st ar s h g) (e : end ≡ g.end.count) (n : Ran st ar s end h r) where
+  module _ (top s end : ℕ) (h r : Spot) (g : Blocked) (w : Blocks top h) (o : (eqb h.count 0 || ltb top s) ≡ true) (f : Frames st ar s h g) (e : end ≡ g.end.count) (way : Walked st ar end h r) (own : Apart (names st ar) s h.count r.count r.count) where
     before : (i : ℕ) → i < h.count → top < s
     before i l = or_cases (eqb h.count 0) (ltb top s) (λ z. absurd (omega (arith, eqb-true h.count 0 z))) (λ z. ltb-true top s z) o
 
@@ -137,7 +139,7 @@ module _ (st ar : List ℕ) where
     apart_more m k i j x y p q l u d c = by (ltb j h.count) refl (ltb i h.count) refl (eqb x.scope s) refl
       where
         within : j < g.end.count
-        within = omega (arith, n.walked.within)
+        within = omega (arith, way.within)
 
         by : (a : Bool) → ltb j h.count ≡ a → (b : Bool) → ltb i h.count ≡ b → (t : Bool) → eqb x.scope s ≡ t → same_both x y ≡ false
         by true a b v t z = w.fresh.apart i j x y p q l (ltb-true j h.count a) d c
@@ -146,12 +148,12 @@ module _ (st ar : List ℕ) where
             never_true (same_both x y)
             (λ same. absurd (omega (arith, before i i-before, w.below i x p i-before d, (f.between j y q (ltb-false j h.count a) within c).0, same-scope x y same)))
         by false a false v true z =
-            apart-at (names st ar) s h.count r.count r.count n.apart i j x y p q (ltb-false i h.count v) (omega arith) l (omega arith) d c (eqb-true x.scope s z)
+            apart-at (names st ar) s h.count r.count r.count own i j x y p q (ltb-false i h.count v) (omega arith) l (omega arith) d c (eqb-true x.scope s z)
         by false a false v false z = f.apart i j x y p q (ltb-false i h.count v) l within d c (eqb-false x.scope s z)
 
     -- up to the first repeat in it
     pub fresh-more : Fresh st ar r
-    fresh-more = record { reached = n.walked.reached; apart = apart_more r.count (omega arith) }
+    fresh-more = record { reached = way.reached; apart = apart_more r.count (omega arith) }
 
     -- or up to its end
     pub blocks_more : end ≤ r.count → Blocks g.top g.end

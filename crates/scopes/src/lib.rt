@@ -6,7 +6,8 @@ ghost use Rattle.steps.specs.Steps.{Reached};
 ghost use Rattle.scopes.specs.Scopes.{Stretch, Framed, Frames, Fresh};
 
 use slots::SLOTS;
-use steps::{Next, Spot};
+use steps::{Met, Spot};
+use tables::Scope;
 
 // How far the names of a block got: the spot behind them, and the highest of their scopes.
 #[derive(Clone, Copy)]
@@ -21,24 +22,28 @@ fn stretch(store: &[u8], area: &[u8], scope: usize, from: Spot) -> Spot
     ensures { Stretch store.now area.now scope from result }
 {
     let mut here = from;
-    loop {
-        let Next::Met { name, after } = steps::next_name(store, area, here) else {
-            return here;
-        };
+    while let Some(Met { name, after }) = steps::next_name(store, area, here) {
         if name.scope != scope {
             return here;
         }
         here = after;
     }
+    here
 }
 
 // The spot of the first repeat in a frame, or the one behind it.
-fn frame(store: &[u8], area: &[u8], table: &mut [u32; SLOTS], scope: usize, from: Spot) -> Spot
+fn frame(store: &[u8], area: &[u8], table: &mut [u32; SLOTS], number: usize, from: Spot) -> Spot
     requires { Reached store.now area.now from }
-    ensures { Framed store.now area.now scope from result }
+    ensures { Framed store.now area.now number from result }
 {
-    let last = stretch(store, area, scope, from);
-    windows::compare(store, area, table, scope, last.count, from)
+    let end = stretch(store, area, number, from).count;
+    let scope = Scope {
+        store,
+        area,
+        number,
+        end,
+    };
+    windows::compare(scope, table, from)
 }
 
 // The spot of the first repeat in a frame of a block, or the one behind the block. A frame's scope is above those before it.
@@ -50,16 +55,10 @@ fn frames(store: &[u8], area: &[u8], table: &mut [u32; SLOTS], block: usize, fro
     let mut top = block;
     loop {
         let first = stretch(store, area, block, here);
-        let Next::Met { name, after } = steps::next_name(store, area, first) else {
-            return Blocked { end: first, top };
+        let scope = match steps::next_name(store, area, first) {
+            Some(Met { name, after }) if after.block == block && top < name.scope => name.scope,
+            _ => return Blocked { end: first, top },
         };
-        let scope = name.scope;
-        if after.block != block {
-            return Blocked { end: first, top };
-        }
-        if scope <= top {
-            return Blocked { end: first, top };
-        }
         let last = frame(store, area, table, scope, first);
         if last.count <= first.count {
             return Blocked { end: first, top };
@@ -73,10 +72,7 @@ fn frames(store: &[u8], area: &[u8], table: &mut [u32; SLOTS], block: usize, fro
 fn is_behind(count: usize, top: usize, block: usize) -> bool
     ensures { result ≡ (eqb count 0 || ltb top block) }
 {
-    if count == 0 {
-        return true;
-    }
-    top < block
+    count == 0 || top < block
 }
 
 // A spot up to which no name is a repeat: that of the earliest repeat, or the one behind all names.
@@ -86,17 +82,20 @@ pub fn fresh_end(store: &[u8], area: &[u8]) -> Spot
     let mut table = [0u32; SLOTS];
     let mut here = steps::start();
     let mut top = 0;
-    loop {
-        let Next::Met { name: _, after } = steps::next_name(store, area, here) else {
-            return here;
-        };
+    while let Some(Met { name: _, after }) = steps::next_name(store, area, here) {
         let block = after.block;
         if !is_behind(here.count, top, block) {
             return here;
         }
         let all = frames(store, area, &mut table, block, here);
         let end = all.end;
-        let last = windows::compare(store, area, &mut table, block, end.count, here);
+        let own = Scope {
+            store,
+            area,
+            number: block,
+            end: end.count,
+        };
+        let last = windows::compare(own, &mut table, here);
         if last.count < end.count {
             return last;
         }
@@ -106,4 +105,5 @@ pub fn fresh_end(store: &[u8], area: &[u8]) -> Spot
         top = all.top;
         here = end;
     }
+    here
 }

@@ -17,16 +17,15 @@ const STARTS: usize = 12272;
 const FEW: usize = 512;
 
 // The first slot at which a number is looked for.
+#[tactic(auto, unfolding(crate::specs::Slots::slot_of))]
 fn slot_of(many: bool, h: usize) -> usize
     ensures { result ≡ slot_of many h }
 {
-    if many {
-        return h % STARTS;
-    }
-    h % FEW
+    if many { h % STARTS } else { h % FEW }
 }
 
 // The mark that a slot keeps of a number; 0 is an empty slot.
+#[tactic(auto, unfolding(crate::specs::Slots::mark_of))]
 fn mark_of(h: usize) -> u32
     ensures { result ≡ mark_of h }
 {
@@ -39,32 +38,27 @@ fn holds(table: &[u32; SLOTS], from: usize, mark: u32) -> bool
     ensures { result ≡ holds_in table.now 16 from mark }
 {
     let mut met = false;
-    let mut i = 0;
-    while i < PROBES {
-        met = met | (table[from + i] == mark);
-        i += 1;
+    for slot in &table[from..from + PROBES] {
+        met |= *slot == mark;
     }
     met
 }
 
-// The first empty one of the slots, or no slot.
-fn free_slot(table: &[u32; SLOTS], from: usize) -> usize
+// The first empty one of the slots, if one is.
+fn free_slot(table: &[u32; SLOTS], from: usize) -> Option<usize>
     requires { from + 16 ≤ 12288 }
     ensures { result ≡ free_in table.now 16 from }
 {
-    let mut slot = from;
-    let mut left: usize = PROBES;
-    while 0 < left {
+    for slot in from..from + PROBES {
         if table[slot] == 0 {
-            return slot;
+            return Some(slot);
         }
-        slot += 1;
-        left -= 1;
     }
-    SLOTS
+    None
 }
 
 // Whether a number may have been met.
+#[tactic(auto, using(crate::proofs::Slots::within), unfolding(crate::specs::Slots::known))]
 pub fn is_known(table: &[u32; SLOTS], many: bool, h: usize) -> bool
     ensures { result ≡ known table.now many h }
 {
@@ -72,32 +66,23 @@ pub fn is_known(table: &[u32; SLOTS], many: bool, h: usize) -> bool
 }
 
 // Takes a number in, where a slot is free for it.
+#[tactic(auto, using(crate::proofs::Slots::within))]
 pub fn note(table: &mut [u32; SLOTS], many: bool, h: usize)
     ensures { table.new ≡ entered table.old many h }
 {
-    let slot = free_slot(table, slot_of(many, h));
-    if SLOTS <= slot {
-        return;
+    if let Some(slot) = free_slot(table, slot_of(many, h)) {
+        table[slot] = mark_of(h);
     }
-    table[slot] = mark_of(h);
 }
 
 // How many slots numbers are looked for in.
 fn reach(many: bool) -> usize
     ensures { result ≤ 12288 }
 {
-    if many {
-        return SLOTS;
-    }
-    FEW + PROBES
+    if many { SLOTS } else { FEW + PROBES }
 }
 
 // Empties them.
 pub fn clear(table: &mut [u32; SLOTS], many: bool) {
-    let end = reach(many);
-    let mut i = 0;
-    while i < end {
-        table[i] = 0;
-        i += 1;
-    }
+    table[..reach(many)].fill(0);
 }

@@ -1,119 +1,145 @@
 -- Laws of the walk from name to name. Assumes nothing.
 use Prim.Native.Nat.{ℕ, suc, ◌+◌, ◌-◌, ◌≤◌, ◌<◌, min}
-use mathlib.Core.Path.{◌≡◌, refl, sym, ap, ap₂, ◌∙◌}
+use mathlib.Core.Path.{◌≡◌, refl, sym, ap, ◌∙◌}
 use mathlib.Core.Bool.{Bool, true, false}
 use mathlib.Core.List.{List, [], ◌∷◌}
 use native.Mathlib.Omega.{arith}
 use native.Mathlib.Numerals.{add-one}
-use native.Mathlib.Nat.{min-le_right}
-use borrow.Author.Tests.{eqb-true, leb-true, leb-false}
-use lib.Dec.{eqb, leb}
-use lib.ListN.{length, drop}
-use Rattle.text.proofs.Bools.{or_cases}
-use Rattle.text.proofs.Parts.{part-is, part_none, part-clamped, part-past}
-use Rattle.kinds.specs.declared.Kind.{Kind}
-use Rattle.entries.specs.declared.Fields.{Fields}
+use borrow.Author.Tests.{leb-true, leb-false}
+use lib.Dec.{leb}
+use lib.ListN.{length, take, drop, drop_of_length-le}
+use Rattle.text.proofs.Parts.{part-clamped}
 use Rattle.kinds.specs.Kinds.{number_of, marks_of}
-use Rattle.entries.specs.Entries.{entry_at, whole}
+use Rattle.entries.specs.declared.Entry.{Entry}
+use Rattle.entries.specs.Entries.{entry_of, entry_at}
 use Rattle.contents.specs.Contents.{content_bytes}
-use Rattle.entries.proofs.Walking.{rest, rest_over, rest-none, next-at}
+use Rattle.entries.proofs.Walking.{rest_over, rest-none, next-at}
 use Rattle.entries.proofs.Walking.{rest-is, entries-first}
 use Rattle.contents.proofs.Kept.{content-bytes}
 use Rattle.names.specs.declared.Named.{Named}
-use Rattle.names.specs.Names.{Name, block_after, scope_after, is_name_kind, names_from, names}
-use Rattle.names.specs.Parts.{name_of, Inside}
+use Rattle.names.specs.Names.{is_name_kind, names_from, names}
+use Rattle.names.specs.Parts.{name_of}
+use Rattle.text.specs.Parts.{part}
 use Rattle.names.proofs.Lists.{drop-next}
 use Rattle.steps.specs.declared.Spot.{Spot}
-use Rattle.steps.specs.declared.Next.{Next}
-use Rattle.steps.specs.declared.Next.TheVariants.{Met, End}
-use Rattle.steps.specs.Steps.{Holds, names_at, Counted, first, listed, Kept, Ahead, Reached, held_by, held_at, HeldAt, Before}
-use Rattle.std.specs.Prelude.{None}
+use Rattle.steps.specs.declared.Met.{Met}
+use Rattle.steps.specs.Steps.{name_in, names_at, Counted, first, behind, listed, Kept, Ahead, Reached, Before}
+use Rattle.std.specs.Prelude.{Option, Some, None}
+use lib.Seq.{take-nil}
 
--- the names from an offset on, with a record's number, block and scope
-unfoldable pub names_on : List ℕ → List ℕ → ℕ → ℕ → ℕ → ℕ → List Name
-names_on st ar at i block scope = names_from (rest st at) ar i block scope
+-- a record's content, cut off at the area's end
+pub content-is : (ar : List ℕ) (e : Entry) (from n : ℕ) → from ≡ min e.fields.number (length ar) → n ≡ min (e.fields.token.length - marks_of e.kind) (length ar - from) →
+    take (from + n - from) (drop from ar) ≡ content_bytes ar e.kind e.fields
+unfolding part
+content-is ar e from n p q = by (leb e.fields.number (length ar)) refl
+  where
+    by : (t : Bool) → leb e.fields.number (length ar) ≡ t → take (from + n - from) (drop from ar) ≡ content_bytes ar e.kind e.fields
+    by true o =
+        let h : e.fields.number ≤ length ar = leb-true e.fields.number (length ar) o in
+        let f : from ≡ e.fields.number = omega arith in
+        let size : from + n - from ≡ n = omega arith in
+        rw (size, q, f, content-bytes ar e.kind e.fields) (part-clamped ar e.fields.number (e.fields.token.length - marks_of e.kind))
+    by false o =
+        let h : length ar < e.fields.number = leb-false e.fields.number (length ar) o in
+        let none : drop e.fields.number ar ≡ [] = drop_of_length-le ar (omega arith) in
+        let size : from + n - from ≡ 0 = omega arith in
+        rw (size, content-bytes ar e.kind e.fields, none) (sym (take-nil (e.fields.token.length - marks_of e.kind)))
 
-pub names-spot : (st ar : List ℕ) (s : Spot) → names_at st ar s ≡ names_on st ar s.at s.number s.block s.scope
-unfolding names_at names_on
-names-spot st ar s = rw (rest-is st s.at)
+-- where a record stands, the store goes on
+some-within : (st : List ℕ) (at : ℕ) (e : Entry) → entry_at st at ≡ Some e → at < length st
+unfolding entry_at entry_of
+some-within st at e q = by (leb (length st) at) refl
+  where
+    by : (t : Bool) → leb (length st) at ≡ t → at < length st
+    by true o =
+        let none : drop at st ≡ [] = drop_of_length-le st (leb-true (length st) at o) in
+        let z : None ≡ Some e = rw none at q in
+        cc
+    by false o = leb-false (length st) at o
 
-pub names-over : (st ar : List ℕ) (at i block scope : ℕ) → length st ≤ at → names_on st ar at i block scope ≡ []
-unfolding names_on names_from
-names-over st ar at i block scope h = rw (rest_over st at h)
+-- the walk so far: no name was met between a spot and another
+module _ (st ar : List ℕ) (from : Spot) where
+  pub record Walking (s : Spot) : Type 0 where
+    pub names : names_at st ar from ≡ names_at st ar s
+    pub counted : Counted s
+    pub count : s.count ≡ from.count
 
-pub names-none : (st ar : List ℕ) (at i block scope : ℕ) → at < length st → entry_at st at ≡ None → names_on st ar at i block scope ≡ []
-unfolding names_on names_from
-names-none st ar at i block scope h e = rw (rest-none st at h e)
+  pub walking-first : Counted from → Walking from
+  walking-first c = record { names = refl; counted = c; count = refl }
 
-module _ (st ar : List ℕ) (at i block scope : ℕ) (k : Kind) (f : Fields) (next : ℕ) (h : at < length st) (e : entry_at st at ≡ whole k f next) where
-  pub names-other : is_name_kind (number_of k) ≡ false → names_on st ar at i block scope ≡ names_on st ar next (i + 1) (block_after (number_of k) i block) (scope_after (number_of k) i block scope)
-  unfolding names_on names_from is_name_kind
-  names-other q = rw ((next-at st at k f next h e).here, q, add-one)
+  -- no record is left
+  pub walking-end : (s : Spot) → Walking s → entry_at st s.at ≡ None → Ahead st ar from None
+  unfolding listed Kept names_at names_from
+  walking-end s w q = record { names = w.names ∙ by (leb (length st) s.at) refl; kept = tt }
+    where
+      by : (t : Bool) → leb (length st) s.at ≡ t → names_at st ar s ≡ []
+      by true o = rw (rest-is st s.at, rest_over st s.at (leb-true (length st) s.at o))
+      by false o = rw (rest-is st s.at, rest-none st s.at (leb-false (length st) s.at o) q)
 
-  pub names-name : is_name_kind (number_of k) ≡ true → names_on st ar at i block scope ≡ record { number = i; scope = scope; bytes = content_bytes ar k f } ∷ names_on st ar next (i + 1) block scope
-  unfolding names_on names_from is_name_kind block_after scope_after
-  names-name q =
-      let a : block_after (number_of k) i block ≡ block = or_cases (eqb (number_of k) 4) (eqb (number_of k) 6) (λ z. rw (eqb-true (number_of k) 4 z)) (λ z. rw (eqb-true (number_of k) 6 z)) q in
-      let b : scope_after (number_of k) i block scope ≡ scope = or_cases (eqb (number_of k) 4) (eqb (number_of k) 6) (λ z. rw (eqb-true (number_of k) 4 z)) (λ z. rw (eqb-true (number_of k) 6 z)) q in
-      rw ((next-at st at k f next h e).here, q, a, b, add-one)
+  module _ (s : Spot) (e : Entry) (w : Walking s) (q : entry_at st s.at ≡ Some e) where
+    pub onwards : (s.at < length st) × (s.at < e.next)
+    onwards =
+        let h : s.at < length st = some-within st s.at e q in
+        (h, (next-at st s.at e.kind e.fields e.next h q).onwards)
 
-  pub names-onwards : at < next
-  names-onwards = (next-at st at k f next h e).onwards
+    behind-counted : Counted (behind e s)
+    unfolding Counted
+    behind-counted = (omega (arith, w.counted.0), omega (arith, w.counted.1, onwards.1))
 
-  -- a name is met
-  pub ahead-name : (s : Spot) (x : Named) → s.count ≤ i → i ≤ at → names_at st ar s ≡ names_on st ar at i block scope → is_name_kind (number_of k) ≡ true → Holds ar k f i scope x →
-      Ahead st ar s (Met x (record { at = next; number = i + 1; block = block; scope = scope; count = s.count + 1 }))
-  unfolding listed Kept Counted
-  ahead-name s x n l inv q holds =
-      let on : names_on st ar next (i + 1) block scope ≡ names_at st ar (record { at = next; number = i + 1; block = block; scope = scope; count = s.count + 1 }) = sym (names-spot st ar _) in
-      record {
-        names = inv ∙ names-name q ∙ ap₂ (λ (y : Name) (ys : List Name). y ∷ ys) (sym holds.name) on;
-        kept = (holds.inside, refl, (omega arith, omega (arith, names-onwards)));
-      }
+    -- a record that holds no name, and one that does
+    pub walking-other : is_name_kind (number_of e.kind) ≡ false → Walking (behind e s)
+    unfolding names_at names_from is_name_kind
+    walking-other o =
+        record {
+          names = w.names ∙ rw (rest-is st s.at, (next-at st s.at e.kind e.fields e.next onwards.0 q).here, o, rest-is st e.next, add-one);
+          counted = behind-counted;
+          count = w.count;
+        }
 
--- no name is left
-pub ahead-end : (st ar : List ℕ) (s : Spot) → names_at st ar s ≡ [] → Ahead st ar s End
-unfolding listed Kept
-ahead-end st ar s e = record { names = e; kept = tt }
+    pub walking-name : (x : Named) (a : Spot) → name_of x ≡ name_in ar e s → a ≡ behind e s → is_name_kind (number_of e.kind) ≡ true →
+        Ahead st ar from (Some (record { name = x; after = record a { count = s.count + 1 } }))
+    unfolding names_at names_from is_name_kind listed Kept Counted
+    walking-name x a n g o =
+        record {
+          names = w.names ∙ rw (n, g, rest-is st s.at, (next-at st s.at e.kind e.fields e.next onwards.0 q).here, o, rest-is st e.next, add-one);
+          kept = rw g (omega (arith, w.count), (omega (arith, w.counted.0), omega (arith, w.counted.1, onwards.1)));
+        }
 
 -- what a step tells its caller
 pub record Meets (st ar : List ℕ) (s : Spot) (x : Named) (after : Spot) : Type 0 where
-  pub names : names_at st ar s ≡ name_of ar x ∷ names_at st ar after
-  pub inside : Inside ar x
+  pub names : names_at st ar s ≡ name_of x ∷ names_at st ar after
   pub count : after.count ≡ s.count + 1
   pub counted : Counted after
 
-pub met : (st ar : List ℕ) (s : Spot) (r : Next) (x : Named) (after : Spot) → Ahead st ar s r → r ≡ Met x after → Meets st ar s x after
+pub met : (st ar : List ℕ) (s : Spot) (m : Met) → Ahead st ar s (Some m) → Meets st ar s m.name m.after
 unfolding listed Kept
-met st ar s r x after a e =
-    let k : Kept ar s.count (Met x after) = rw e at a.kept in
-    record { names = a.names ∙ rw e; inside = k.0; count = k.1; counted = k.2 }
+met st ar s m a = record { names = a.names; count = a.kept.0; counted = a.kept.1 }
 
-pub ended : (st ar : List ℕ) (s : Spot) (r : Next) → Ahead st ar s r → r ≡ End → names_at st ar s ≡ []
+pub ended : (st ar : List ℕ) (s : Spot) → Ahead st ar s None → names_at st ar s ≡ []
 unfolding listed
-ended st ar s r a e = a.names ∙ rw e
+ended st ar s a = a.names
 
 -- a step that so many names bound
-pub before-over : (st ar : List ℕ) (end : ℕ) (s : Spot) → end ≤ s.count → Before st ar end s End
+pub before-over : (st ar : List ℕ) (end : ℕ) (s : Spot) → end ≤ s.count → Before st ar end s None
 before-over st ar end s l = record { ahead = λ k. absurd (omega arith); over = λ k. refl }
 
-pub before-step : (st ar : List ℕ) (end : ℕ) (s : Spot) (r : Next) → s.count < end → Ahead st ar s r → Before st ar end s r
+pub before-step : (st ar : List ℕ) (end : ℕ) (s : Spot) (r : Option Met) → s.count < end → Ahead st ar s r → Before st ar end s r
 before-step st ar end s r l a = record { ahead = λ k. a; over = λ k. absurd (omega arith) }
 
 pub record MeetsBefore (st ar : List ℕ) (end : ℕ) (s : Spot) (x : Named) (after : Spot) : Type 0 where
   pub meets : Meets st ar s x after
   pub within : s.count < end
 
-pub met-before : (st ar : List ℕ) (end : ℕ) (s : Spot) (r : Next) (x : Named) (after : Spot) → Before st ar end s r → r ≡ Met x after → MeetsBefore st ar end s x after
-met-before st ar end s r x after b e = by (leb end s.count) refl
+pub met-before : (st ar : List ℕ) (end : ℕ) (s : Spot) (m : Met) → Before st ar end s (Some m) → MeetsBefore st ar end s m.name m.after
+met-before st ar end s m b = by (leb end s.count) refl
   where
-    by : (t : Bool) → leb end s.count ≡ t → MeetsBefore st ar end s x after
+    by : (t : Bool) → leb end s.count ≡ t → MeetsBefore st ar end s m.name m.after
     by true o =
-        let f : r ≡ End = b.over (leb-true end s.count o) in
-        absurd (let z : ◌≡◌ {A = ℕ} 0 1 = cc in omega arith)
+        let f : Some m ≡ None = b.over (leb-true end s.count o) in
+        cc
     by false o =
         let l : s.count < end = leb-false end s.count o in
-        record { meets = met st ar s r x after (b.ahead l) e; within = l }
+        record { meets = met st ar s m (b.ahead l); within = l }
 
 -- the walk starts with all names
 pub names-first : (st ar : List ℕ) → names st ar ≡ names_at st ar first
@@ -139,24 +165,3 @@ pub meets-less : (st ar : List ℕ) (s : Spot) (x : Named) (after : Spot) → Me
 meets-less st ar s x after m =
     let l : length (names_at st ar s) ≡ suc (length (names_at st ar after)) = ap length m.names in
     omega arith
-
--- a record's name, cut off at the area's end
-pub holds-past : (ar : List ℕ) (k : Kind) (f : Fields) (at i scope : ℕ) → length ar < f.number → Holds ar k f i scope (record { at = at; number = i; scope = scope; from = 0; size = 0 })
-holds-past ar k f at i scope h = record { name = rw (part-past ar f.number (f.token.length - marks_of k) h, content-bytes ar k f) (rw (part-is ar f.number (f.token.length - marks_of k))); inside = omega arith }
-
-pub holds-within : (ar : List ℕ) (k : Kind) (f : Fields) (at i scope n : ℕ) → f.number ≤ length ar → n ≡ min (f.token.length - marks_of k) (length ar - f.number) →
-    Holds ar k f i scope (record { at = at; number = i; scope = scope; from = f.number; size = n })
-holds-within ar k f at i scope n h e =
-    record {
-      name = rw (e, part-clamped ar f.number (f.token.length - marks_of k), content-bytes ar k f) (rw (part-is ar f.number (f.token.length - marks_of k)));
-      inside = rw e (omega (arith, min-le_right (f.token.length - marks_of k) (length ar - f.number)));
-    }
-
--- a name that is found by its record's offset
-pub held-record : (st ar : List ℕ) (at i scope : ℕ) (k : Kind) (f : Fields) (next : ℕ) (r : Named) → entry_at st at ≡ whole k f next → Holds ar k f i scope r → HeldAt st ar at r
-unfolding held_at held_by
-held-record st ar at i scope k f next r e h = record { bytes = ap (λ (x : Name). x.bytes) h.name ∙ rw e; inside = h.inside }
-
-pub held_none : (st ar : List ℕ) (at : ℕ) (r : Named) → entry_at st at ≡ None → r.from ≡ 0 → r.size ≡ 0 → HeldAt st ar at r
-unfolding held_at held_by
-held_none st ar at r e f s = record { bytes = rw (e, f, s) (part_none ar 0); inside = omega arith }

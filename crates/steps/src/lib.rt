@@ -1,15 +1,16 @@
 // The walk from name to name through a store, and the name of the record at an offset.
 #![tactic(auto)]
 
-ghost use Rattle.std.specs.Prelude.{◌≡◌, ℕ, ◌-◌, min};
-ghost use Rattle.steps.specs.Steps.{Holds, HeldAt, Counted, first, Ahead, Before};
+ghost use Rattle.std.specs.Prelude.{◌≡◌, ℕ, ◌+◌, ◌^◌, ◌<◌};
+ghost use Rattle.contents.specs.Contents.{content_bytes};
+ghost use Rattle.names.specs.Parts.{name_of};
+ghost use Rattle.steps.specs.Steps.{name_in, Counted, first, behind, Ahead, Before, held_at};
 
-use entries::{Entry, Fields};
-use kinds::Kind;
+use entries::Entry;
 use names::Named;
 
 // Where a walk stands: the offset, number, block and scope of a record, and how many names stand before it.
-#[derive(Clone, Copy)]
+#[derive(Clone, Copy, Default)]
 pub struct Spot {
     pub at: usize,
     pub number: usize,
@@ -20,128 +21,94 @@ pub struct Spot {
 
 // A step of the walk: the next name, and the spot behind it.
 #[derive(Clone, Copy)]
-pub enum Next {
-    Met { name: Named, after: Spot },
-    End,
+pub struct Met<'a> {
+    pub name: Named<'a>,
+    pub after: Spot,
 }
 
-// The number of the first record.
-const FIRST: usize = 0;
-
-// The length of a content, at most what the area has there.
-fn clamped(length: usize, marks: usize, room: usize) -> usize
-    ensures { result ≡ min (length - marks) room }
+// What a record holds of the area; what would reach past it ends there.
+fn content<'a>(area: &'a [u8], entry: Entry) -> &'a [u8]
+    ensures { result.now ≡ content_bytes area.now entry.kind entry.fields }
 {
-    if length < marks {
-        return 0;
-    }
-    if room < length - marks {
-        return room;
-    }
-    length - marks
+    let from = (entry.fields.number as usize).min(area.len());
+    let length = (entry.fields.token.length as usize).saturating_sub(entry.kind.marks());
+    &area[from..from + length.min(area.len() - from)]
 }
 
-// The name that a record holds; what would reach past the area ends there.
-fn name_of(area: &[u8], kind: Kind, fields: Fields, at: usize, number: usize, scope: usize) -> Named
-    ensures { Holds area.now kind fields number scope result }
+// The name that a record at a spot holds.
+fn name_in<'a>(area: &'a [u8], entry: Entry, spot: Spot) -> Named<'a>
+    ensures { name_of result ≡ name_in area.now entry spot }
 {
-    let from = fields.number as usize;
-    if area.len() < from {
-        return Named {
-            at,
-            number,
-            scope,
-            from: 0,
-            size: 0,
-        };
-    }
-    let length = fields.token.length as usize;
     Named {
-        at,
-        number,
-        scope,
-        from,
-        size: clamped(length, kind.marks(), area.len() - from),
+        at: spot.at,
+        number: spot.number,
+        scope: spot.scope,
+        bytes: content(area, entry),
+    }
+}
+
+// The spot behind a record that holds no name.
+fn behind(entry: Entry, spot: Spot) -> Spot
+    requires { spot.number + 1 < 2 ^ 64 }
+    ensures { result ≡ behind entry spot }
+{
+    let kind = entry.kind.number();
+    Spot {
+        at: entry.next,
+        number: spot.number + 1,
+        block: names::block_after(kind, spot.number, spot.block),
+        scope: names::scope_after(kind, spot.number, spot.block, spot.scope),
+        count: spot.count,
     }
 }
 
 // The next name at or behind a spot.
-pub fn next_name(store: &[u8], area: &[u8], spot: Spot) -> Next
+pub fn next_name<'a>(store: &[u8], area: &'a [u8], spot: Spot) -> Option<Met<'a>>
     requires { Counted spot }
     ensures { Ahead store.now area.now spot result }
 {
-    let mut at = spot.at;
-    let mut number = spot.number;
-    let mut block = spot.block;
-    let mut scope = spot.scope;
-    while at < store.len() {
-        let Some(Entry { kind, fields, next }) = entries::read_record(store, at) else {
-            return Next::End;
-        };
-        let k = kind.number();
-        if names::is_name(k) {
-            return Next::Met {
-                name: name_of(area, kind, fields, at, number, scope),
+    let mut here = spot;
+    while let Some(entry) = entries::read_record(store, here.at) {
+        let after = behind(entry, here);
+        if names::is_name(entry.kind.number()) {
+            return Some(Met {
+                name: name_in(area, entry, here),
                 after: Spot {
-                    at: next,
-                    number: number + 1,
-                    block,
-                    scope,
-                    count: spot.count + 1,
+                    count: here.count + 1,
+                    ..after
                 },
-            };
+            });
         }
-        scope = names::scope_after(k, number, block, scope);
-        block = names::block_after(k, number, block);
-        number += 1;
-        at = next;
+        here = after;
     }
-    Next::End
+    None
 }
 
 // The next name at or behind a spot with fewer than so many names before it.
-pub fn next_before(store: &[u8], area: &[u8], end: usize, spot: Spot) -> Next
+pub fn next_before<'a>(store: &[u8], area: &'a [u8], end: usize, spot: Spot) -> Option<Met<'a>>
     requires { Counted spot }
     ensures { Before store.now area.now end spot result }
 {
-    if end <= spot.count {
-        return Next::End;
+    if spot.count < end {
+        next_name(store, area, spot)
+    } else {
+        None
     }
-    next_name(store, area, spot)
 }
 
 // The spot of the first record.
 pub fn start() -> Spot
     ensures { result ≡ first }
 {
-    Spot {
-        at: 0,
-        number: FIRST,
-        block: FIRST,
-        scope: FIRST,
-        count: 0,
-    }
+    Spot::default()
 }
 
-// The name of the record at an offset; an empty one where no record stands.
-pub fn name_at(store: &[u8], area: &[u8], at: usize) -> Named
-    ensures { HeldAt store.now area.now at result }
+// The bytes of the name of the record at an offset; none where no record stands.
+pub fn bytes_at<'a>(store: &[u8], area: &'a [u8], at: usize) -> &'a [u8]
+    ensures { result.now ≡ held_at store.now area.now at }
 {
-    let Some(
-        Entry {
-            kind,
-            fields,
-            next: _,
-        },
-    ) = entries::read_record(store, at)
-    else {
-        return Named {
-            at,
-            number: 0,
-            scope: 0,
-            from: 0,
-            size: 0,
-        };
-    };
-    name_of(area, kind, fields, at, 0, 0)
+    match entries::read_record(store, at) {
+        Some(entry) => content(area, entry),
+        None => &[],
+    }
 }

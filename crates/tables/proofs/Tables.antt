@@ -4,9 +4,9 @@ use mathlib.Core.Path.{◌≡◌, refl, sym, ◌∙◌}
 use mathlib.Core.Bool.{Bool, true, false, cond, true≢false}
 use mathlib.Core.List.{List, ◌∷◌}
 use native.Mathlib.Omega.{arith}
-use borrow.Author.Tests.{eqb-true, eqb-false, eq-eqb, ne_eqb, leb-false, lt-ltb, ltb-true, ltb-false, le-leb, lt-leb}
+use borrow.Author.Tests.{eqb-true, eqb-false, eq-eqb, ne_eqb, leb-true, ltb-true, ltb-false}
 use lib.Dec.{eqb, leb, ltb}
-use lib.ListN.{drop}
+use lib.ListN.{length, drop}
 use Rattle.slots.specs.Slots.{known, entered}
 use Rattle.slots.proofs.Slots.{entered-keeps}
 use Rattle.steps.specs.declared.Spot.{Spot}
@@ -14,15 +14,18 @@ use Rattle.names.specs.declared.Named.{Named}
 use Rattle.names.specs.Names.{Name, names, same_both}
 use Rattle.names.specs.Numbers.{hash_of}
 use Rattle.names.specs.Parts.{name_of}
-use Rattle.steps.specs.Steps.{names_at, Reached}
+use Rattle.steps.specs.declared.Met.{Met}
+use Rattle.steps.specs.Steps.{names_at, Reached, Before}
+use Rattle.std.specs.Prelude.{Option, Some, None}
 use Rattle.names.proofs.Lists.{same_head}
 use Rattle.text.proofs.Bools.{never_true}
 use Rattle.names.proofs.Same.{same-scope, same_bytes}
 use Rattle.names.proofs.Numbers.{same-hash}
-use Rattle.steps.proofs.Steps.{Meets, MeetsBefore, reached-next}
+use Rattle.steps.proofs.Steps.{Meets, MeetsBefore, met-before, meets-less, reached-next}
 use Rattle.sorted.specs.Found.{find_in}
 use Rattle.sorted.proofs.Found.{find-same}
-use Rattle.tables.specs.Tables.{marked_with, found_by, met_by, last_after, Entering, Apart, AllMet, NoneMet, Walked, Owned, Passed}
+use Rattle.tables.specs.declared.Scope.{Scope}
+use Rattle.tables.specs.Tables.{marked_with, found_by, past, last_after, Entering, Apart, AllMet, NoneMet, Starts, Walked, Owned, Passed}
 
 -- a table answers for names that are the same alike
 unfoldable pub Respects : (Name → Bool) → Type 0
@@ -32,9 +35,9 @@ pub marked-same : (t : List ℕ) (many : Bool) (s : ℕ) → Respects (marked_wi
 unfolding Respects marked_with
 marked-same t many s x y e = rw (same-hash x y e, same-scope x y e)
 
-pub found-same : (st ar t : List ℕ) (n s : ℕ) → Respects (found_by st ar t n s)
+pub found-same : (w : Scope) (t : List ℕ) → Respects (found_by w t)
 unfolding Respects found_by
-found-same st ar t n s x y e = rw (find-same st ar t n x.bytes y.bytes (same_bytes x y e), same-scope x y e)
+found-same w t x y e = rw (find-same w.store.now w.area.now t x.bytes y.bytes (same_bytes x y e), same-scope x y e)
 
 -- two names that are apart
 pub apart-at : (xs : List Name) (s b m e : ℕ) → Apart xs s b m e → (i j : ℕ) (x y : Name) (p q : List Name) → b ≤ i → i < m → i < j → j < e → drop i xs ≡ x ∷ p → drop j xs ≡ y ∷ q → x.scope ≡ s → same_both x y ≡ false
@@ -148,16 +151,16 @@ marked-keeps t many s h y e = by (eqb y.scope s) e
 
 -- a name of another scope, one that was met, and one that was not
 module _ (t : List ℕ) (many : Bool) (s : ℕ) (x : Name) where
-  pub enter-other : (x.scope ≡ s → ⊥) → Entering t many s x false t
+  pub enter_other : (x.scope ≡ s → ⊥) → Entering t many s x false t
   unfolding marked_with
-  enter-other d = record { keeps = λ y e. e; new = λ e. rw (ne_eqb x.scope s d); there = λ e f. absurd (d f) }
+  enter_other d = record { keeps = λ y e. e; new = λ e. rw (ne_eqb x.scope s d); there = λ e f. absurd (d f) }
 
-  pub enter-met : Entering t many s x true t
-  enter-met = record { keeps = λ y e. e; new = λ f. absurd (true≢false f); there = λ f g. absurd (true≢false f) }
+  pub enter_met : Entering t many s x true t
+  enter_met = record { keeps = λ y e. e; new = λ f. absurd (true≢false f); there = λ f g. absurd (true≢false f) }
 
-  pub enter-new : (h : ℕ) (u : List ℕ) (a b r : Bool) → x.scope ≡ s → h ≡ hash_of x → a ≡ known t many h → a ≡ false → u ≡ entered t many h → b ≡ known u many h → (r ≡ false → b ≡ true) → Entering t many s x r u
+  pub enter_new : (h : ℕ) (u : List ℕ) (a b r : Bool) → x.scope ≡ s → h ≡ hash_of x → a ≡ known t many h → a ≡ false → u ≡ entered t many h → b ≡ known u many h → (r ≡ false → b ≡ true) → Entering t many s x r u
   unfolding marked_with
-  enter-new h u a b r c e k f v w g =
+  enter_new h u a b r c e k f v w g =
       record {
         keeps = λ y o. rw v (marked-keeps t many s h y o);
         new = λ o. rw (eq-eqb x.scope s c, ← e, ← k, f);
@@ -177,179 +180,148 @@ walked_next st ar end from s x after w m =
     }
 
 -- the name that is met stands behind those that were passed
-here-is : (st ar : List ℕ) (s : Spot) (x : Named) (after : Spot) → Reached st ar s → Meets st ar s x after → drop s.count (names st ar) ≡ name_of ar x ∷ names_at st ar after
+here-is : (st ar : List ℕ) (s : Spot) (x : Named) (after : Spot) → Reached st ar s → Meets st ar s x after → drop s.count (names st ar) ≡ name_of x ∷ names_at st ar after
 here-is st ar s x after r m = sym r.names ∙ m.names
 
--- names that are passed
-pub passed_first : (st ar : List ℕ) (met : Name → Bool) (end : ℕ) (s : Spot) → Reached st ar s → s.count ≤ end → Passed st ar met end s s
-passed_first st ar met end s r l = record { walked = walked-first st ar end s r l; none = none_first (names st ar) s.count met }
+-- names that are passed, and names that are entered
+module _ (w : Scope) where
+  abbrev xs : List Name
+  xs = names w.store.now w.area.now
 
-pub passed-next : (st ar : List ℕ) (met : Name → Bool) (end : ℕ) (from s : Spot) (x : Named) (after : Spot) (b : Bool) → Passed st ar met end from s → MeetsBefore st ar end s x after →
-    b ≡ met (name_of ar x) → b ≡ false → Passed st ar met end from after
-passed-next st ar met end from s x after b p m e f =
-    record {
-      walked = walked_next st ar end from s x after p.walked m;
-      none = rw m.meets.count (none-next (names st ar) s.count (name_of ar x) _ (here-is st ar s x after p.walked.reached m.meets) from.count met p.none (sym e ∙ f));
-    }
+  pub passed_first : (met : Name → Bool) (s : Spot) → Starts w s → Passed w met s s
+  passed_first met s r = record { walked = walked-first w.store.now w.area.now w.end s r.0 r.1; none = none_first xs s.count met }
 
--- names that are entered
-pub owned-first : (st ar : List ℕ) (s : ℕ) (met : Name → Bool) (end : ℕ) (h : Spot) → Reached st ar h → h.count ≤ end → Owned st ar s met end h h
-owned-first st ar s met end h r l =
-    record {
-      walked = walked-first st ar end h r l;
-      all = all_first (names st ar) s h.count met;
-      apart = apart-first (names st ar) s h.count h.count;
-    }
-
--- one name more that is none of those in the table
-pub owned-next : (st ar : List ℕ) (s : ℕ) (met more : Name → Bool) (end : ℕ) (from h : Spot) (x : Named) (after : Spot) → Respects met → Owned st ar s met end from h → MeetsBefore st ar end h x after →
-    ((y : Name) → met y ≡ true → more y ≡ true) → met (name_of ar x) ≡ false → (x.scope ≡ s → more (name_of ar x) ≡ true) → Owned st ar s more end from after
-owned-next st ar s met more end from h x after k o m u e f =
-    let xs = names st ar in
-    let here = here-is st ar h x after o.walked.reached m.meets in
-    let one : NoneMet xs met h.count (h.count + 1) = none-next xs h.count (name_of ar x) _ here h.count met (none_first xs h.count met) e in
-    record {
-      walked = walked_next st ar end from h x after o.walked m;
-      all = rw m.meets.count (all-next xs h.count (name_of ar x) _ here s from.count more (all_up xs s from.count h.count met more u o.all) f);
-      apart = rw m.meets.count (apart-last xs s from.count h.count (apart-join xs s from.count h.count (h.count + 1) met k o.apart o.all one));
-    }
-
-pub owned-enter : (st ar : List ℕ) (many : Bool) (s : ℕ) (t u : List ℕ) (b : Bool) (end : ℕ) (from h : Spot) (x : Named) (after : Spot) → Owned st ar s (marked_with t many s) end from h →
-    MeetsBefore st ar end h x after → Entering t many s (name_of ar x) b u → b ≡ false → Owned st ar s (marked_with u many s) end from after
-owned-enter st ar many s t u b end from h x after o m e f =
-    owned-next st ar s (marked_with t many s) (marked_with u many s) end from h x after (marked-same t many s) o m
-    e.keeps
-    (e.new f)
-    (e.there f)
-
--- those before a name that was met stay known
-pub owned-kept : (st ar : List ℕ) (many : Bool) (s : ℕ) (t u : List ℕ) (b : Bool) (x : Name) (end : ℕ) (from h : Spot) → Owned st ar s (marked_with t many s) end from h → Entering t many s x b u → Owned st ar s (marked_with u many s) end from h
-owned-kept st ar many s t u b x end from h o e =
-    record {
-      walked = o.walked;
-      all = all_up (names st ar) s from.count h.count (marked_with t many s) (marked_with u many s) e.keeps o.all;
-      apart = o.apart;
-    }
-
--- the two ways to ask
-pub passed-marks : (st ar t : List ℕ) (many : Bool) (s end : ℕ) (from r : Spot) → Passed st ar (met_by st ar t (record { many = many; sorted = false; count = 0 }) s) end from r → Passed st ar (marked_with t many s) end from r
-unfolding met_by NoneMet
-passed-marks st ar t many s end from r p = record { walked = p.walked; none = λ j y q l m d. p.none j y q l m d }
-
-pub passed-order : (st ar t : List ℕ) (n s end : ℕ) (from r : Spot) → Passed st ar (met_by st ar t (record { many = false; sorted = true; count = n }) s) end from r → Passed st ar (found_by st ar t n s) end from r
-unfolding met_by NoneMet
-passed-order st ar t n s end from r p = record { walked = p.walked; none = λ j y q l m d. p.none j y q l m d }
-
--- how a name is asked for: one of another scope, one among sorted offsets, one by its mark
-module _ (st ar t : List ℕ) (many sorted : Bool) (n s : ℕ) (x : Name) where
-  abbrev Asked : Bool
-  Asked = met_by st ar t (record { many = many; sorted = sorted; count = n }) s x
-
-  pub ask-other : (x.scope ≡ s → ⊥) → false ≡ Asked
-  unfolding met_by found_by marked_with
-  ask-other d = by sorted
-    where
-      by : (b : Bool) → false ≡ cond b (cond (eqb x.scope s) (ltb 0 (find_in st ar t n x.bytes)) false) (cond (eqb x.scope s) (known t many (hash_of x)) false)
-      by true = rw (ne_eqb x.scope s d)
-      by false = rw (ne_eqb x.scope s d)
-
-  pub ask-order : (f : ℕ) → x.scope ≡ s → sorted ≡ true → f ≡ find_in st ar t n x.bytes → ltb 0 f ≡ Asked
-  unfolding met_by found_by
-  ask-order f c e g = rw (e, eq-eqb x.scope s c, g)
-
-  pub ask-marks : (h : ℕ) (b : Bool) → x.scope ≡ s → sorted ≡ false → h ≡ hash_of x → b ≡ known t many h → b ≡ Asked
-  unfolding met_by marked_with
-  ask-marks h b c e f g = g ∙ rw (e, eq-eqb x.scope s c, f)
-
--- where a name is found: one of another scope, one not behind the last, one behind it
-module _ (st ar t : List ℕ) (n s last : ℕ) (x : Name) where
-  pub last-other : (x.scope ≡ s → ⊥) → last ≡ last_after st ar t n s last x
-  unfolding last_after
-  last-other d = rw (ne_eqb x.scope s d)
-
-  pub last_none : (f : ℕ) → x.scope ≡ s → f ≡ find_in st ar t n x.bytes → f ≤ last → 0 ≡ last_after st ar t n s last x
-  unfolding last_after
-  last_none f c e l = rw (eq-eqb x.scope s c, ← e, le-leb f last l)
-
-  pub last_found : (f : ℕ) → x.scope ≡ s → f ≡ find_in st ar t n x.bytes → last < f → f ≡ last_after st ar t n s last x
-  unfolding last_after
-  last_found f c e l = rw (eq-eqb x.scope s c, ← e, lt-leb f last l)
-
--- the names found so far: none behind the last of them
-module _ (st ar t : List ℕ) (n s end : ℕ) (from : Spot) where
-  pub record Finding (last : ℕ) (h : Spot) : Type 0 where
-    pub owned : Owned st ar s (found_by st ar t n s) end from h
-    pub some : 1 ≤ last
-    pub behind : (i : ℕ) (y : Name) (p : List Name) → from.count ≤ i → i < h.count → drop i (names st ar) ≡ y ∷ p → y.scope ≡ s → find_in st ar t n y.bytes ≤ last
-
-  pub finding-first : Reached st ar from → from.count ≤ end → Finding 1 from
-  finding-first r l = record { owned = owned-first st ar s (found_by st ar t n s) end from r l; some = omega arith; behind = λ i y p a b. absurd (omega arith) }
-
-  -- one name more, of the scope or not
-  found-next : (last : ℕ) (h : Spot) (x : Named) (after : Spot) → Finding last h → MeetsBefore st ar end h x after → x.scope ≡ s → last < find_in st ar t n (name_of ar x).bytes →
-      Finding (find_in st ar t n (name_of ar x).bytes) after
-  unfolding found_by
-  found-next last h x after w m c g =
-      let xs = names st ar in
-      let new = find_in st ar t n (name_of ar x).bytes in
-      let here = here-is st ar h x after w.owned.walked.reached m.meets in
+  pub passed-next : (met : Name → Bool) (from s : Spot) (m : Met) (b : Bool) → Passed w met from s → Before w.store.now w.area.now w.end s (Some m) → b ≡ met (name_of m.name) → b ≡ false → Passed w met from m.after
+  passed-next met from s m b p q e f =
+      let k = met-before w.store.now w.area.now w.end s m q in
       record {
-        owned =
-            record {
-              walked = walked_next st ar end from h x after w.owned.walked m;
-              all = rw m.meets.count (all-next xs h.count (name_of ar x) _ here s from.count (found_by st ar t n s) w.owned.all (λ z. rw (eq-eqb x.scope s c) (lt-ltb 0 new (omega (arith, w.some)))));
-              apart =
-                  rw m.meets.count
-                  (apart-one xs s from.count h.count (name_of ar x) _ here w.owned.apart
-                  (λ i y p a b d z. never_true (same_both y (name_of ar x)) (λ u. absurd (omega (arith, w.behind i y p a b d z, find-same st ar t n y.bytes (name_of ar x).bytes (same_bytes y (name_of ar x) u))))));
-            };
-        some = omega (arith, w.some);
-        behind = λ i y p a b d z. by here i y p a b d z (eqb i h.count) refl;
+        walked = walked_next w.store.now w.area.now w.end from s m.name m.after p.walked k;
+        none = rw k.meets.count (none-next xs s.count (name_of m.name) _ (here-is w.store.now w.area.now s m.name m.after p.walked.reached k.meets) from.count met p.none (sym e ∙ f));
       }
-    where
-      by : drop h.count (names st ar) ≡ name_of ar x ∷ names_at st ar after → (i : ℕ) (y : Name) (p : List Name) → from.count ≤ i → i < after.count → drop i (names st ar) ≡ y ∷ p → y.scope ≡ s → (b : Bool) → eqb i h.count ≡ b →
-          find_in st ar t n y.bytes ≤ find_in st ar t n (name_of ar x).bytes
-      by here i y p a b d z true e =
-          let o : i ≡ h.count = eqb-true i h.count e in
-          let k : y ≡ name_of ar x = same_head (drop h.count (names st ar)) y (name_of ar x) p _ (rw o at d) here in
-          rw k (omega arith)
-      by here i y p a b d z false e =
-          let o : ¬ (i ≡ h.count) = eqb-false i h.count e in
-          omega (arith, w.behind i y p a (omega (arith, m.meets.count)) d z)
 
-  other-next : (last : ℕ) (h : Spot) (x : Named) (after : Spot) → Finding last h → MeetsBefore st ar end h x after → (x.scope ≡ s → ⊥) → Finding last after
-  other-next last h x after w m c =
-      let xs = names st ar in
-      let here = here-is st ar h x after w.owned.walked.reached m.meets in
+  pub owned-first : (met : Name → Bool) (h : Spot) → Starts w h → Owned w met h h
+  owned-first met h r =
       record {
-        owned =
-            record {
-              walked = walked_next st ar end from h x after w.owned.walked m;
-              all = rw m.meets.count (all-next xs h.count (name_of ar x) _ here s from.count (found_by st ar t n s) w.owned.all (λ z. absurd (c z)));
-              apart =
-                  rw m.meets.count
-                  (apart-one xs s from.count h.count (name_of ar x) _ here w.owned.apart
-                  (λ i y p a b d z. never_true (same_both y (name_of ar x)) (λ u. c (sym (same-scope y (name_of ar x) u) ∙ z))));
-            };
-        some = w.some;
-        behind = λ i y p a b d z. by here i y p a b d z (eqb i h.count) refl;
+        walked = walked-first w.store.now w.area.now w.end h r.0 r.1;
+        all = all_first xs w.number h.count met;
+        apart = apart-first xs w.number h.count h.count;
       }
-    where
-      by : drop h.count (names st ar) ≡ name_of ar x ∷ names_at st ar after → (i : ℕ) (y : Name) (p : List Name) → from.count ≤ i → i < after.count → drop i (names st ar) ≡ y ∷ p → y.scope ≡ s → (b : Bool) → eqb i h.count ≡ b →
-          find_in st ar t n y.bytes ≤ last
-      by here i y p a b d z true e =
-          let o : i ≡ h.count = eqb-true i h.count e in
-          let k : y ≡ name_of ar x = same_head (drop h.count (names st ar)) y (name_of ar x) p _ (rw o at d) here in
-          absurd (c (rw k at z))
-      by here i y p a b d z false e =
-          let o : ¬ (i ≡ h.count) = eqb-false i h.count e in
-          w.behind i y p a (omega (arith, m.meets.count)) d z
 
-  pub finding-next : (last f : ℕ) (h : Spot) (x : Named) (after : Spot) → Finding last h → MeetsBefore st ar end h x after → f ≡ last_after st ar t n s last (name_of ar x) → (f ≡ 0 → ⊥) → Finding f after
-  unfolding last_after
-  finding-next last f h x after w m e d = by (eqb x.scope s) refl (leb (find_in st ar t n (name_of ar x).bytes) last) refl e
-    where
-      by : (a : Bool) → eqb x.scope s ≡ a → (b : Bool) → leb (find_in st ar t n (name_of ar x).bytes) last ≡ b → f ≡ cond a (cond b 0 (find_in st ar t n (name_of ar x).bytes)) last → Finding f after
-      by true p true q g = absurd (d g)
-      by true p false q g = rw g (found-next last h x after w m (eqb-true x.scope s p) (leb-false (find_in st ar t n (name_of ar x).bytes) last q))
-      by false p b q g = rw g (other-next last h x after w m (eqb-false x.scope s p))
+  -- one name more that is none of those in the table
+  pub owned-next : (met more : Name → Bool) (from h : Spot) (m : Met) → Respects met → Owned w met from h → MeetsBefore w.store.now w.area.now w.end h m.name m.after → ((y : Name) → met y ≡ true → more y ≡ true) →
+      met (name_of m.name) ≡ false → (m.name.scope ≡ w.number → more (name_of m.name) ≡ true) → Owned w more from m.after
+  owned-next met more from h m k o q u e f =
+      let x = name_of m.name in
+      let here = here-is w.store.now w.area.now h m.name m.after o.walked.reached q.meets in
+      let one : NoneMet xs met h.count (h.count + 1) = none-next xs h.count x _ here h.count met (none_first xs h.count met) e in
+      record {
+        walked = walked_next w.store.now w.area.now w.end from h m.name m.after o.walked q;
+        all = rw q.meets.count (all-next xs h.count x _ here w.number from.count more (all_up xs w.number from.count h.count met more u o.all) f);
+        apart = rw q.meets.count (apart-last xs w.number from.count h.count (apart-join xs w.number from.count h.count (h.count + 1) met k o.apart o.all one));
+      }
+
+  pub owned-enter : (many : Bool) (t u : List ℕ) (b : Bool) (from h : Spot) (m : Met) → Owned w (marked_with t many w.number) from h → Before w.store.now w.area.now w.end h (Some m) →
+      Entering t many w.number (name_of m.name) b u → b ≡ false → Owned w (marked_with u many w.number) from m.after
+  owned-enter many t u b from h m o q e f =
+      owned-next (marked_with t many w.number) (marked_with u many w.number) from h m (marked-same t many w.number) o (met-before w.store.now w.area.now w.end h m q) e.keeps (e.new f) (e.there f)
+
+  -- those before a name that was met stay known
+  pub owned-kept : (many : Bool) (t u : List ℕ) (b : Bool) (x : Name) (from h : Spot) → Owned w (marked_with t many w.number) from h → Entering t many w.number x b u → Owned w (marked_with u many w.number) from h
+  owned-kept many t u b x from h o e =
+      record {
+        walked = o.walked;
+        all = all_up xs w.number from.count h.count (marked_with t many w.number) (marked_with u many w.number) e.keeps o.all;
+        apart = o.apart;
+      }
+
+  -- a name that the walk meets is followed by fewer
+  pub fewer : (s : Spot) (m : Met) → Before w.store.now w.area.now w.end s (Some m) → length (names_at w.store.now w.area.now m.after) < length (names_at w.store.now w.area.now s)
+  fewer s m q = meets-less w.store.now w.area.now s m.name m.after (met-before w.store.now w.area.now w.end s m q).meets
+
+  -- the names found so far: none behind the last of them
+  module _ (t : List ℕ) (from : Spot) where
+    abbrev found : Name → Option ℕ
+    found y = find_in w.store.now w.area.now t y.bytes
+
+    pub record Finding (last : ℕ) (h : Spot) : Type 0 where
+      pub owned : Owned w (found_by w t) from h
+      pub behind : (i : ℕ) (y : Name) (p : List Name) (at : ℕ) → from.count ≤ i → i < h.count → drop i xs ≡ y ∷ p → y.scope ≡ w.number → found y ≡ Some at → at < last
+
+    pub finding-first : Starts w from → Finding 0 from
+    finding-first r = record { owned = owned-first (found_by w t) from r; behind = λ i y p at a b. absurd (omega arith) }
+
+    -- one name more, of the scope or not
+    found-next : (last at : ℕ) (h : Spot) (m : Met) → Finding last h → MeetsBefore w.store.now w.area.now w.end h m.name m.after → m.name.scope ≡ w.number → found (name_of m.name) ≡ Some at → last ≤ at → Finding (at + 1) m.after
+    unfolding found_by
+    found-next last at h m f q c g l =
+        let x = name_of m.name in
+        let here = here-is w.store.now w.area.now h m.name m.after f.owned.walked.reached q.meets in
+        record {
+          owned =
+              record {
+                walked = walked_next w.store.now w.area.now w.end from h m.name m.after f.owned.walked q;
+                all = rw q.meets.count (all-next xs h.count x _ here w.number from.count (found_by w t) f.owned.all (λ z. rw (eq-eqb m.name.scope w.number c, g)));
+                apart =
+                    rw q.meets.count
+                    (apart-one xs w.number from.count h.count x _ here f.owned.apart
+                    (λ i y p a b d z. never_true (same_both y x)
+                    (λ u. let s : found y ≡ Some at = find-same w.store.now w.area.now t y.bytes x.bytes (same_bytes y x u) ∙ g in absurd (omega (arith, f.behind i y p at a b d z s)))));
+              };
+          behind = λ i y p n a b d z s. by here i y p n a b d z s (eqb i h.count) refl;
+        }
+      where
+        by : drop h.count xs ≡ name_of m.name ∷ names_at w.store.now w.area.now m.after → (i : ℕ) (y : Name) (p : List Name) (n : ℕ) → from.count ≤ i → i < m.after.count → drop i xs ≡ y ∷ p → y.scope ≡ w.number → found y ≡ Some n → (b : Bool) →
+            eqb i h.count ≡ b → n < at + 1
+        by here i y p n a b d z s true e =
+            let o : i ≡ h.count = eqb-true i h.count e in
+            let k : y ≡ name_of m.name = same_head (drop h.count xs) y (name_of m.name) p _ (rw o at d) here in
+            let v : Some n ≡ Some at = sym s ∙ rw k g in
+            let same : n ≡ at = cc in
+            omega arith
+        by here i y p n a b d z s false e =
+            let o : ¬ (i ≡ h.count) = eqb-false i h.count e in
+            omega (arith, f.behind i y p n a (omega (arith, q.meets.count)) d z s)
+
+    other-next : (last : ℕ) (h : Spot) (m : Met) → Finding last h → MeetsBefore w.store.now w.area.now w.end h m.name m.after → (m.name.scope ≡ w.number → ⊥) → Finding last m.after
+    other-next last h m f q c =
+        let x = name_of m.name in
+        let here = here-is w.store.now w.area.now h m.name m.after f.owned.walked.reached q.meets in
+        record {
+          owned =
+              record {
+                walked = walked_next w.store.now w.area.now w.end from h m.name m.after f.owned.walked q;
+                all = rw q.meets.count (all-next xs h.count x _ here w.number from.count (found_by w t) f.owned.all (λ z. absurd (c z)));
+                apart = rw q.meets.count (apart-one xs w.number from.count h.count x _ here f.owned.apart (λ i y p a b d z. never_true (same_both y x) (λ u. c (sym (same-scope y x u) ∙ z))));
+              };
+          behind = λ i y p n a b d z s. by here i y p n a b d z s (eqb i h.count) refl;
+        }
+      where
+        by : drop h.count xs ≡ name_of m.name ∷ names_at w.store.now w.area.now m.after → (i : ℕ) (y : Name) (p : List Name) (n : ℕ) → from.count ≤ i → i < m.after.count → drop i xs ≡ y ∷ p → y.scope ≡ w.number → found y ≡ Some n → (b : Bool) →
+            eqb i h.count ≡ b → n < last
+        by here i y p n a b d z s true e =
+            let o : i ≡ h.count = eqb-true i h.count e in
+            let k : y ≡ name_of m.name = same_head (drop h.count xs) y (name_of m.name) p _ (rw o at d) here in
+            absurd (c (rw k at z))
+        by here i y p n a b d z s false e =
+            let o : ¬ (i ≡ h.count) = eqb-false i h.count e in
+            f.behind i y p n a (omega (arith, q.meets.count)) d z s
+
+    pub finding-next : (last next : ℕ) (h : Spot) (m : Met) → Finding last h → Before w.store.now w.area.now w.end h (Some m) → Some next ≡ last_after w t last (name_of m.name) → Finding next m.after
+    unfolding last_after past
+    finding-next last next h m f q e = by (eqb m.name.scope w.number) refl (found (name_of m.name)) refl e
+      where
+        k : MeetsBefore w.store.now w.area.now w.end h m.name m.after
+        k = met-before w.store.now w.area.now w.end h m q
+
+        by : (a : Bool) → eqb m.name.scope w.number ≡ a → (o : Option ℕ) → found (name_of m.name) ≡ o → Some next ≡ cond a (past last o) (Some last) → Finding next m.after
+        by true p None g v = cc
+        by true p (Some at) g v = to (leb last at) refl v
+          where
+            to : (b : Bool) → leb last at ≡ b → Some next ≡ cond b (Some (at + 1)) None → Finding next m.after
+            to true l z =
+                let n : next ≡ at + 1 = cc in
+                rw n (found-next last at h m f k (eqb-true m.name.scope w.number p) g (leb-true last at l))
+            to false l z = cc
+        by false p o g v =
+            let n : next ≡ last = cc in
+            rw n (other-next last h m f k (eqb-false m.name.scope w.number p))

@@ -1,11 +1,7 @@
--- `slots::holds`: the mark is among the first i slots. Assumes nothing.
-use Prim.Native.Nat.{◌-◌, ◌≤◌}
-use mathlib.Core.Path.{◌≡◌}
+-- `slots::holds`: the mark is among the slots that were looked at. Assumes nothing.
+use Rattle.std.proofs.Common.{◌≡◌}
 use Rattle.slots.specs.Slots.{holds_in}
 use Rattle.slots.proofs.holds.Given as goal
 
-abbrev pub invariant-loop-i : goal.invariant-loop-i
-invariant-loop-i l = (l.i ≤ 16) × (l.met ≡ holds_in l.table l.i l.from l.mark)
-
-abbrev pub decreases-loop-i : goal.decreases-loop-i
-decreases-loop-i l = 16 - l.i
+abbrev pub invariant-loop-slot : goal.invariant-loop-slot
+invariant-loop-slot l = l.met ≡ holds_in l.table l.slot-index l.from l.mark

@@ -1,12 +1,20 @@
 -- `sorted::find`: the name has no place among the entries, or its place holds it, or another. Assumes nothing.
+use Rattle.std.proofs.Common.{◌≡◌, ◌≤◌, length, rules, ◌∙◌}
+use Rattle.std.specs.Prelude.{None}
+use Rattle.names.proofs.Same.{part_whole}
 use Rattle.sorted.proofs.Found.{find-end, find-is}
 use Rattle.sorted.proofs.find.Goals as goal
 
-pub returns-then-n-at : goal.returns-then-n-at
-returns-then-n-at c = find-end _ _ _ _ _ _ c.place_of-at.ensures c.if-n-at.true
+pub returns-in_err-held-clause-found : goal.returns-in_err-held-clause-found
+returns-in_err-held-clause-found c =
+    let e : c.from_residual.result ≡ None = search rules in
+    let l : length c.args.table.now ≤ c.place_of.result = search rules in
+    e ∙ find-end _ _ _ _ _ c.place_of.ensures l
 
-pub returns-then-same_name : goal.returns-then-same_name
-returns-then-same_name c = find-is _ _ _ _ _ _ _ _ _ _ c.place_of-at.ensures c.if-n-at.false c.wide-held.ensures.0 c.name_at-y.ensures.bytes c.same_name.ensures c.if-same_name.true
+pub returns-then-same_name-clause-found : goal.returns-then-same_name-clause-found
+returns-then-same_name-clause-found c =
+    find-is _ _ _ _ _ c.in_ok-held.field-0.now _ _ _ c.place_of.ensures (search rules) (search rules) c.bytes_at-y.ensures (c.same_name.ensures ∙ rw (part_whole c.bytes_at-y.result.now, part_whole c.args.x.now)) c.if-same_name.true
 
-pub returns : goal.returns
-returns c = find-is _ _ _ _ _ _ _ _ _ _ c.place_of-at.ensures c.if-n-at.false c.wide-held.ensures.0 c.name_at-y.ensures.bytes c.same_name.ensures c.if-same_name.false
+pub returns-else-same_name-clause-found : goal.returns-else-same_name-clause-found
+returns-else-same_name-clause-found c =
+    find-is _ _ _ _ _ c.in_ok-held.field-0.now _ _ _ c.place_of.ensures (search rules) (search rules) c.bytes_at-y.ensures (c.same_name.ensures ∙ rw (part_whole c.bytes_at-y.result.now, part_whole c.args.x.now)) c.if-same_name.false

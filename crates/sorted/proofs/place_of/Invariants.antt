@@ -1,12 +1,7 @@
 -- `sorted::place_of`: the steps that are left lead to the same place. Assumes nothing.
-use Prim.Native.Nat.{◌≤◌}
-use mathlib.Core.Path.{◌≡◌}
-use Rattle.names.specs.Parts.{name_of}
+use Rattle.std.proofs.Common.{◌≡◌, ◌≤◌, ◌-◌, length}
 use Rattle.sorted.specs.Found.{place_from, place_of}
 use Rattle.sorted.proofs.place_of.Given as goal
 
-abbrev pub invariant-loop-left : goal.invariant-loop-left
-invariant-loop-left l = (l.at ≤ l.n) × (l.half ≤ 8191) × (place_of l.store l.area l.table l.n (name_of l.area l.x).bytes ≡ place_from l.store l.area l.table l.n l.left l.at l.half (name_of l.area l.x).bytes)
-
-abbrev pub decreases-loop-left : goal.decreases-loop-left
-decreases-loop-left l = l.left
+abbrev pub invariant-loop-step : goal.invariant-loop-step
+invariant-loop-step l = (l.at ≤ length l.table) × (l.half ≤ 8191) × (place_of l.store l.area l.table l.x ≡ place_from l.store l.area l.table (14 - l._step) l.at l.half l.x)
