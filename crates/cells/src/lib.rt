@@ -8,6 +8,13 @@ ghost use Rattle.cells.specs.Walk.{entries_at, Placed, Finds, Ahead, here_after,
 use entries::Entry;
 use kinds::Kind;
 
+// A store with its area.
+#[derive(Clone, Copy)]
+pub struct Side<'a> {
+    pub store: &'a [u8],
+    pub area: &'a [u8],
+}
+
 // Where a walk stands: a record, the frame it stands in, the first tag of its item, each by number and offset; how many
 // tags that has, how many of its values stand before, and the offset of the tag that the next one has.
 #[derive(Clone, Copy)]
