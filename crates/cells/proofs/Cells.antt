@@ -24,12 +24,12 @@ use Rattle.entries.specs.Walk.{entries}
 use Rattle.entries.proofs.Entering.{found}
 use Rattle.entries.proofs.Walking.{rest, rest_all, rest_over, rest-none, next-at}
 use Rattle.kinds.specs.Kinds.{is_value_kind}
+use Rattle.std.specs.Prelude.{Option, Some, None}
 use Rattle.cells.specs.declared.Here.{Here}
 use Rattle.cells.specs.declared.Found.{Found}
 use Rattle.cells.specs.declared.Leap.{Leap}
 use Rattle.cells.specs.declared.Leap.TheVariants.{Over, Nowhere}
-use Rattle.cells.specs.declared.Step.{Step}
-use Rattle.cells.specs.declared.Step.TheVariants.{Met, End}
+use Rattle.cells.specs.declared.Met.{Met}
 use Rattle.cells.specs.Cells.{Cell, Under, outset, under, cell, cells_from, cells}
 use Rattle.cells.specs.Walk.{entries_at, IsAt, under_of, cells_at, first, Placed, opened, closed, tagged, looped, counted, passed, here_after, cell_of, Lies, Finds, listed, Kept, Ahead, leap_of, count_of}
 use Rattle.cells.proofs.Offsets.{entries-rest, at_first, at_next, at-behind}
@@ -59,13 +59,6 @@ value-long Multiline e = omega arith
 value-long Number e = omega arith
 value-long Uncertain e = omega arith
 value-long Quoted e = omega arith
-
--- column and row where an item has no tags
-pub column-none : (c t : ℕ) → t ≡ 0 → c ≡ c % t
-column-none c t e = rw (e, mod-zero c)
-
-pub row-none : (c t : ℕ) → t ≡ 0 → ◌≡◌ {A = ℕ} 0 (c / t)
-row-none c t e = rw (e, div-zero c)
 
 -- the next column: the first one again behind the last
 column-next : (c t : ℕ) → (c % t + 1 ≡ t → ⊥) → (c + 1) % t ≡ c % t + 1
@@ -215,21 +208,21 @@ pub record Meets (st : List ℕ) (h : Here) (x : Found) (after : Here) : Type 0 
   pub lies : Lies st x
   pub placed : Placed st after
 
-pub met : (st : List ℕ) (h : Here) (r : Step) (x : Found) (after : Here) → Ahead st h r → r ≡ Met x after → Meets st h x after
+pub met : (st : List ℕ) (h : Here) (r : Option Met) (m : Met) → Ahead st h r → r ≡ Some m → Meets st h m.value m.after
 unfolding listed Kept
-met st h r x after a e =
-    let k : Kept st (Met x after) = rw e at a.kept in
+met st h r m a e =
+    let k : Kept st (Some m) = rw e at a.kept in
     record { values = a.values ∙ rw e; lies = k.0; placed = k.1 }
 
-pub ended : (st : List ℕ) (h : Here) (r : Step) → Ahead st h r → r ≡ End → cells_at st h ≡ []
+pub ended : (st : List ℕ) (h : Here) (r : Option Met) → Ahead st h r → r ≡ None → cells_at st h ≡ []
 unfolding listed
 ended st h r a e = a.values ∙ rw e
 
-pub ahead-end : (st : List ℕ) (h : Here) → cells_at st h ≡ [] → Ahead st h End
+pub ahead-end : (st : List ℕ) (h : Here) → cells_at st h ≡ [] → Ahead st h None
 unfolding listed Kept
 ahead-end st h e = record { values = e; kept = tt }
 
-pub ahead-met : (st : List ℕ) (h : Here) (x : Found) (after : Here) → cells_at st h ≡ cell_of x ∷ cells_at st after → Lies st x → Placed st after → Ahead st h (Met x after)
+pub ahead-met : (st : List ℕ) (h : Here) (x : Found) (after : Here) → cells_at st h ≡ cell_of x ∷ cells_at st after → Lies st x → Placed st after → Ahead st h (Some (record { value = x; after = after }))
 unfolding listed Kept
 ahead-met st h x after e l p = record { values = e; kept = (l, p) }
 
@@ -288,10 +281,10 @@ pub record Comes (st : List ℕ) (from h : Here) (at : ℕ) : Type 0 where
   pub values : cells_at st from ≡ cells_at st h
 
 module _ (st : List ℕ) (from h : Here) (at : ℕ) (w : Comes st from h at) where
-  pub come-over : length st ≤ at → Ahead st from End
+  pub come-over : length st ≤ at → Ahead st from None
   come-over l = ahead-end st from (w.values ∙ cells_over st h (rw w.stands l))
 
-  pub come-none : at < length st → entry_at st at ≡ Nothing → Ahead st from End
+  pub come-none : at < length st → entry_at st at ≡ Nothing → Ahead st from None
   come-none l e = ahead-end st from (w.values ∙ cells-none st h (rw w.stands l) (rw w.stands e))
 
   -- no more records than bytes
@@ -310,7 +303,7 @@ module _ (st : List ℕ) (from h : Here) (at : ℕ) (w : Comes st from h at) whe
 
     pub come-value :
         is_value_kind (number_of k) ≡ true → (x : Found) → Finds st h x → (name : ℕ) → entries_at st name ≡ drop ((h.count + 1) % h.tags) (entries_at st h.from) →
-        Ahead st from (Met x (counted next name h))
+        Ahead st from (Some (record { value = x; after = counted next name h }))
     come-value q x f' name n =
         ahead-met st from x (counted next name h) (w.values ∙ cells-value st h k f next inside here name q ∙ ap (λ (c : Cell). c ∷ cells_at st (counted next name h)) (sym f'.value)) f'.lies
         (placed-value st h k f next inside here name n w.placed)

@@ -42,11 +42,11 @@ pub struct Found {
     pub row: usize,
 }
 
-// A step of the walk: the next value, and the spot behind it.
+// The value that a walk comes to, and the spot behind it.
 #[derive(Clone, Copy)]
-pub enum Step {
-    Met { value: Found, after: Here },
-    End,
+pub struct Met {
+    pub value: Found,
+    pub after: Here,
 }
 
 // A record that is passed over.
@@ -77,20 +77,14 @@ pub fn start() -> Here
 fn column_of(count: usize, tags: usize) -> usize
     ensures { result ≡ count % tags }
 {
-    if tags == 0 {
-        return count;
-    }
-    count % tags
+    count.checked_rem(tags).unwrap_or(count)
 }
 
 // Its row.
 fn row_of(count: usize, tags: usize) -> usize
     ensures { result ≡ count / tags }
 {
-    if tags == 0 {
-        return 0;
-    }
-    count / tags
+    count.checked_div(tags).unwrap_or(0)
 }
 
 // The record at an offset: its kind, and where the next one starts. Its fields are not read, as most are passed over.
@@ -179,40 +173,44 @@ fn behind(here: Here, kind: u8, tags: usize, next: usize) -> Here
     requires { here.number + 1 < 2 ^ 64 }
     ensures { result ≡ here_after kind tags next here }
 {
-    let mut after = here;
-    after.at = next;
-    after.number = here.number + 1;
-    if kind == Kind::FRAME_OPEN {
-        after.frame = here.number;
-        after.outer = here.at;
-        return after;
+    let passed = Here {
+        at: next,
+        number: here.number + 1,
+        ..here
+    };
+    match kind {
+        Kind::FRAME_OPEN => Here {
+            frame: here.number,
+            outer: here.at,
+            ..passed
+        },
+        Kind::FRAME_CLOSE => Here {
+            frame: 0,
+            outer: 0,
+            ..passed
+        },
+        Kind::TAG => Here {
+            header: here.number,
+            from: here.at,
+            tags: 1,
+            count: 0,
+            name: here.at,
+            ..passed
+        },
+        Kind::LOOP => Here {
+            header: here.number + 1,
+            from: next,
+            tags,
+            count: 0,
+            name: next,
+            ..passed
+        },
+        _ => passed,
     }
-    if kind == Kind::FRAME_CLOSE {
-        after.frame = 0;
-        after.outer = 0;
-        return after;
-    }
-    if kind == Kind::TAG {
-        after.header = here.number;
-        after.from = here.at;
-        after.tags = 1;
-        after.count = 0;
-        after.name = here.at;
-        return after;
-    }
-    if kind == Kind::LOOP {
-        after.header = here.number + 1;
-        after.from = next;
-        after.tags = tags;
-        after.count = 0;
-        after.name = next;
-        return after;
-    }
-    after
 }
 
 // The next value at or behind a spot.
-pub fn next_value(store: &[u8], here: Here) -> Step
+pub fn next_value(store: &[u8], here: Here) -> Option<Met>
     requires { Placed store.now here }
     ensures { Ahead store.now here result }
 {
@@ -220,19 +218,22 @@ pub fn next_value(store: &[u8], here: Here) -> Step
     let mut at = here.at;
     while at < store.len() {
         let Leap::Over { kind, next } = leap_from(store, at) else {
-            return Step::End;
+            return None;
         };
         if nesting::is_value(kind) {
-            let value = value_at(store, spot);
-            let mut after = spot;
-            after.at = next;
-            after.number = spot.number + 1;
-            after.count = spot.count + 1;
-            after.name = tag_behind(store, spot);
-            return Step::Met { value, after };
+            return Some(Met {
+                value: value_at(store, spot),
+                after: Here {
+                    at: next,
+                    number: spot.number + 1,
+                    count: spot.count + 1,
+                    name: tag_behind(store, spot),
+                    ..spot
+                },
+            });
         }
         spot = behind(spot, kind, tags_at(store, at, kind), next);
         at = next;
     }
-    Step::End
+    None
 }

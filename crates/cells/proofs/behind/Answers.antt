@@ -1,24 +1,27 @@
--- `cells::behind`: each `return` goes by the tests that led there. Assumes nothing.
-use borrow.Author.Tests.{eq-eqb, ne_eqb}
+-- `cells::behind`: by the kind. Assumes nothing.
+use native.Mathlib.Omega.{arith}
+use borrow.Author.Tests.{ne_eqb}
 use Rattle.cells.specs.Walk.{here_after}
 use Rattle.cells.proofs.behind.Goals as goal
 
-pub returns-then-kind-eq-FRAME_OPEN : goal.returns-then-kind-eq-FRAME_OPEN
+pub returns-in-2 : goal.returns-in-2
 unfolding here_after
-returns-then-kind-eq-FRAME_OPEN c = rw (eq-eqb _ 2 c.if-kind-eq-FRAME_OPEN.true)
+returns-in-2 c = rw c.in-2.is
 
-pub returns-then-kind-eq-FRAME_CLOSE : goal.returns-then-kind-eq-FRAME_CLOSE
+pub returns-in-3 : goal.returns-in-3
 unfolding here_after
-returns-then-kind-eq-FRAME_CLOSE c = rw (ne_eqb _ 2 c.if-kind-eq-FRAME_OPEN.false, eq-eqb _ 3 c.if-kind-eq-FRAME_CLOSE.true)
+returns-in-3 c = rw c.in-3.is
 
-pub returns-then-kind-eq-TAG : goal.returns-then-kind-eq-TAG
+pub returns-in-4 : goal.returns-in-4
 unfolding here_after
-returns-then-kind-eq-TAG c = rw (ne_eqb _ 2 c.if-kind-eq-FRAME_OPEN.false, ne_eqb _ 3 c.if-kind-eq-FRAME_CLOSE.false, eq-eqb _ 4 c.if-kind-eq-TAG.true)
+returns-in-4 c = rw c.in-4.is
 
-pub returns-then-kind-eq-LOOP : goal.returns-then-kind-eq-LOOP
+pub returns-in-5 : goal.returns-in-5
 unfolding here_after
-returns-then-kind-eq-LOOP c = rw (ne_eqb _ 2 c.if-kind-eq-FRAME_OPEN.false, ne_eqb _ 3 c.if-kind-eq-FRAME_CLOSE.false, ne_eqb _ 4 c.if-kind-eq-TAG.false, eq-eqb _ 5 c.if-kind-eq-LOOP.true)
+returns-in-5 c = rw c.in-5.is
 
-pub returns : goal.returns
+pub returns-in_default : goal.returns-in_default
 unfolding here_after
-returns c = rw (ne_eqb _ 2 c.if-kind-eq-FRAME_OPEN.false, ne_eqb _ 3 c.if-kind-eq-FRAME_CLOSE.false, ne_eqb _ 4 c.if-kind-eq-TAG.false, ne_eqb _ 5 c.if-kind-eq-LOOP.false)
+returns-in_default c =
+    let k = c.args.kind in
+    rw (ne_eqb k 2 (omega arith), ne_eqb k 3 (omega arith), ne_eqb k 4 (omega arith), ne_eqb k 5 (omega arith))

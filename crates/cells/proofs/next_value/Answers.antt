@@ -16,16 +16,16 @@ returns-in_default c =
     let here = c.loop-at in
     come-none _ _ _ here.at here.invariant c.loop-at-test.true (leapt-none _ (sym c.leap_from.ensures ∙ c.in_default.is))
 
-pub value_at-value-requires : goal.value_at-value-requires
-value_at-value-requires c = c.loop-at.invariant.placed
+pub value_at-requires : goal.value_at-requires
+value_at-requires c = c.loop-at.invariant.placed
 
-pub overflow_add-after : goal.overflow_add-after
-overflow_add-after c =
+pub overflow_add-result : goal.overflow_add-result
+overflow_add-result c =
     let here = c.loop-at in
     omega (arith, come-number _ _ _ _ here.invariant)
 
-pub overflow_add-after-then-is_value : goal.overflow_add-after-then-is_value
-overflow_add-after-then-is_value c =
+pub overflow_add-result-then-is_value : goal.overflow_add-result-then-is_value
+overflow_add-result-then-is_value c =
     let here = c.loop-at in
     omega (arith, come-number _ _ _ _ here.invariant, here.invariant.placed.counted, c.well_formed.0.0, c.loop-at-test.true)
 
@@ -39,7 +39,7 @@ returns-then-is_value c =
     let here = c.loop-at in
     let leap = leapt _ _ _ (sym c.leap_from.ensures ∙ c.in-Over.is) in
     let q : is_value_kind (number_of leap.kind) ≡ true = rw leap.number (sym c.is_value.ensures ∙ c.if-is_value.true) in
-    come-value _ _ _ here.at here.invariant _ _ _ c.loop-at-test.true leap.is q _ c.value_at-value.ensures _ c.tag_behind.ensures
+    come-value _ _ _ here.at here.invariant _ _ _ c.loop-at-test.true leap.is q _ c.value_at.ensures _ c.tag_behind.ensures
 
 pub behind-spot-requires : goal.behind-spot-requires
 behind-spot-requires c =
