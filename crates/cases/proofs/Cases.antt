@@ -1,28 +1,26 @@
 -- Laws of the cases of two values: by what stands at their offsets. Assumes nothing.
-use Prim.Native.Nat.{ℕ, suc, ◌+◌, ◌-◌, ◌≤◌, ◌<◌}
-use mathlib.Core.Path.{◌≡◌, refl, sym, ap, ap₂, ◌∙◌}
+use Prim.Native.Nat.{ℕ, suc, ◌+◌, ◌-◌}
+use mathlib.Core.Path.{◌≡◌, sym, ap, ◌∙◌}
 use mathlib.Core.Bool.{Bool, true, false, cond, ◌&&◌}
-use mathlib.Core.List.{List, [], ◌∷◌}
+use mathlib.Core.List.{List}
 use native.Mathlib.Omega.{arith}
 use borrow.Author.Tests.{eq-eqb, ne_eqb}
-use lib.Dec.{eqb}
-use lib.ListN.{length, drop}
+use lib.ListN.{drop}
 use Rattle.text.specs.Parts.{part}
 use Rattle.text.proofs.Parts.{part_none, part-cons}
 use Rattle.kinds.specs.declared.Kind.{Kind}
 use Rattle.kinds.specs.Kinds.{number_of}
 use Rattle.entries.specs.declared.Fields.{Fields}
 use Rattle.entries.specs.declared.Entry.{Entry}
-use Rattle.entries.specs.declared.Entry.TheVariants.{Record, Nothing}
-use Rattle.entries.specs.Entries.{entry_at}
-use Rattle.contents.specs.Contents.{content_bytes}
+use Rattle.entries.specs.Entries.{whole}
 use Rattle.amounts.specs.Exact.{Kept}
 use Rattle.names.specs.declared.Named.{Named}
 use Rattle.names.specs.Parts.{Inside}
-use Rattle.steps.specs.Steps.{held_by, held_at, HeldAt}
+use Rattle.steps.specs.Steps.{held_by}
 use Rattle.number_cases.specs.Numbers.{numbers_case}
 use Rattle.cases.specs.Cases.{is_number, unmarked, others_case, case_of, Orderly}
 use Rattle.cases.specs.Texts.{Unmarks}
+use Rattle.std.specs.Prelude.{Option, None}
 
 -- a text without marks
 pub unmarked-other : (ar : List ℕ) (k : ℕ) (x : Named) → Inside ar x → (k ≡ 21 → ⊥) → Unmarks ar k x x
@@ -47,22 +45,22 @@ unmarked-quoted ar k x i e z =
     }
 
 -- the parts of a number
-pub orderly-parts : (e : Entry) (k : Kind) (f : Fields) (n : ℕ) → e ≡ Record k f n → Orderly e → is_number (number_of k) ≡ true → Kept f.parts
+pub orderly-parts : (e : Option Entry) (k : Kind) (f : Fields) (n : ℕ) → e ≡ whole k f n → Orderly e → is_number (number_of k) ≡ true → Kept f.parts
 unfolding Orderly
 orderly-parts e k f n q o t = (rw q at o) t
 
 -- two records
-module _ (ar ar' : List ℕ) (e e' : Entry) where
-  pub case-none : e ≡ Nothing → ◌≡◌ {A = ℕ} 3 (case_of ar ar' e e')
+module _ (ar ar' : List ℕ) (e e' : Option Entry) where
+  pub case-none : e ≡ None → ◌≡◌ {A = ℕ} 3 (case_of ar ar' e e')
   unfolding case_of
   case-none q = rw q
 
-  module _ (k : Kind) (f : Fields) (n : ℕ) (q : e ≡ Record k f n) where
-    pub case-alone : e' ≡ Nothing → ◌≡◌ {A = ℕ} 3 (case_of ar ar' e e')
+  module _ (k : Kind) (f : Fields) (n : ℕ) (q : e ≡ whole k f n) where
+    pub case-alone : e' ≡ None → ◌≡◌ {A = ℕ} 3 (case_of ar ar' e e')
     unfolding case_of
     case-alone p = rw (q, p)
 
-    module _ (j : Kind) (g : Fields) (m : ℕ) (p : e' ≡ Record j g m) where
+    module _ (j : Kind) (g : Fields) (m : ℕ) (p : e' ≡ whole j g m) where
       pub case-numbers : (is_number (number_of k) && is_number (number_of j)) ≡ true → case_of ar ar' e e' ≡ numbers_case (number_of k) (number_of j) f.parts g.parts
       unfolding case_of
       case-numbers t = rw (q, p, t)

@@ -1,11 +1,10 @@
 -- WHAT TWO VALUES ARE TO EACH OTHER (document 02, Four), as a number: 0 the same, and no entry; 3 different; 4 to 7 for two numbers (specs/Numbers.antt of number_cases).
 -- (1 and 2 are values that one store alone has.) "Texts are equal when they are without marks." Any other two are the same where both are `.` or both `?`.
 -- Assumes nothing.
-use Rattle.std.specs.Prelude.{ℕ, ◌≡◌, Bool, true, cond, ◌&&◌, ◌||◌, List, eqb, leb, drop}
+use Rattle.std.specs.Prelude.{ℕ, ◌≡◌, Bool, true, cond, ◌&&◌, ◌||◌, List, eqb, leb, drop, Option, Some, None}
 use Rattle.folding.specs.Folding.{equal_bytes}
 use Rattle.kinds.specs.Kinds.{number_of}
 use Rattle.entries.specs.declared.Entry.{Entry}
-use Rattle.entries.specs.declared.Entry.TheVariants.{Record, Nothing}
 use Rattle.contents.specs.Contents.{content_bytes}
 use Rattle.amounts.specs.Exact.{Kept}
 use Rattle.number_cases.specs.Numbers.{numbers_case}
@@ -26,15 +25,15 @@ unfoldable pub others_case : ℕ → ℕ → List ℕ → List ℕ → ℕ
 others_case k j c d = cond (cond (is_text k && is_text j) (equal_bytes (unmarked k c) (unmarked j d)) (eqb k j)) 0 3
 
 -- two records, with their areas
-unfoldable pub case_of : List ℕ → List ℕ → Entry → Entry → ℕ
-case_of ar ar' Nothing e = 3
-case_of ar ar' (Record k f n) Nothing = 3
-case_of ar ar' (Record k f n) (Record j g m) =
-    cond (is_number (number_of k) && is_number (number_of j))
-    (numbers_case (number_of k) (number_of j) f.parts g.parts)
-    (others_case (number_of k) (number_of j) (content_bytes ar k f) (content_bytes ar' j g))
+unfoldable pub case_of : List ℕ → List ℕ → Option Entry → Option Entry → ℕ
+case_of ar ar' None e = 3
+case_of ar ar' (Some e) None = 3
+case_of ar ar' (Some e) (Some x) =
+    cond (is_number (number_of e.kind) && is_number (number_of x.kind))
+    (numbers_case (number_of e.kind) (number_of x.kind) e.fields.parts x.fields.parts)
+    (others_case (number_of e.kind) (number_of x.kind) (content_bytes ar e.kind e.fields) (content_bytes ar' x.kind x.fields))
 
 -- a record whose parts, if it is a number, may be ordered
-unfoldable pub Orderly : Entry → Type 0
-Orderly Nothing = Unit
-Orderly (Record k f n) = is_number (number_of k) ≡ true → Kept f.parts
+unfoldable pub Orderly : Option Entry → Type 0
+Orderly None = Unit
+Orderly (Some e) = is_number (number_of e.kind) ≡ true → Kept e.fields.parts

@@ -100,19 +100,23 @@ pub fn case_of(store: &[u8], area: &[u8], at: usize, store2: &[u8], area2: &[u8]
     requires { Orderly (entry_at store.now at) × Orderly (entry_at store2.now at2) }
     ensures { result ≡ case_of area.now area2.now (entry_at store.now at) (entry_at store2.now at2) }
 {
-    let Entry::Record {
-        kind,
-        fields,
-        next: _,
-    } = entries::read_record(store, at)
+    let Some(
+        Entry {
+            kind,
+            fields,
+            next: _,
+        },
+    ) = entries::read_record(store, at)
     else {
         return DIFFERENT;
     };
-    let Entry::Record {
-        kind: kind2,
-        fields: fields2,
-        next: _,
-    } = entries::read_record(store2, at2)
+    let Some(
+        Entry {
+            kind: kind2,
+            fields: fields2,
+            next: _,
+        },
+    ) = entries::read_record(store2, at2)
     else {
         return DIFFERENT;
     };

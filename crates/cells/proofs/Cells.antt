@@ -1,7 +1,7 @@
 -- Laws of the values of a store: what stands at a spot, and where that leads; and that each value takes 17 bytes of the store or more. Assumes nothing.
 use Prim.Native.Nat.{ℕ, zero, suc, ◌+◌, ◌-◌, ◌*◌, ◌/◌, ◌%◌, ◌≤◌, ◌<◌}
-use mathlib.Core.Path.{◌≡◌, refl, sym, ap, ap₂, ◌∙◌}
-use mathlib.Core.Bool.{Bool, true, false, cond, ◌&&◌, ◌||◌, true≢false}
+use mathlib.Core.Path.{◌≡◌, refl, sym, ap, ◌∙◌}
+use mathlib.Core.Bool.{Bool, true, false, cond, ◌&&◌, true≢false}
 use mathlib.Core.List.{List, [], ◌∷◌}
 use native.Mathlib.Omega.{arith}
 use native.Mathlib.Numerals.{add-one}
@@ -18,21 +18,18 @@ use Rattle.kinds.specs.declared.Kind.TheVariants.{DoubleQuoted, Multiline, Numbe
 use Rattle.kinds.specs.Kinds.{number_of, shape_of, shape_length}
 use Rattle.entries.specs.declared.Fields.{Fields}
 use Rattle.entries.specs.declared.Entry.{Entry}
-use Rattle.entries.specs.declared.Entry.TheVariants.{Record, Nothing}
-use Rattle.entries.specs.Entries.{entry_at}
-use Rattle.entries.specs.Walk.{entries}
+use Rattle.entries.specs.Entries.{entry_at, whole}
 use Rattle.entries.proofs.Entering.{found}
 use Rattle.entries.proofs.Walking.{rest, rest_all, rest_over, rest-none, next-at}
 use Rattle.kinds.specs.Kinds.{is_value_kind}
-use Rattle.std.specs.Prelude.{Option, Some, None}
 use Rattle.cells.specs.declared.Here.{Here}
 use Rattle.cells.specs.declared.Found.{Found}
-use Rattle.cells.specs.declared.Leap.{Leap}
 use Rattle.cells.specs.declared.Leap.TheVariants.{Over, Nowhere}
 use Rattle.cells.specs.declared.Met.{Met}
 use Rattle.cells.specs.Cells.{Cell, Under, outset, under, cell, cells_from, cells}
 use Rattle.cells.specs.Walk.{entries_at, IsAt, under_of, cells_at, first, Placed, opened, closed, tagged, looped, counted, passed, here_after, cell_of, Lies, Finds, listed, Kept, Ahead, leap_of, count_of}
 use Rattle.cells.proofs.Offsets.{entries-rest, at_first, at_next, at-behind}
+use Rattle.std.specs.Prelude.{Option, Some, None}
 
 -- a kind of values
 pub value-high : (k : ℕ) → is_value_kind k ≡ true → 8 ≤ k
@@ -71,10 +68,10 @@ column_again : (c t : ℕ) → c % t + 1 ≡ t → (c + 1) % t ≡ 0
 column_again c t e = sym (mod-add-mod c t 1) ∙ ap (λ (z : ℕ). z % t) e ∙ mod_self t
 
 -- its tag
-pub tag-again : (es : List Entry) (c t : ℕ) → c % t + 1 ≡ t → es ≡ drop ((c + 1) % t) es
+pub tag-again : (es : List (Option Entry)) (c t : ℕ) → c % t + 1 ≡ t → es ≡ drop ((c + 1) % t) es
 tag-again es c t e = rw (column_again c t e)
 
-pub tag-next : (es l m : List Entry) (c t : ℕ) → (c % t + 1 ≡ t → ⊥) → l ≡ drop (c % t) es → m ≡ drop 1 l → m ≡ drop ((c + 1) % t) es
+pub tag-next : (es l m : List (Option Entry)) (c t : ℕ) → (c % t + 1 ≡ t → ⊥) → l ≡ drop (c % t) es → m ≡ drop 1 l → m ≡ drop ((c + 1) % t) es
 tag-next es l m c t d p q = q ∙ ap (drop 1) p ∙ drop-drop 1 (c % t) es ∙ rw (column-next c t d)
 
 -- a value counts
@@ -131,7 +128,7 @@ module _ (k n next : ℕ) (h : Here) where
 cells-spot : (st : List ℕ) (h : Here) (at i : ℕ) (u : Under) → h.at ≡ at → h.number ≡ i → under_of h ≡ u → cells_at st h ≡ cells_from (rest st at) i u
 unfolding cells_at
 cells-spot st h at i u a b c =
-    ap (λ (es : List Entry). cells_from es h.number (under_of h)) (ap (entries_at st) a ∙ entries-rest st at)
+    ap (λ (es : List (Option Entry)). cells_from es h.number (under_of h)) (ap (entries_at st) a ∙ entries-rest st at)
     ∙ ap (λ (n : ℕ). cells_from (rest st at) n (under_of h)) b
     ∙ ap (λ (v : Under). cells_from (rest st at) i v) c
 
@@ -141,11 +138,11 @@ module _ (st : List ℕ) (h : Here) where
   unfolding cells_at cells_from
   cells_over l = rw (entries-rest st h.at, rest_over st h.at l)
 
-  pub cells-none : h.at < length st → entry_at st h.at ≡ Nothing → cells_at st h ≡ []
+  pub cells-none : h.at < length st → entry_at st h.at ≡ None → cells_at st h ≡ []
   unfolding cells_at cells_from
   cells-none l e = rw (entries-rest st h.at, rest-none st h.at l e)
 
-  module _ (k : Kind) (f : Fields) (next : ℕ) (l : h.at < length st) (e : entry_at st h.at ≡ Record k f next) where
+  module _ (k : Kind) (f : Fields) (next : ℕ) (l : h.at < length st) (e : entry_at st h.at ≡ whole k f next) where
     pub cells-value : (name : ℕ) → is_value_kind (number_of k) ≡ true → cells_at st h ≡ cell h.number (under_of h) ∷ cells_at st (counted next name h)
     unfolding cells_at cells_from under_of
     cells-value name q = rw (entries-rest st h.at, (next-at st h.at k f next l e).here, q, under-value (number_of k) f.number h.number (under_of h) q, ← add-one h.number, ← add-one h.count, entries-rest st next)
@@ -184,7 +181,7 @@ module _ (st : List ℕ) (h : Here) where
         past : h.number + 1 ≤ next
         past = omega (arith, p.within, onwards)
 
-        none : (n : ℕ) (es : List Entry) → es ≡ drop (0 % n) es
+        none : (n : ℕ) (es : List (Option Entry)) → es ≡ drop (0 % n) es
         none n es = rw (zero-mod n)
 
         by : (a b c d : Bool) → Placed st (cond a (opened next h) (cond b (closed next h) (cond c (tagged next h) (cond d (looped n next h) (passed next h)))))
@@ -240,16 +237,16 @@ unfolding cells_from
 size_step st at i u again = by (leb (length st) at) refl
   where
     each :
-        (k : Kind) (f : Fields) (next : ℕ) → at < length st → entry_at st at ≡ Record k f next → (cs : List Cell) → 17 * length cs ≤ length st - next → (t : Bool) → is_value_kind (number_of k) ≡ t →
+        (k : Kind) (f : Fields) (next : ℕ) → at < length st → entry_at st at ≡ whole k f next → (cs : List Cell) → 17 * length cs ≤ length st - next → (t : Bool) → is_value_kind (number_of k) ≡ t →
         17 * length (cond t (cell i u ∷ cs) cs) ≤ length st - at
     each k f next l q cs m true v = omega (arith, m, (found st at k f next q).after, value-long k v, (next-at st at k f next l q).within)
     each k f next l q cs m false v = omega (arith, m, (next-at st at k f next l q).onwards)
 
-    within : at < length st → (x : Entry) → entry_at st at ≡ x → 17 * length (cells_from (rest st at) i u) ≤ length st - at
-    within l Nothing q = rw (rest-none st at l q) (omega arith)
-    within l (Record k f next) q =
-        let nx = next-at st at k f next l q in
-        rw nx.here (each k f next l q (cells_from (rest st next) (suc i) (under (number_of k) f.number i u)) (again next (under (number_of k) f.number i u) nx.onwards l) (is_value_kind (number_of k)) refl)
+    within : at < length st → (x : Option Entry) → entry_at st at ≡ x → 17 * length (cells_from (rest st at) i u) ≤ length st - at
+    within l None q = rw (rest-none st at l q) (omega arith)
+    within l (Some e) q =
+        let nx = next-at st at e.kind e.fields e.next l q in
+        rw nx.here (each e.kind e.fields e.next l q (cells_from (rest st e.next) (suc i) (under (number_of e.kind) e.fields.number i u)) (again e.next (under (number_of e.kind) e.fields.number i u) nx.onwards l) (is_value_kind (number_of e.kind)) refl)
 
     by : (t : Bool) → leb (length st) at ≡ t → 17 * length (cells_from (rest st at) i u) ≤ length st - at
     by true q = rw (rest_over st at (leb-true (length st) at q)) (omega arith)
@@ -284,15 +281,15 @@ module _ (st : List ℕ) (from h : Here) (at : ℕ) (w : Comes st from h at) whe
   pub come-over : length st ≤ at → Ahead st from None
   come-over l = ahead-end st from (w.values ∙ cells_over st h (rw w.stands l))
 
-  pub come-none : at < length st → entry_at st at ≡ Nothing → Ahead st from None
+  pub come-none : at < length st → entry_at st at ≡ None → Ahead st from None
   come-none l e = ahead-end st from (w.values ∙ cells-none st h (rw w.stands l) (rw w.stands e))
 
   -- no more records than bytes
   pub come-number : h.number ≤ at
   come-number = rw w.stands at w.placed.within
 
-  module _ (k : Kind) (f : Fields) (next : ℕ) (l : at < length st) (e : entry_at st at ≡ Record k f next) where
-    here : entry_at st h.at ≡ Record k f next
+  module _ (k : Kind) (f : Fields) (next : ℕ) (l : at < length st) (e : entry_at st at ≡ whole k f next) where
+    here : entry_at st h.at ≡ whole k f next
     here = rw w.stands e
 
     inside : h.at < length st
@@ -317,28 +314,28 @@ module _ (st : List ℕ) (from h : Here) (at : ℕ) (w : Comes st from h at) whe
         }
 
 -- what a leap tells of the record
-pub record Leapt (e : Entry) (n next : ℕ) : Type 0 where
+pub record Leapt (e : Option Entry) (n next : ℕ) : Type 0 where
   pub kind : Kind
   pub fields : Fields
-  pub is : e ≡ Record kind fields next
+  pub is : e ≡ whole kind fields next
   pub number : number_of kind ≡ n
 
-pub leapt : (e : Entry) (n next : ℕ) → leap_of e ≡ Over n next → Leapt e n next
+pub leapt : (e : Option Entry) (n next : ℕ) → leap_of e ≡ Over n next → Leapt e n next
 unfolding leap_of
-leapt (Record k f m) n next q =
-    let a : number_of k ≡ n = cc in
-    let b : m ≡ next = cc in
-    record { kind = k; fields = f; is = ap (λ (z : ℕ). Record k f z) b; number = a }
-leapt Nothing n next q =
+leapt (Some e) n next q =
+    let a : number_of e.kind ≡ n = cc in
+    let b : e.next ≡ next = cc in
+    record { kind = e.kind; fields = e.fields; is = ap (λ (z : ℕ). whole e.kind e.fields z) b; number = a }
+leapt None n next q =
     let z : ◌≡◌ {A = ℕ} 0 1 = cc in
     absurd (omega arith)
 
-pub leapt-none : (e : Entry) → leap_of e ≡ Nowhere → e ≡ Nothing
+pub leapt-none : (e : Option Entry) → leap_of e ≡ Nowhere → e ≡ None
 unfolding leap_of
-leapt-none (Record k f m) q =
+leapt-none (Some e) q =
     let z : ◌≡◌ {A = ℕ} 0 1 = cc in
     absurd (omega arith)
-leapt-none Nothing q = refl
+leapt-none None q = refl
 
 -- tags count for loops alone
 counts-loop : (k n next : ℕ) (h : Here) → here_after k (cond (eqb k 5) n 0) next h ≡ here_after k n next h
@@ -352,6 +349,6 @@ counts-loop k n next h = by (eqb k 5)
     by true = refl
     by false = refl
 
-pub after-leap : (e : Entry) (n next : ℕ) (l : Leapt e n next) (h : Here) → here_after n (cond (eqb n 5) (count_of e) 0) next h ≡ here_after (number_of l.kind) l.fields.number next h
+pub after-leap : (e : Option Entry) (n next : ℕ) (l : Leapt e n next) (h : Here) → here_after n (cond (eqb n 5) (count_of e) 0) next h ≡ here_after (number_of l.kind) l.fields.number next h
 unfolding count_of
 after-leap e n next l h = counts-loop n (count_of e) next h ∙ rw (l.is, ← l.number)

@@ -1,10 +1,9 @@
 -- THE VALUES OF A STORE (document 02, Four): each has its record's number, its frame, its tag and its row; "loop values match by name and row, a single value being row
 -- 0". Frame and tag are named by the numbers of their records, which count from 0; a value that stands in no frame has frame 0, the block's record. Only kinds and
 -- numbers of tags decide this, never the area. Assumes nothing.
-use Rattle.std.specs.Prelude.{ℕ, suc, ◌+◌, ◌/◌, ◌%◌, Bool, cond, List, [], ◌∷◌, eqb}
+use Rattle.std.specs.Prelude.{ℕ, suc, ◌+◌, ◌/◌, ◌%◌, cond, List, [], ◌∷◌, eqb, Option, Some, None}
 use Rattle.kinds.specs.Kinds.{number_of}
 use Rattle.entries.specs.declared.Entry.{Entry}
-use Rattle.entries.specs.declared.Entry.TheVariants.{Record, Nothing}
 use Rattle.entries.specs.Walk.{entries}
 use Rattle.kinds.specs.Kinds.{is_value_kind}
 use Rattle.stores.specs.Content.{nth}
@@ -41,12 +40,12 @@ unfoldable pub cell : ℕ → Under → Cell
 cell i u = record { number = i; frame = u.frame; tag = u.header + u.count % u.tags; row = u.count / u.tags }
 
 -- the values among entries, the first of which has the number i
-unfoldable pub cells_from : List Entry → ℕ → Under → List Cell
+unfoldable pub cells_from : List (Option Entry) → ℕ → Under → List Cell
 cells_from [] i u = []
-cells_from (Nothing ∷ es) i u = []
-cells_from (Record k f next ∷ es) i u =
-    let more = cells_from es (suc i) (under (number_of k) f.number i u) in
-    cond (is_value_kind (number_of k)) (cell i u ∷ more) more
+cells_from (None ∷ es) i u = []
+cells_from (Some e ∷ es) i u =
+    let more = cells_from es (suc i) (under (number_of e.kind) e.fields.number i u) in
+    cond (is_value_kind (number_of e.kind)) (cell i u ∷ more) more
 
 unfoldable pub cells : List ℕ → List Cell
 cells st = cells_from (entries st) 0 outset

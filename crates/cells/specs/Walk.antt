@@ -1,8 +1,7 @@
 -- How the values of a store are walked: a spot and a value found have numbers of records and, beside each, the offset where that record stands. Assumes nothing.
-use Rattle.std.specs.Prelude.{ℕ, suc, ◌+◌, ◌%◌, ◌≤◌, ◌≡◌, Bool, cond, List, [], ◌∷◌, eqb, drop, Option, Some, None}
+use Rattle.std.specs.Prelude.{ℕ, ◌+◌, ◌%◌, ◌≤◌, ◌≡◌, cond, List, [], ◌∷◌, eqb, drop, Option, Some, None}
 use Rattle.kinds.specs.Kinds.{number_of}
 use Rattle.entries.specs.declared.Entry.{Entry}
-use Rattle.entries.specs.declared.Entry.TheVariants.{Record, Nothing}
 use Rattle.entries.specs.Walk.{entries_from, entries}
 use Rattle.cells.specs.declared.Here.{Here}
 use Rattle.cells.specs.declared.Found.{Found}
@@ -12,7 +11,7 @@ use Rattle.cells.specs.declared.Met.{Met}
 use Rattle.cells.specs.Cells.{Cell, Under, cell, cells_from}
 
 -- the entries from an offset on
-unfoldable pub entries_at : List ℕ → ℕ → List Entry
+unfoldable pub entries_at : List ℕ → ℕ → List (Option Entry)
 entries_at st at = entries_from (drop at st) 0
 
 -- record number n stands at an offset
@@ -95,11 +94,11 @@ pub record Ahead (st : List ℕ) (h : Here) (r : Option Met) : Type 0 where
   pub kept : Kept st r
 
 -- what is read of a record that is passed over
-unfoldable pub leap_of : Entry → Leap
-leap_of (Record k f next) = Over (number_of k) next
-leap_of Nothing = Nowhere
+unfoldable pub leap_of : Option Entry → Leap
+leap_of (Some e) = Over (number_of e.kind) e.next
+leap_of None = Nowhere
 
 -- how many tags a record counts, if it is a loop's
-unfoldable pub count_of : Entry → ℕ
-count_of (Record k f next) = f.number
-count_of Nothing = 0
+unfoldable pub count_of : Option Entry → ℕ
+count_of (Some e) = e.fields.number
+count_of None = 0

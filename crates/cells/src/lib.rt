@@ -128,11 +128,13 @@ fn tags_at(store: &[u8], at: usize, kind: u8) -> usize
     if kind != Kind::LOOP {
         return 0;
     }
-    let Entry::Record {
-        kind: _,
-        fields,
-        next: _,
-    } = entries::read_record(store, at)
+    let Some(
+        Entry {
+            kind: _,
+            fields,
+            next: _,
+        },
+    ) = entries::read_record(store, at)
     else {
         return 0;
     };

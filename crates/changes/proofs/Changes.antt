@@ -1,26 +1,21 @@
 -- Laws of the list of changes: one entry at most for each value, so that its bytes are no more than the store's; entry by entry, counted and written. Assumes nothing.
-use Prim.Native.Nat.{ℕ, suc, ◌+◌, ◌*◌, ◌≤◌, ◌<◌}
-use mathlib.Core.Path.{◌≡◌, refl, sym, ap, ap₂, ◌∙◌}
+use Prim.Native.Nat.{ℕ, suc, ◌+◌, ◌*◌, ◌≤◌}
+use mathlib.Core.Path.{◌≡◌, refl, sym, ap, ◌∙◌}
 use mathlib.Core.Bool.{Bool, true, false, cond}
 use mathlib.Core.List.{List, [], ◌∷◌, ◌++◌, append_assoc, append-nil}
 use mathlib.Core.Option.{Option, none, some}
 use native.Mathlib.Omega.{arith}
 use borrow.Author.Tests.{eq-eqb, ne_eqb}
 use lib.Dec.{eqb}
-use lib.ListN.{length, drop, length-append, take-append-drop}
-use Rattle.rules.specs.declared.Reading.{Reading}
+use lib.ListN.{length, length-append, take-append-drop}
 use Rattle.records.specs.Bytes.{le64}
 use Rattle.records.specs.Put.{front, put}
 use Rattle.records.proofs.Forms.{length-long}
 use Rattle.records.proofs.Putting.{put-more, length-put}
 use Rattle.kinds.specs.declared.Kind.{Kind}
-use Rattle.kinds.specs.declared.Kind.TheVariants.{Number, Uncertain}
-use Rattle.kinds.specs.Kinds.{number_of, kind_of, shape_of, is_content}
-use Rattle.kinds.proofs.Numbering.{kind-number}
 use Rattle.entries.specs.declared.Fields.{Fields}
 use Rattle.entries.specs.declared.Entry.{Entry}
-use Rattle.entries.specs.declared.Entry.TheVariants.{Record, Nothing}
-use Rattle.entries.specs.Entries.{entry_at}
+use Rattle.entries.specs.Entries.{entry_at, whole}
 use Rattle.entries.specs.Walk.{entries}
 use Rattle.cells.specs.declared.Here.{Here}
 use Rattle.cells.specs.declared.Found.{Found}
@@ -38,6 +33,7 @@ use Rattle.partners.specs.declared.Partner.TheVariants.{Is, Missing}
 use Rattle.partners.specs.Partners.{partner, Matched}
 use Rattle.changes.specs.declared.Change.{Change}
 use Rattle.changes.specs.Changes.{change, listed, of_old, of_new, of_side, of_all, side_of, change_bytes, changes_bytes}
+use Rattle.std.specs.Prelude.{Option as Maybe, Some, None}
 
 -- nothing put over a list leaves it as it is
 pub put-none : (at : ℕ) (l : List ℕ) → put at [] l ≡ l
@@ -229,20 +225,20 @@ module _ (st ar st' ar' : List ℕ) (x : Found) (r : Partner) (o : Matched st' r
     unfolding of_side of_new Matched change
     new_is = rw is-partner.0
 
-    any-end : (u v : List ℕ) (e' : Entry) (k : Kind) (f : Fields) (n m : ℕ) → case_of u v (Record k f n) e' ≡ case_of u v (Record k f m) e'
+    any-end : (u v : List ℕ) (e' : Maybe Entry) (k : Kind) (f : Fields) (n m : ℕ) → case_of u v (whole k f n) e' ≡ case_of u v (whole k f m) e'
     unfolding case_of
-    any-end u v Nothing k f n m = refl
-    any-end u v (Record j g i) k f n m = refl
+    any-end u v None k f n m = refl
+    any-end u v (Some e) k f n m = refl
 
-    any-other : (u v : List ℕ) (e' : Entry) (k : Kind) (f : Fields) (n m : ℕ) → case_of u v e' (Record k f n) ≡ case_of u v e' (Record k f m)
+    any-other : (u v : List ℕ) (e' : Maybe Entry) (k : Kind) (f : Fields) (n m : ℕ) → case_of u v e' (whole k f n) ≡ case_of u v e' (whole k f m)
     unfolding case_of
-    any-other u v Nothing k f n m = refl
-    any-other u v (Record j g i) k f n m = refl
+    any-other u v None k f n m = refl
+    any-other u v (Some e) k f n m = refl
 
     case-by : Lies st x → case_of ar ar' (entry_at st x.at) (entry_at st' y.at) ≡ case_of ar ar' (nth (entries st) x.number) (nth (entries st') y.number)
     unfolding IsAt
     case-by l =
-        nth-at (λ (z : Entry). case_of ar ar' z (entry_at st' y.at)) (any-end ar ar' (entry_at st' y.at)) st x.at x.number (sym (entries-rest st x.at) ∙ l.here)
+        nth-at (λ (z : Maybe Entry). case_of ar ar' z (entry_at st' y.at)) (any-end ar ar' (entry_at st' y.at)) st x.at x.number (sym (entries-rest st x.at) ∙ l.here)
         ∙ nth-at (case_of ar ar' (nth (entries st) x.number)) (any-other ar ar' (nth (entries st) x.number)) st' y.at y.number (sym (entries-rest st' y.at) ∙ partner-lies.here)
 
     pub old-is : (c : ℕ) → Lies st x → c ≡ case_of ar ar' (entry_at st x.at) (entry_at st' y.at) → listed (record { case = c; old = x.number; new = y.number }) ≡ of_side true st ar st' ar' (cell_of x)

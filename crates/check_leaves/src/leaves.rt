@@ -213,7 +213,7 @@ fn parts<W: Write>(out: &mut W, p: Parts) -> io::Result<()> {
 pub fn entry<W: Write>(out: &mut W, s: &[u8]) -> io::Result<()> {
     let e = entries::read_record(s, 0);
     match e {
-        Entry::Record { kind, fields, next } => {
+        Some(Entry { kind, fields, next }) => {
             say::number(out, kind.number() as u64)?;
             say::number(out, fields.token.offset as u64)?;
             say::number(out, fields.token.length as u64)?;
@@ -224,6 +224,6 @@ pub fn entry<W: Write>(out: &mut W, s: &[u8]) -> io::Result<()> {
             parts(out, p)?;
             say::size(out, next)
         }
-        Entry::Nothing => say::bytes(out, b" nothing"),
+        None => say::bytes(out, b" nothing"),
     }
 }

@@ -13,7 +13,6 @@ use lib.ListN.{length, drop}
 use Rattle.rules.specs.declared.Reading.{Reading}
 use Rattle.rules.specs.declared.Reading.TheVariants.{First, Strict}
 use Rattle.columns.specs.Before.{byte_before}
-use Rattle.text.specs.Bytes.{is}
 use Rattle.text.proofs.Bools.{and_l, or_cases}
 use Rattle.numbers.specs.declared.Decimal.{Decimal}
 use Rattle.numbers.specs.declared.Number.TheVariants.{Is}
@@ -25,7 +24,6 @@ use Rattle.numbers.proofs.Facts.{Bounded}
 use Rattle.numbers.proofs.Cif.{cif-is-number, cif-means}
 use Rattle.numbers.proofs.CifBack.{Out, Standard, number-is-cif, numeric-is-cif}
 use Rattle.entries.specs.declared.Entry.{Entry}
-use Rattle.entries.specs.declared.Entry.TheVariants.{Record}
 use Rattle.entries.specs.declared.Fields.{Fields}
 use Rattle.kinds.specs.declared.Kind.{Kind}
 use Rattle.kinds.specs.declared.Kind.TheVariants.{Number, Uncertain}
@@ -33,12 +31,13 @@ use Rattle.kinds.specs.declared.Shape.{Shape}
 use Rattle.kinds.specs.declared.Shape.TheVariants.{Empty, Place, Content, Count, Parts, PartsUncertain}
 use Rattle.records.specs.Bytes.{flag}
 use Rattle.kinds.specs.Kinds.{kind_of, number_of, shape_of, is_value_kind}
-use Rattle.entries.specs.Entries.{stored}
+use Rattle.entries.specs.Entries.{stored, whole}
 use Rattle.values.specs.Values.{value, lexed, lex_as_value}
 use Rattle.grammar.specs.Machine.{Rec, loop_end}
 use Rattle.walking.specs.Writing.{tags_of}
 use Rattle.desk.specs.Written.{token_of, token_text, decimal_of as read_decimal}
 use Rattle.entries.specs.Walk.{entries}
+use Rattle.entries.proofs.Wholes.{one}
 use Rattle.stores.specs.Content.{nth}
 use Rattle.record_lines.specs.Lines.{decimal_of}
 use Rattle.written.specs.Results.{store_bytes}
@@ -51,6 +50,7 @@ use Rattle.written.proofs.Sources.{Each, none, also, sources, Source, of-heading
 use Rattle.written.proofs.Written.{fields_in, entry_of, written, Only, only-kind, bounded, written_back}
 use Rattle.written.proofs.Reading.{reads}
 use Rattle.written.proofs.Refusals.{Done, read_done}
+use Rattle.std.specs.Prelude.{Option}
 
 -- Stored parts stand for the number that they were stored of
 
@@ -86,10 +86,12 @@ record At (g : Reading) (s : List ℕ) (k : Kind) (f : Fields) : Type 0 where
   kind : k ≡ kind_of r.kind
   fields : f ≡ fields_in (shape_of (kind_of r.kind)) s a n r
 
-nth-written : (g : Reading) (s : List ℕ) {rs : List Rec} → Each (Source g s) rs → (a i : ℕ) (k : Kind) (f : Fields) (next : ℕ) → nth (written s a rs) i ≡ Record k f next → At g s k f
+nth-written : (g : Reading) (s : List ℕ) {rs : List Rec} → Each (Source g s) rs → (a i : ℕ) (k : Kind) (f : Fields) (next : ℕ) → nth (written s a rs) i ≡ whole k f next → At g s k f
 unfolding nth written entry_of
 nth-written g s none a i k f next e = never (cc)
-nth-written g s (also {r = r} {rs = rs} p h) a zero k f next e = record { r = r; a = a; n = tags_of rs; source = p; kind = cc; fields = cc }
+nth-written g s (also {r = r} {rs = rs} p h) a zero k f next e =
+    let w = one _ k _ f _ next e in
+    record { r = r; a = a; n = tags_of rs; source = p; kind = cc; fields = cc }
 nth-written g s (also {r = r} {rs = rs} p h) a (suc i) k f next e = nth-written g s h _ i k f next e
 
 -- every body but an empty one starts with P
@@ -175,7 +177,7 @@ cif-at g s fits k f x {sg} {i} {fr} {esg} {e} {u} {b} v c l =
 
 -- The store that Read writes
 
-module _ (g : Reading) (s store area : List ℕ) (done : IsRead g s store area) (i : ℕ) (k : Kind) (f : Fields) (next : ℕ) (here : nth (entries (store_bytes g s store area)) i ≡ Record k f next) where
+module _ (g : Reading) (s store area : List ℕ) (done : IsRead g s store area) (i : ℕ) (k : Kind) (f : Fields) (next : ℕ) (here : nth (entries (store_bytes g s store area)) i ≡ whole k f next) where
   found : Done g s (length store) (length area)
   unfolding IsRead
   found = read_done g s (length store) (length area) (omega (arith, done))
@@ -186,7 +188,7 @@ module _ (g : Reading) (s store area : List ℕ) (done : IsRead g s store area) 
   at-record : At g s k f
   at-record =
       let r = reads g s store area found.records found.read found.store found.area in
-      nth-written g s (sources outlined.read.taken) 0 i k f next (ap (λ (es : List Entry). nth es i) (sym (written_back g s found.records outlined)) ∙ ap (λ (st : List ℕ). nth (entries st) i) (sym r.stored) ∙ here)
+      nth-written g s (sources outlined.read.taken) 0 i k f next (ap (λ (es : List (Option Entry)). nth es i) (sym (written_back g s found.records outlined)) ∙ ap (λ (st : List ℕ). nth (entries st) i) (sym r.stored) ∙ here)
 
   -- EACH NUMERIC OF CIF 1.1 WITHIN THE LIMITS IS STORED WITH ITS MEANING
   pub cif-stored : {sg int frac esg e u : List ℕ} {b : Bool} → is_value_kind (number_of k) ≡ true → CifNumeric sg int frac esg e u b (token_in s f) → cif_within int frac e u ≡ true
@@ -205,11 +207,11 @@ module _ (g : Reading) (s store area : List ℕ) (done : IsRead g s store area) 
       rw y.token (h.number (omega (arith, l.0)) (omega (arith, l.1))).number
 
 -- EACH NUMBER THAT THE FIRST READING STORES is one of them, or has an exponent or a bracket without digits
-pub stored-cif : (s store area : List ℕ) → IsRead First s store area → (i : ℕ) (k : Kind) (f : Fields) (next : ℕ) → nth (entries (store_bytes First s store area)) i ≡ Record k f next
+pub stored-cif : (s store area : List ℕ) → IsRead First s store area → (i : ℕ) (k : Kind) (f : Fields) (next : ℕ) → nth (entries (store_bytes First s store area)) i ≡ whole k f next
     → IsNumber k → Out (Standard (token_in s f)) (parts (token_in s f)).exp (parts (token_in s f)).unc
 stored-cif s store area done i k f next here l = number-is-cif (token_in s f) (counted First s store area done i k f next here l)
 
 -- EACH NUMBER THAT THE STRICT READING STORES IS A NUMERIC OF CIF 1.1
-pub stored-numeric : (s store area : List ℕ) → IsRead Strict s store area → (i : ℕ) (k : Kind) (f : Fields) (next : ℕ) → nth (entries (store_bytes Strict s store area)) i ≡ Record k f next
+pub stored-numeric : (s store area : List ℕ) → IsRead Strict s store area → (i : ℕ) (k : Kind) (f : Fields) (next : ℕ) → nth (entries (store_bytes Strict s store area)) i ≡ whole k f next
     → IsNumber k → Standard (token_in s f)
 stored-numeric s store area done i k f next here l = numeric-is-cif (token_in s f) (counted Strict s store area done i k f next here l)

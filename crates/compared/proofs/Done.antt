@@ -1,6 +1,6 @@
 -- WHERE COMPARE IS DONE, both stores may be compared, and the list is written whole: the bytes that the answer counts are its entries. Assumes nothing.
 use Prim.Native.Nat.{ℕ}
-use mathlib.Core.Path.{◌≡◌, refl, sym, ap, ◌∙◌}
+use mathlib.Core.Path.{◌≡◌, refl}
 use mathlib.Core.Bool.{Bool, true, false, cond}
 use mathlib.Core.List.{List}
 use native.Mathlib.Omega.{arith}
@@ -8,12 +8,10 @@ use lib.Dec.{leb}
 use lib.ListN.{length, take}
 use Rattle.rules.specs.declared.Reading.{Reading}
 use Rattle.places.specs.Reports.{success, refused_bare, no_room}
-use Rattle.records.specs.Put.{front}
 use Rattle.records.proofs.Putting.{take-front}
 use Rattle.naming.specs.declared.Naming.{Naming}
 use Rattle.naming.specs.declared.Naming.TheVariants.{Distinct, NotSound, Repeated}
-use Rattle.comparing.specs.declared.Comparing.{Comparing}
-use Rattle.comparing.specs.declared.Comparing.TheVariants.{Compared, Unsound, Twice, NoRoom}
+use Rattle.comparing.specs.declared.Comparing.TheVariants.{Compared, NoRoom}
 use Rattle.comparing.specs.Comparing.{bytes_of, judged, refusal_of, fitted, answered, comparing, list_after, comparing_report}
 
 pub record Done (r : Reading) (st ar st' ar' : List ℕ) (room : ℕ) : Type 0 where

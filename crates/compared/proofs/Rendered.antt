@@ -8,12 +8,12 @@ use Rattle.places.specs.declared.Report.{Report}
 use Rattle.places.specs.Reports.{success}
 use Rattle.stores.specs.Soundness.{sound}
 use Rattle.naming.specs.declared.Naming.TheVariants.{Distinct}
-use Rattle.changes.specs.Changes.{changes, changes_bytes}
+use Rattle.changes.specs.Changes.{changes_bytes}
 use Rattle.comparing.specs.Comparing.{bytes_of, judged}
 use Rattle.written.specs.Results.{store_bytes, area_bytes}
 use Rattle.sound.specs.Claims.{IsRead}
 use Rattle.written.specs.Sayings.{SaySame}
-use Rattle.round_trip.specs.Claims.{Renderable, rendered_bytes, RoundTrip}
+use Rattle.round_trip.specs.Claims.{Renderable, rendered_bytes}
 use Rattle.round_trip.proofs.RoundTrip.{round_trip}
 use Rattle.sound.proofs.ReadIsSound.{read-is-sound}
 use Rattle.compared.proofs.Said.{said-empty}

@@ -1,13 +1,13 @@
 -- A STORE COMPARED WITH ITSELF (document 02, Four): where no two of its values meet, the list is empty. Assumes nothing.
-use Prim.Native.Nat.{ℕ, zero, suc, ◌+◌, ◌-◌, ◌≤◌, ◌<◌}
+use Prim.Native.Nat.{ℕ, suc, ◌-◌, ◌≤◌}
 use mathlib.Core.Path.{◌≡◌, refl, sym, ap, ap₂, ◌∙◌}
 use mathlib.Core.Bool.{Bool, true, false, cond, ◌&&◌, true≢false}
 use mathlib.Core.List.{List, [], ◌∷◌, ◌++◌}
-use mathlib.Core.Option.{Option, none, some}
+use mathlib.Core.Option.{some}
 use native.Mathlib.Omega.{arith}
 use borrow.Author.Tests.{eq-eqb}
 use lib.Dec.{eqb}
-use Rattle.folding.specs.Folding.{same_name, equal_bytes}
+use Rattle.folding.specs.Folding.{same_name}
 use Rattle.folding.proofs.Same.{folded-same}
 use Rattle.equal.proofs.Bytes.{bytes_same}
 use Rattle.kinds.specs.declared.Kind.{Kind}
@@ -15,7 +15,6 @@ use Rattle.kinds.specs.Kinds.{number_of}
 use Rattle.entries.specs.declared.Parts.{Parts}
 use Rattle.entries.specs.declared.Fields.{Fields}
 use Rattle.entries.specs.declared.Entry.{Entry}
-use Rattle.entries.specs.declared.Entry.TheVariants.{Record, Nothing}
 use Rattle.entries.specs.Walk.{entries}
 use Rattle.kinds.specs.Kinds.{is_value_kind}
 use Rattle.stores.specs.Content.{nth}
@@ -27,6 +26,8 @@ use Rattle.partners.specs.Partners.{same_frame, meets, partner_in, partner}
 use Rattle.changes.specs.declared.Change.{Change}
 use Rattle.changes.specs.Changes.{change, of_old, of_new, of_side, of_all, side_of, changes}
 use Rattle.soles.specs.Members.{In, here, there, Sole}
+use Rattle.std.specs.Prelude.{Option as Maybe, Some, None}
+use Rattle.entries.specs.Entries.{whole}
 
 -- a record is the same as itself
 parts_self : (p : Parts) → same_parts p p ≡ true
@@ -46,7 +47,7 @@ pub others-self : (k : ℕ) (c : List ℕ) → others_case k k c c ≡ 0
 unfolding others_case
 others-self k c = rw (bytes_same (unmarked k c), eq-eqb k k refl, either (is_text k && is_text k))
 
-pub case-self : (ar : List ℕ) (k : Kind) (f : Fields) (n : ℕ) → case_of ar ar (Record k f n) (Record k f n) ≡ 0
+pub case-self : (ar : List ℕ) (k : Kind) (f : Fields) (n : ℕ) → case_of ar ar (whole k f n) (whole k f n) ≡ 0
 unfolding case_of
 case-self ar k f n = rw (numbers-self (number_of k) f.parts, others-self (number_of k) _) (by (is_number (number_of k) && is_number (number_of k)))
   where
@@ -55,31 +56,31 @@ case-self ar k f n = rw (numbers-self (number_of k) f.parts, others-self (number
     by false = refl
 
 -- a value's number is that of a record
-pub data IsRecord : Entry → Type 0 where
-  whole : {k : Kind} {f : Fields} {n : ℕ} → IsRecord (Record k f n)
+pub data IsRecord : Maybe Entry → Type 0 where
+  met : {e : Entry} → IsRecord (Some e)
 
-record Stands (es : List Entry) (i : ℕ) (x : Cell) : Type 0 where
+record Stands (es : List (Maybe Entry)) (i : ℕ) (x : Cell) : Type 0 where
   from : i ≤ x.number
   whole : IsRecord (nth es (x.number - i))
 
-stands-in : (es : List Entry) (i : ℕ) (u : Under) (x : Cell) → In x (cells_from es i u) → Stands es i x
+stands-in : (es : List (Maybe Entry)) (i : ℕ) (u : Under) (x : Cell) → In x (cells_from es i u) → Stands es i x
 unfolding cells_from nth cell
-stands-in (Record k f n ∷ es) i u x m = by (is_value_kind (number_of k)) m (λ q. stands-in es (suc i) (under (number_of k) f.number i u) x q)
+stands-in (Some r ∷ es) i u x m = by (is_value_kind (number_of r.kind)) m (λ q. stands-in es (suc i) (under (number_of r.kind) r.fields.number i u) x q)
   where
-    later : Stands es (suc i) x → Stands (Record k f n ∷ es) i x
+    later : Stands es (suc i) x → Stands (Some r ∷ es) i x
     later s =
         let e : x.number - i ≡ suc (x.number - suc i) = omega (arith, s.from) in
         record { from = omega (arith, s.from); whole = rw e s.whole }
 
-    by : (t : Bool) → In x (cond t (cell i u ∷ cells_from es (suc i) (under (number_of k) f.number i u)) (cells_from es (suc i) (under (number_of k) f.number i u))) → (In x (cells_from es (suc i) (under (number_of k) f.number i u)) → Stands es (suc i) x) → Stands (Record k f n ∷ es) i x
+    by : (t : Bool) → In x (cond t (cell i u ∷ cells_from es (suc i) (under (number_of r.kind) r.fields.number i u)) (cells_from es (suc i) (under (number_of r.kind) r.fields.number i u))) → (In x (cells_from es (suc i) (under (number_of r.kind) r.fields.number i u)) → Stands es (suc i) x) → Stands (Some r ∷ es) i x
     by true (here e) again =
         let a : i ≡ x.number = ap (λ (c : Cell). c.number) e in
         let z : x.number - i ≡ 0 = omega arith in
-        record { from = omega arith; whole = rw z whole }
+        record { from = omega arith; whole = rw z met }
     by true (there q) again = later (again q)
     by false q again = later (again q)
 stands-in [] i u x m = elim m [ ]
-stands-in (Nothing ∷ es) i u x m = elim m [ ]
+stands-in (None ∷ es) i u x m = elim m [ ]
 
 pub value-record : (st : List ℕ) (x : Cell) → In x (cells st) → IsRecord (nth (entries st) x.number)
 unfolding cells
@@ -88,9 +89,9 @@ value-record st x m =
     let z : x.number - 0 ≡ x.number = omega arith in
     rw z at s.whole
 
-case-record : (ar : List ℕ) (e : Entry) → IsRecord e → case_of ar ar e e ≡ 0
-case-record ar (Record k f n) whole = case-self ar k f n
-case-record ar Nothing x' = elim x' [ ]
+case-record : (ar : List ℕ) (e : Maybe Entry) → IsRecord e → case_of ar ar e e ≡ 0
+case-record ar (Some e) met = case-self ar e.kind e.fields e.next
+case-record ar None x' = elim x' [ ]
 
 -- a value meets itself
 frame_self : (st ar : List ℕ) (n : ℕ) → same_frame st ar st ar n n ≡ true

@@ -1,8 +1,8 @@
 -- OLD AND NEW SWAPPED (document 02, Four): each entry of the list stands, turned, in the list of the two stores the other way round. As turning twice changes nothing,
 -- the two lists have the same entries but for that. Assumes nothing.
 use Prim.Native.Nat.{ℕ}
-use mathlib.Core.Path.{◌≡◌, refl, sym, ap, ap₂, subst, ◌∙◌}
-use mathlib.Core.Bool.{Bool, true, false, cond, true≢false}
+use mathlib.Core.Path.{◌≡◌, refl, sym, ap, subst, ◌∙◌}
+use mathlib.Core.Bool.{Bool, true, false, cond}
 use mathlib.Core.List.{List, [], ◌∷◌, ◌++◌}
 use mathlib.Core.Option.{Option, none, some}
 use native.Mathlib.Omega.{arith}
@@ -14,7 +14,7 @@ use Rattle.stores.specs.Content.{nth}
 use Rattle.naming.specs.declared.Naming.TheVariants.{Distinct}
 use Rattle.cells.specs.Cells.{Cell, cells}
 use Rattle.cases.specs.Cases.{case_of}
-use Rattle.partners.specs.Partners.{meets, partner_in, partner}
+use Rattle.partners.specs.Partners.{partner}
 use Rattle.changes.specs.declared.Change.{Change}
 use Rattle.changes.specs.Changes.{change, of_old, of_new, of_side, of_all, side_of, changes}
 use Rattle.comparing.specs.Comparing.{judged}

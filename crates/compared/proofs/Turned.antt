@@ -1,17 +1,15 @@
 -- BOTH WAYS ROUND: what two values are to each other, seen from the other side. Assumes nothing.
 use Prim.Native.Nat.{ℕ}
-use mathlib.Core.Path.{◌≡◌, refl, sym, ap, ap₂, ◌∙◌}
+use mathlib.Core.Path.{◌≡◌, refl, sym}
 use mathlib.Core.Bool.{Bool, true, false, cond, ◌&&◌}
-use mathlib.Core.List.{List, [], ◌∷◌}
+use mathlib.Core.List.{List}
 use borrow.Author.Tests.{eq-eqb, eqb-true, eqb-false, ne_eqb}
 use lib.Dec.{eqb}
 use Rattle.folding.specs.Folding.{equal_bytes}
 use Rattle.equal.proofs.Bytes.{bytes-turned}
-use Rattle.kinds.specs.declared.Kind.{Kind}
 use Rattle.kinds.specs.Kinds.{number_of}
 use Rattle.entries.specs.declared.Parts.{Parts}
 use Rattle.entries.specs.declared.Entry.{Entry}
-use Rattle.entries.specs.declared.Entry.TheVariants.{Record, Nothing}
 use Rattle.orders.specs.declared.Order.{Order}
 use Rattle.orders.specs.declared.Order.TheVariants.{Less, Same, More}
 use Rattle.orders.specs.Order.{flipped}
@@ -20,6 +18,7 @@ use Rattle.amounts.proofs.Laws.{value-turned, doubt-turned}
 use Rattle.number_cases.specs.Numbers.{same_parts, numbers_case, number_case, equal_case}
 use Rattle.cases.specs.Cases.{is_number, is_text, unmarked, others_case, case_of}
 use Rattle.compared.specs.Turned.{turned_case}
+use Rattle.std.specs.Prelude.{Option, Some, None}
 
 eqb-turned : (a b : ℕ) → eqb a b ≡ eqb b a
 eqb-turned a b = by (eqb a b) refl
@@ -62,13 +61,13 @@ others-turned k j c d =
     by true = refl
     by false = refl
 
-pub case-turned : (ar ar' : List ℕ) (e e' : Entry) → case_of ar' ar e' e ≡ turned_case (case_of ar ar' e e')
+pub case-turned : (ar ar' : List ℕ) (e e' : Option Entry) → case_of ar' ar e' e ≡ turned_case (case_of ar ar' e e')
 unfolding case_of turned_case
-case-turned ar ar' Nothing Nothing = refl
-case-turned ar ar' Nothing (Record j g m) = refl
-case-turned ar ar' (Record k f n) Nothing = refl
-case-turned ar ar' (Record k f n) (Record j g m) =
-    rw (and-turned (is_number (number_of j)) (is_number (number_of k)), numbers-turned (number_of k) (number_of j) f.parts g.parts, others-turned (number_of k) (number_of j) _ _) (by (is_number (number_of k) && is_number (number_of j)) _ _)
+case-turned ar ar' None None = refl
+case-turned ar ar' None (Some e) = refl
+case-turned ar ar' (Some e) None = refl
+case-turned ar ar' (Some e) (Some x) =
+    rw (and-turned (is_number (number_of x.kind)) (is_number (number_of e.kind)), numbers-turned (number_of e.kind) (number_of x.kind) e.fields.parts x.fields.parts, others-turned (number_of e.kind) (number_of x.kind) _ _) (by (is_number (number_of e.kind) && is_number (number_of x.kind)) _ _)
   where
     by : (t : Bool) (a b : ℕ) → cond t (turned_case a) (turned_case b) ≡ turned_case (cond t a b)
     by true a b = refl

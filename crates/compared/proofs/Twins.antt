@@ -3,23 +3,17 @@ use Prim.Native.Nat.{ℕ}
 use mathlib.Core.Path.{◌≡◌, refl, sym, ap, ap₂, subst, ◌∙◌}
 use mathlib.Core.Bool.{Bool, true, false, cond, ◌&&◌}
 use mathlib.Core.List.{List, [], ◌∷◌, ◌++◌}
-use mathlib.Core.Option.{Option, none, some}
+use mathlib.Core.Option.{some}
 use borrow.Author.Tests.{eqb-false}
 use lib.Dec.{eqb}
 use Rattle.rules.specs.declared.Reading.{Reading}
 use Rattle.folding.specs.Folding.{same_name, equal_bytes}
-use Rattle.equal.proofs.Bytes.{bytes_same}
 use Rattle.kinds.specs.declared.Kind.{Kind}
 use Rattle.kinds.specs.Kinds.{number_of}
-use Rattle.entries.specs.declared.Parts.{Parts}
 use Rattle.entries.specs.declared.Fields.{Fields}
-use Rattle.entries.specs.declared.Entry.TheVariants.{Record}
-use Rattle.entries.specs.Walk.{entries}
 use Rattle.contents.specs.Contents.{content_bytes}
-use Rattle.stores.specs.Content.{nth}
 use Rattle.naming.specs.declared.Naming.TheVariants.{Distinct}
 use Rattle.cells.specs.Cells.{Cell, cells, name_of}
-use Rattle.number_cases.specs.Numbers.{numbers_case}
 use Rattle.cases.specs.Cases.{is_number, is_text, unmarked, others_case, case_of}
 use Rattle.partners.specs.Partners.{same_frame, meets, partner}
 use Rattle.changes.specs.declared.Change.{Change}
@@ -30,6 +24,7 @@ use Rattle.compared.specs.Twins.{Twins}
 use Rattle.compared.proofs.Selves.{meets-self, numbers-self, others-self}
 use Rattle.soles.proofs.Meeting.{meets-turned, meets-through, partner-is}
 use Rattle.compared.proofs.Itself.{judged-sole}
+use Rattle.entries.specs.Entries.{whole}
 
 module _ (st ar st' ar' : List ℕ) (s : Sole st ar) (t : Twins st ar st' ar') where
   -- a value meets its twin
@@ -97,7 +92,7 @@ texts-twin k c d h = by (is_text k) refl
     by true q = ap (λ (l : List ℕ). others_case k k c l) (sym (h q)) ∙ others-self k c
     by false q = rw q (rw q at (others-self k c))
 
-pub case_twin : (ar ar' : List ℕ) (k : Kind) (f g : Fields) (n m : ℕ) → f.parts ≡ g.parts → (is_text (number_of k) ≡ true → content_bytes ar k f ≡ content_bytes ar' k g) → case_of ar ar' (Record k f n) (Record k g m) ≡ 0
+pub case_twin : (ar ar' : List ℕ) (k : Kind) (f g : Fields) (n m : ℕ) → f.parts ≡ g.parts → (is_text (number_of k) ≡ true → content_bytes ar k f ≡ content_bytes ar' k g) → case_of ar ar' (whole k f n) (whole k g m) ≡ 0
 unfolding case_of
 case_twin ar ar' k f g n m p h = rw (texts-twin (number_of k) (content_bytes ar k f) (content_bytes ar' k g) h, ← p, numbers-self (number_of k) f.parts) (by (is_number (number_of k) && is_number (number_of k)))
   where

@@ -13,12 +13,11 @@ use Rattle.kinds.specs.declared.Kind.TheVariants.{NoKind, Block, FrameOpen, Fram
 use Rattle.kinds.specs.declared.Shape.{Shape}
 use Rattle.kinds.specs.declared.Shape.TheVariants.{Empty, Place, Content, Count, Parts, PartsUncertain}
 use Rattle.records.specs.declared.Token.{Token}
-use Rattle.entries.specs.declared.Entry.TheVariants.{Record}
 use Rattle.kinds.specs.Kinds.{kind_of, shape_of, shape_length, body_length}
 use Rattle.records.specs.Bytes.{le32, le64, signed32}
 use Rattle.records.specs.Records.{token_bytes, decimal_bytes, end_record, place_record, content_record, loop_record, number_record, uncertain_record}
 use Rattle.records.proofs.Forms.{length-token, length-decimal}
-use Rattle.entries.specs.Entries.{de32, de64, token_of, parts_of, stored, no_parts, no_fields, plain_fields, parts_fields, fields_of, is_kind, entry_of, entry_at}
+use Rattle.entries.specs.Entries.{de32, de64, token_of, parts_of, stored, no_parts, no_fields, plain_fields, parts_fields, fields_of, is_kind, entry_of, entry_at, whole}
 
 digits : (v a b c d p q r s m : ℕ) → v ≡ a + p * 256 → p ≡ b + q * 256 → q ≡ c + r * 256 → r ≡ d + s * 256 → v ≡ m + s * 4294967296 → a + b * 256 + c * 65536 + d * 16777216 ≡ m
 digits v a b c d p q r s m e f g h i = omega arith
@@ -120,16 +119,16 @@ shaped Uncertain e = refl
 shaped Quoted e = refl
 
 -- a kind's byte and a body of its length
-whole : (s l : List ℕ) (at k n : ℕ) (b : List ℕ) (shape : Shape) → drop at s ≡ k ∷ (b ++ l) → is_kind (kind_of k) ≡ true → shape_of (kind_of k) ≡ shape → length b ≡ shape_length shape → n ≡ 1 + length b → entry_at s at ≡ Record (kind_of k) (fields_of shape (b ++ l)) (at + n)
+laid : (s l : List ℕ) (at k n : ℕ) (b : List ℕ) (shape : Shape) → drop at s ≡ k ∷ (b ++ l) → is_kind (kind_of k) ≡ true → shape_of (kind_of k) ≡ shape → length b ≡ shape_length shape → n ≡ 1 + length b → entry_at s at ≡ whole (kind_of k) (fields_of shape (b ++ l)) (at + n)
 unfolding entry_at entry_of body_length
-whole s l at k n b shape e known shaped fits all =
+laid s l at k n b shape e known shaped fits all =
     let room : shape_length shape ≤ length (b ++ l) = omega (arith, length-append b l) in
     let next : at + 1 + shape_length shape ≡ at + n = omega arith in
     rw (e, known, shaped, le-leb _ _ room, next)
 
-pub end_back : (s l : List ℕ) (at : ℕ) → drop at s ≡ end_record ++ l → entry_at s at ≡ Record LoopEnd no_fields (at + 1)
+pub end_back : (s l : List ℕ) (at : ℕ) → drop at s ≡ end_record ++ l → entry_at s at ≡ whole LoopEnd no_fields (at + 1)
 unfolding end_record kind_of shape_of shape_length is_kind fields_of
-end_back s l at e = whole s l at 7 1 [] Empty e refl refl refl refl
+end_back s l at e = laid s l at 7 1 [] Empty e refl refl refl refl
 
 drop_token : (t : Token) (l : List ℕ) → drop 16 (token_bytes t ++ l) ≡ l
 unfolding token_bytes le32
@@ -152,31 +151,31 @@ numbered t a l h small = rw (append_assoc, token_back t (le32 a ++ l) h, drop_to
 
 -- bytes in which a record's form stands at an offset
 module _ (s l : List ℕ) (at : ℕ) (t : Token) (h : Fits t) where
-  pub place-back : (k : ℕ) → shape_of (kind_of k) ≡ Place → drop at s ≡ place_record k t ++ l → entry_at s at ≡ Record (kind_of k) (record { token = t; number = 0; parts = no_parts }) (at + 17)
+  pub place-back : (k : ℕ) → shape_of (kind_of k) ≡ Place → drop at s ≡ place_record k t ++ l → entry_at s at ≡ whole (kind_of k) (record { token = t; number = 0; parts = no_parts }) (at + 17)
   unfolding place_record token_bytes le32 shape_length fields_of plain_fields
   place-back k shape e =
-      whole s l at k 17 (token_bytes t) Place e (shaped (kind_of k) (rw shape)) shape refl refl ∙ rw (token_back t l h)
+      laid s l at k 17 (token_bytes t) Place e (shaped (kind_of k) (rw shape)) shape refl refl ∙ rw (token_back t l h)
 
-  pub content-back : (k a : ℕ) → a < 4294967296 → shape_of (kind_of k) ≡ Content → drop at s ≡ content_record k t a ++ l → entry_at s at ≡ Record (kind_of k) (record { token = t; number = a; parts = no_parts }) (at + 21)
+  pub content-back : (k a : ℕ) → a < 4294967296 → shape_of (kind_of k) ≡ Content → drop at s ≡ content_record k t a ++ l → entry_at s at ≡ whole (kind_of k) (record { token = t; number = a; parts = no_parts }) (at + 21)
   unfolding content_record token_bytes le32 shape_length
   content-back k a small shape e =
-      whole s l at k 21 (token_bytes t ++ le32 a) Content e (shaped (kind_of k) (rw shape)) shape refl refl
+      laid s l at k 21 (token_bytes t ++ le32 a) Content e (shaped (kind_of k) (rw shape)) shape refl refl
       ∙ rw (numbered t a l h small)
 
-  pub loop-back : (n : ℕ) → n < 4294967296 → drop at s ≡ loop_record t n ++ l → entry_at s at ≡ Record Loop (record { token = t; number = n; parts = no_parts }) (at + 21)
+  pub loop-back : (n : ℕ) → n < 4294967296 → drop at s ≡ loop_record t n ++ l → entry_at s at ≡ whole Loop (record { token = t; number = n; parts = no_parts }) (at + 21)
   unfolding loop_record token_bytes le32 shape_length kind_of shape_of is_kind fields_of
   loop-back n small e =
-      whole s l at 5 21 (token_bytes t ++ le32 n) Count e refl refl refl refl ∙ rw (numbered t n l h small)
+      laid s l at 5 21 (token_bytes t ++ le32 n) Count e refl refl refl refl ∙ rw (numbered t n l h small)
 
-  pub number-back : (d : Decimal) → Small d → drop at s ≡ number_record t d ++ l → entry_at s at ≡ Record Number (record { token = t; number = 0; parts = stored d 0 }) (at + 35)
+  pub number-back : (d : Decimal) → Small d → drop at s ≡ number_record t d ++ l → entry_at s at ≡ whole Number (record { token = t; number = 0; parts = stored d 0 }) (at + 35)
   unfolding number_record shape_length kind_of shape_of is_kind fields_of parts_fields
   number-back d small e =
-      whole s l at 14 35 (token_bytes t ++ decimal_bytes d) Parts e refl refl (length-parts t d) (rw length-parts)
+      laid s l at 14 35 (token_bytes t ++ decimal_bytes d) Parts e refl refl (length-parts t d) (rw length-parts)
       ∙ rw (append_assoc, token_back t (decimal_bytes d ++ l) h, drop_token, parts-back d 0 l small)
 
-  pub uncertain-back : (d : Decimal) → Small d → drop at s ≡ uncertain_record t d ++ l → entry_at s at ≡ Record Uncertain (record { token = t; number = 0; parts = stored d d.uncertainty }) (at + 39)
+  pub uncertain-back : (d : Decimal) → Small d → drop at s ≡ uncertain_record t d ++ l → entry_at s at ≡ whole Uncertain (record { token = t; number = 0; parts = stored d d.uncertainty }) (at + 39)
   unfolding uncertain_record shape_length kind_of shape_of is_kind fields_of parts_fields
   uncertain-back d small e =
       let u = le32 d.uncertainty in
-      whole s l at 15 39 (token_bytes t ++ (decimal_bytes d ++ u)) PartsUncertain e refl refl (length-all t d d.uncertainty) (rw length-all)
+      laid s l at 15 39 (token_bytes t ++ (decimal_bytes d ++ u)) PartsUncertain e refl refl (length-all t d d.uncertainty) (rw length-all)
       ∙ rw (append_assoc, append_assoc, token_back t (decimal_bytes d ++ (u ++ l)) h, drop_token, drop-parts, de32-back d.uncertainty l small.uncertainty, parts-back d d.uncertainty (u ++ l) small)

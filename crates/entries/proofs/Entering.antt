@@ -13,11 +13,12 @@ use lib.Seq.{drop-cons, get_or-drop}
 use Rattle.text.proofs.Bools.{and_l, and_r}
 use Rattle.kinds.specs.declared.Kind.{Kind}
 use Rattle.entries.specs.declared.Fields.{Fields}
-use Rattle.entries.specs.declared.Entry.TheVariants.{Record, Nothing}
 use Rattle.kinds.specs.Kinds.{kind_of, number_of, shape_of, shape_length, body_length}
-use Rattle.entries.specs.Entries.{fields_of, is_kind, entry_of, entry_at}
+use Rattle.entries.specs.Entries.{fields_of, is_kind, entry_of, entry_at, whole}
+use Rattle.std.specs.Prelude.{None}
+use Rattle.entries.proofs.Wholes.{one}
 
-pub entry-over : (s : List ℕ) (at : ℕ) → length s ≤ at → entry_at s at ≡ Nothing
+pub entry-over : (s : List ℕ) (at : ℕ) → length s ≤ at → entry_at s at ≡ None
 unfolding entry_at entry_of
 entry-over s at h = rw (drop_of_length-le s h)
 
@@ -25,7 +26,7 @@ entry_here : (s : List ℕ) (at : ℕ) → at < length s → entry_at s at ≡ e
 unfolding entry_at
 entry_here s at h = rw (add-one, drop-cons s at 0)
 
-pub entry-none : (s : List ℕ) (at : ℕ) → at < length s → number_of (kind_of (get_or s at 0)) ≡ 0 → entry_at s at ≡ Nothing
+pub entry-none : (s : List ℕ) (at : ℕ) → at < length s → number_of (kind_of (get_or s at 0)) ≡ 0 → entry_at s at ≡ None
 unfolding entry_of is_kind
 entry-none s at h e = entry_here s at h ∙ rw e
 
@@ -33,13 +34,13 @@ and-false : (b : Bool) → b && false ≡ false
 and-false true = refl
 and-false false = refl
 
-pub entry-short : (s : List ℕ) (at : ℕ) → at < length s → length s - (at + 1) < body_length (get_or s at 0) → entry_at s at ≡ Nothing
+pub entry-short : (s : List ℕ) (at : ℕ) → at < length s → length s - (at + 1) < body_length (get_or s at 0) → entry_at s at ≡ None
 unfolding entry_of
 entry-short s at h short =
     let over : length (drop (at + 1) s) < body_length (get_or s at 0) = omega (arith, length-drop (at + 1) s) in
     entry_here s at h ∙ rw (lt-leb _ _ over, and-false)
 
-pub entry_whole : (s : List ℕ) (at : ℕ) → at < length s → 0 < number_of (kind_of (get_or s at 0)) → body_length (get_or s at 0) ≤ length s - (at + 1) → entry_at s at ≡ Record (kind_of (get_or s at 0)) (fields_of (shape_of (kind_of (get_or s at 0))) (drop (at + 1) s)) (at + 1 + body_length (get_or s at 0))
+pub entry_whole : (s : List ℕ) (at : ℕ) → at < length s → 0 < number_of (kind_of (get_or s at 0)) → body_length (get_or s at 0) ≤ length s - (at + 1) → entry_at s at ≡ whole (kind_of (get_or s at 0)) (fields_of (shape_of (kind_of (get_or s at 0))) (drop (at + 1) s)) (at + 1 + body_length (get_or s at 0))
 unfolding entry_of is_kind
 entry_whole s at h known fits =
     let room : body_length (get_or s at 0) ≤ length (drop (at + 1) s) = omega (arith, length-drop (at + 1) s) in
@@ -53,11 +54,11 @@ pub record Found (s : List ℕ) (at : ℕ) (kind : Kind) (next : ℕ) : Type 0 w
   pub after : next ≡ at + 1 + shape_length (shape_of kind)
   pub within : next ≤ length s
 
-chosen : (t : Bool) (k kind : Kind) (f fields : Fields) (n next : ℕ) → cond t (Record k f n) Nothing ≡ Record kind fields next → (t ≡ true) × (kind ≡ k) × (fields ≡ f) × (next ≡ n)
-chosen true k kind f fields n next e = (refl, (cc), (cc), (cc))
+chosen : (t : Bool) (k kind : Kind) (f fields : Fields) (n next : ℕ) → cond t (whole k f n) None ≡ whole kind fields next → (t ≡ true) × (kind ≡ k) × (fields ≡ f) × (next ≡ n)
+chosen true k kind f fields n next e = let s = one k kind f fields n next e in (refl, (cc), (cc), (cc))
 chosen false k kind f fields n next e = let z : ◌≡◌ {A = ℕ} 0 1 = cc in absurd (omega arith)
 
-found_front : (at : ℕ) (b : List ℕ) (kind : Kind) (fields : Fields) (next : ℕ) → entry_of at b ≡ Record kind fields next → (0 < length b) × (kind ≡ kind_of (get_or b 0 0)) × (is_kind kind ≡ true) × (next ≡ at + 1 + shape_length (shape_of kind)) × (next ≤ at + length b)
+found_front : (at : ℕ) (b : List ℕ) (kind : Kind) (fields : Fields) (next : ℕ) → entry_of at b ≡ whole kind fields next → (0 < length b) × (kind ≡ kind_of (get_or b 0 0)) × (is_kind kind ≡ true) × (next ≡ at + 1 + shape_length (shape_of kind)) × (next ≤ at + length b)
 unfolding entry_of body_length
 found_front at [] kind fields next e = let z : ◌≡◌ {A = ℕ} 0 1 = cc in absurd (omega arith)
 found_front at (x ∷ b) kind fields next e =
@@ -73,7 +74,7 @@ found_front at (x ∷ b) kind fields next e =
       omega (arith, got.3),
     )
 
-pub found : (s : List ℕ) (at : ℕ) (kind : Kind) (fields : Fields) (next : ℕ) → entry_at s at ≡ Record kind fields next → Found s at kind next
+pub found : (s : List ℕ) (at : ℕ) (kind : Kind) (fields : Fields) (next : ℕ) → entry_at s at ≡ whole kind fields next → Found s at kind next
 unfolding entry_at
 found s at kind fields next e =
     let got = found_front at (drop at s) kind fields next e in

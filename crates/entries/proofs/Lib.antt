@@ -1,3 +1,4 @@
+pub mod Wholes
 pub mod Offsets
 pub mod Entering
 pub mod Back

@@ -1,7 +1,7 @@
 -- Records read back (document 01, 'Records'): what stands at an offset of any bytes. A byte that is no kind, and a
 -- body that does not fit, give nothing; sign, fraction digits and exponent come as they are stored, for soundness to
 -- judge. Assumes nothing.
-use Rattle.std.specs.Prelude.{ℕ, ◌+◌, ◌-◌, ◌*◌, ◌%◌, Bool, cond, ◌&&◌, List, [], ◌∷◌, leb, ltb, length, drop, get_or}
+use Rattle.std.specs.Prelude.{ℕ, ◌+◌, ◌-◌, ◌*◌, ◌%◌, Bool, cond, ◌&&◌, List, [], ◌∷◌, leb, ltb, length, drop, get_or, Option, Some, None}
 use Rattle.numbers.specs.declared.Decimal.{Decimal}
 use Rattle.kinds.specs.declared.Kind.{Kind}
 use Rattle.kinds.specs.declared.Shape.{Shape}
@@ -10,7 +10,6 @@ use Rattle.records.specs.declared.Token.{Token}
 use Rattle.entries.specs.declared.Parts.{Parts}
 use Rattle.entries.specs.declared.Fields.{Fields}
 use Rattle.entries.specs.declared.Entry.{Entry}
-use Rattle.entries.specs.declared.Entry.TheVariants.{Record, Nothing}
 use Rattle.records.specs.Bytes.{flag}
 use Rattle.kinds.specs.Kinds.{kind_of, number_of, shape_of, body_length}
 
@@ -77,14 +76,18 @@ fields_of PartsUncertain b = parts_fields b (de32 (drop 34 b))
 unfoldable pub is_kind : Kind → Bool
 is_kind k = ltb 0 (number_of k)
 
+-- a record found
+abbrev pub whole : Kind → Fields → ℕ → Option Entry
+whole k f next = Some (record { kind = k; fields = f; next = next })
+
 -- the record at the front of bytes that stand at an offset
-unfoldable pub entry_of : ℕ → List ℕ → Entry
-entry_of at [] = Nothing
+unfoldable pub entry_of : ℕ → List ℕ → Option Entry
+entry_of at [] = None
 entry_of at (k ∷ b) =
     cond (is_kind (kind_of k) && leb (body_length k) (length b))
-    (Record (kind_of k) (fields_of (shape_of (kind_of k)) b) (at + 1 + body_length k))
-    Nothing
+    (whole (kind_of k) (fields_of (shape_of (kind_of k)) b) (at + 1 + body_length k))
+    None
 
 -- the record at an offset
-unfoldable pub entry_at : List ℕ → ℕ → Entry
+unfoldable pub entry_at : List ℕ → ℕ → Option Entry
 entry_at s at = entry_of at (drop at s)

@@ -30,16 +30,12 @@ pub struct Fields {
     pub parts: Parts,
 }
 
-// What stands at an offset of a store.
+// A whole record; the next one starts at `next`.
 #[derive(Clone, Copy)]
-pub enum Entry {
-    // A whole record; the next one starts at `next`.
-    Record {
-        kind: Kind,
-        fields: Fields,
-        next: usize,
-    },
-    Nothing,
+pub struct Entry {
+    pub kind: Kind,
+    pub fields: Fields,
+    pub next: usize,
 }
 
 // Four bytes as a number, the lowest first.
@@ -170,25 +166,25 @@ fn fields_at(store: &[u8], at: usize, shape: Shape) -> Fields
 }
 
 // The record at an offset of any bytes.
-pub fn read_record(store: &[u8], at: usize) -> Entry
+pub fn read_record(store: &[u8], at: usize) -> Option<Entry>
     ensures { result ≡ entry_at store.now at }
 {
     if store.len() <= at {
-        return Entry::Nothing;
+        return None;
     }
     let kind = Kind::of(store[at]);
     if kind.number() == 0 {
-        return Entry::Nothing;
+        return None;
     }
     let body = at + 1;
     let shape = kind.shape();
     let length = shape.length();
     if store.len() - body < length {
-        return Entry::Nothing;
+        return None;
     }
-    Entry::Record {
+    Some(Entry {
         kind,
         fields: fields_at(store, body, shape),
         next: body + length,
-    }
+    })
 }

@@ -1,5 +1,5 @@
 -- Laws of the walk from frame to frame, of the search for a repeated name, and of counting blocks. Assumes nothing.
-use Prim.Native.Nat.{ℕ, zero, suc, ◌+◌, ◌-◌, ◌≤◌, ◌<◌}
+use Prim.Native.Nat.{ℕ, suc, ◌+◌, ◌-◌, ◌≤◌, ◌<◌}
 use mathlib.Core.Path.{◌≡◌, refl, sym, ap, ap₂, ◌∙◌}
 use mathlib.Core.Bool.{Bool, true, false, cond}
 use mathlib.Core.List.{List, [], ◌∷◌}
@@ -13,9 +13,7 @@ use Rattle.text.specs.Parts.{part}
 use Rattle.kinds.specs.declared.Kind.{Kind}
 use Rattle.kinds.specs.Kinds.{number_of}
 use Rattle.entries.specs.declared.Fields.{Fields}
-use Rattle.entries.specs.declared.Entry.TheVariants.{Record, Nothing}
-use Rattle.entries.specs.Entries.{entry_at}
-use Rattle.entries.specs.Walk.{entries}
+use Rattle.entries.specs.Entries.{entry_at, whole}
 use Rattle.entries.proofs.Walking.{rest, rest-is, rest_all, rest_over, rest-none, next-at, entries-first}
 use Rattle.contents.specs.Contents.{content_bytes}
 use Rattle.names.specs.declared.Named.{Named}
@@ -31,6 +29,7 @@ use Rattle.frames.specs.declared.Frame.{Frame}
 use Rattle.frames.specs.declared.Frame.TheVariants.{Met, End}
 use Rattle.frames.specs.declared.Seen.TheVariants.{At, Missing}
 use Rattle.frames.specs.Frames.{frames_from, frames, blocks_in, is_single, frames_at, first, Counted, listed, Kept, Ahead, seen_of}
+use Rattle.std.specs.Prelude.{None}
 
 -- the frames from an offset on, the first record there having the number i
 unfoldable pub frames_on : List ℕ → List ℕ → ℕ → ℕ → List Name
@@ -44,11 +43,11 @@ pub frames-over : (st ar : List ℕ) (at i : ℕ) → length st ≤ at → frame
 unfolding frames_on frames_from
 frames-over st ar at i h = rw (rest_over st at h)
 
-pub frames-none : (st ar : List ℕ) (at i : ℕ) → at < length st → entry_at st at ≡ Nothing → frames_on st ar at i ≡ []
+pub frames-none : (st ar : List ℕ) (at i : ℕ) → at < length st → entry_at st at ≡ None → frames_on st ar at i ≡ []
 unfolding frames_on frames_from
 frames-none st ar at i h e = rw (rest-none st at h e)
 
-module _ (st ar : List ℕ) (at i : ℕ) (k : Kind) (f : Fields) (next : ℕ) (h : at < length st) (e : entry_at st at ≡ Record k f next) where
+module _ (st ar : List ℕ) (at i : ℕ) (k : Kind) (f : Fields) (next : ℕ) (h : at < length st) (e : entry_at st at ≡ whole k f next) where
   pub frames-other : (number_of k ≡ 2 → ⊥) → frames_on st ar at i ≡ frames_on st ar next (i + 1)
   unfolding frames_on frames_from
   frames-other d = rw ((next-at st at k f next h e).here, ne_eqb (number_of k) 2 d, add-one)
@@ -195,13 +194,13 @@ module _ (st : List ℕ) (at n : ℕ) where
       let z : n + 0 ≡ n = omega arith in
       rw (rest_over st at h, z)
 
-  pub blocks-none : at < length st → entry_at st at ≡ Nothing → eqb n 1 ≡ eqb (n + blocks_in (rest st at)) 1
+  pub blocks-none : at < length st → entry_at st at ≡ None → eqb n 1 ≡ eqb (n + blocks_in (rest st at)) 1
   unfolding blocks_in
   blocks-none h e =
       let z : n + 0 ≡ n = omega arith in
       rw (rest-none st at h e, z)
 
-  module _ (k : Kind) (f : Fields) (next : ℕ) (h : at < length st) (e : entry_at st at ≡ Record k f next) where
+  module _ (k : Kind) (f : Fields) (next : ℕ) (h : at < length st) (e : entry_at st at ≡ whole k f next) where
     pub blocks-next : (r : ℕ) → r ≡ cond (eqb (number_of k) 1) 1 0 → n + blocks_in (rest st at) ≡ n + r + blocks_in (rest st next)
     unfolding blocks_in
     blocks-next r q = rw ((next-at st at k f next h e).here, q) (by (eqb (number_of k) 1))

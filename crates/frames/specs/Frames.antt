@@ -1,15 +1,14 @@
 -- Frames of a store: their names, which may not stand twice (document 02, Four: "then 13, for frame names too"), and the blocks. Records count from 0 over the whole store.
 -- A frame's name and a tag's are never alike. Assumes nothing.
-use Rattle.std.specs.Prelude.{ℕ, zero, suc, ◌+◌, ◌≤◌, ◌≡◌, Bool, true, false, cond, List, [], ◌∷◌, eqb, ltb, drop}
+use Rattle.std.specs.Prelude.{ℕ, suc, ◌+◌, ◌≤◌, ◌≡◌, Bool, cond, List, [], ◌∷◌, eqb, ltb, drop, Option as Maybe, Some, None}
 use Rattle.std.proofs.Math.Option.{Option, none, some}
 use Rattle.kinds.specs.Kinds.{number_of}
 use Rattle.entries.specs.declared.Entry.{Entry}
-use Rattle.entries.specs.declared.Entry.TheVariants.{Record, Nothing}
 use Rattle.entries.specs.Walk.{entries_from, entries}
 use Rattle.contents.specs.Contents.{content_bytes}
 use Rattle.names.specs.Names.{Name, names}
 use Rattle.names.specs.Parts.{name_of, Inside}
-use Rattle.naming.specs.Names.{Repeat, fresh, repeats, repeat_from, first_repeat}
+use Rattle.naming.specs.Names.{Repeat, fresh, repeats, first_repeat}
 use Rattle.frames.specs.declared.Mark.{Mark}
 use Rattle.frames.specs.declared.Frame.{Frame}
 use Rattle.frames.specs.declared.Frame.TheVariants.{Met, End}
@@ -17,13 +16,13 @@ use Rattle.frames.specs.declared.Seen.{Seen}
 use Rattle.frames.specs.declared.Seen.TheVariants.{At, Missing}
 
 -- the names of frames, all in one scope, among entries of which the first has the number i
-unfoldable pub frames_from : List Entry → List ℕ → ℕ → List Name
+unfoldable pub frames_from : List (Maybe Entry) → List ℕ → ℕ → List Name
 frames_from [] ar i = []
-frames_from (Nothing ∷ es) ar i = []
-frames_from (Record k f next ∷ es) ar i =
+frames_from (None ∷ es) ar i = []
+frames_from (Some e ∷ es) ar i =
     let more = frames_from es ar (suc i) in
-    let mine : Name = record { number = i; scope = 0; bytes = content_bytes ar k f } in
-    cond (eqb (number_of k) 2) (mine ∷ more) more
+    let mine : Name = record { number = i; scope = 0; bytes = content_bytes ar e.kind e.fields } in
+    cond (eqb (number_of e.kind) 2) (mine ∷ more) more
 
 unfoldable pub frames : List ℕ → List ℕ → List Name
 frames st ar = frames_from (entries st) ar 0
@@ -39,10 +38,10 @@ unfoldable pub first_twice : List ℕ → List ℕ → Repeat
 first_twice st ar = earlier (first_repeat (names st ar)) (first_repeat (frames st ar))
 
 -- how many blocks
-unfoldable pub blocks_in : List Entry → ℕ
+unfoldable pub blocks_in : List (Maybe Entry) → ℕ
 blocks_in [] = 0
-blocks_in (Nothing ∷ es) = 0
-blocks_in (Record k f next ∷ es) = let more = blocks_in es in cond (eqb (number_of k) 1) (suc more) more
+blocks_in (None ∷ es) = 0
+blocks_in (Some e ∷ es) = let more = blocks_in es in cond (eqb (number_of e.kind) 1) (suc more) more
 
 unfoldable pub is_single : List ℕ → Bool
 is_single st = eqb (blocks_in (entries st)) 1

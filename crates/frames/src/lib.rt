@@ -52,11 +52,13 @@ fn next_frame(store: &[u8], area: &[u8], mark: Mark) -> Frame
     let mut at = mark.at;
     let mut number = mark.number;
     while at < store.len() {
-        let Entry::Record {
-            kind,
-            fields: _,
-            next,
-        } = entries::read_record(store, at)
+        let Some(
+            Entry {
+                kind,
+                fields: _,
+                next,
+            },
+        ) = entries::read_record(store, at)
         else {
             return Frame::End;
         };
@@ -140,11 +142,13 @@ pub fn is_single(store: &[u8]) -> bool
     let mut blocks = 0;
     let mut at = 0;
     while at < store.len() {
-        let Entry::Record {
-            kind,
-            fields: _,
-            next,
-        } = entries::read_record(store, at)
+        let Some(
+            Entry {
+                kind,
+                fields: _,
+                next,
+            },
+        ) = entries::read_record(store, at)
         else {
             return blocks == 1;
         };

@@ -1,8 +1,8 @@
 -- Laws of a name's number: names that are the same have the same, and it is made byte by byte. Assumes nothing.
 use Prim.Native.Nat.{ℕ, ◌+◌, ◌≤◌, ◌<◌}
-use mathlib.Core.Path.{◌≡◌, refl, sym, ap, ◌∙◌}
+use mathlib.Core.Path.{◌≡◌}
 use mathlib.Core.Bool.{true}
-use mathlib.Core.List.{List, [], ◌∷◌}
+use mathlib.Core.List.{List}
 use lib.ListN.{length, get_or}
 use Rattle.names.specs.Names.{Name, same_both}
 use Rattle.text.specs.Parts.{part}

@@ -1,5 +1,4 @@
 -- Laws of names that are the same in the same scope. Assumes nothing.
-use Prim.Native.Nat.{ℕ}
 use mathlib.Core.Path.{◌≡◌}
 use mathlib.Core.Bool.{true, false}
 use borrow.Author.Tests.{eqb-true, eq-eqb, ne_eqb}

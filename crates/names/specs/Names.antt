@@ -1,9 +1,8 @@
 -- The names of a store: those of kinds 4 and 6, each with its record's number and its scope (a block's own tags, or one frame's). A scope's number is that of the
 -- record that opens it. Records count from 0 over the whole store. Assumes nothing.
-use Rattle.std.specs.Prelude.{ℕ, zero, suc, Bool, cond, ◌&&◌, ◌||◌, List, [], ◌∷◌, eqb}
+use Rattle.std.specs.Prelude.{ℕ, suc, Bool, cond, ◌&&◌, ◌||◌, List, [], ◌∷◌, eqb, Option, Some, None}
 use Rattle.folding.specs.Folding.{same_name}
 use Rattle.entries.specs.declared.Entry.{Entry}
-use Rattle.entries.specs.declared.Entry.TheVariants.{Record, Nothing}
 use Rattle.kinds.specs.Kinds.{number_of}
 use Rattle.entries.specs.Walk.{entries}
 use Rattle.contents.specs.Contents.{content_bytes}
@@ -31,13 +30,13 @@ unfoldable pub is_name_kind : ℕ → Bool
 is_name_kind k = eqb k 4 || eqb k 6
 
 -- the names of entries, the first of which has the number i and stands in this block and scope
-unfoldable pub names_from : List Entry → List ℕ → ℕ → ℕ → ℕ → List Name
+unfoldable pub names_from : List (Option Entry) → List ℕ → ℕ → ℕ → ℕ → List Name
 names_from [] ar i block scope = []
-names_from (Nothing ∷ es) ar i block scope = []
-names_from (Record k f next ∷ es) ar i block scope =
-    let more = names_from es ar (suc i) (block_after (number_of k) i block) (scope_after (number_of k) i block scope) in
-    let mine : Name = record { number = i; scope = scope; bytes = content_bytes ar k f } in
-    cond (eqb (number_of k) 4 || eqb (number_of k) 6) (mine ∷ more) more
+names_from (None ∷ es) ar i block scope = []
+names_from (Some e ∷ es) ar i block scope =
+    let more = names_from es ar (suc i) (block_after (number_of e.kind) i block) (scope_after (number_of e.kind) i block scope) in
+    let mine : Name = record { number = i; scope = scope; bytes = content_bytes ar e.kind e.fields } in
+    cond (eqb (number_of e.kind) 4 || eqb (number_of e.kind) 6) (mine ∷ more) more
 
 unfoldable pub names : List ℕ → List ℕ → List Name
 names st ar = names_from (entries st) ar 0 0 0

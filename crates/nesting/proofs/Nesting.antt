@@ -1,24 +1,22 @@
 -- Laws of the machine that nests records: where each record leads, as the code asks for it. Assumes nothing.
-use Prim.Native.Nat.{ℕ, zero, suc, ◌+◌, ◌-◌, ◌%◌, ◌≤◌, ◌<◌}
-use mathlib.Core.Path.{◌≡◌, refl, sym, ap, ap₂, ◌∙◌}
-use mathlib.Core.Bool.{Bool, true, false, not, cond, ◌&&◌}
+use Prim.Native.Nat.{ℕ, zero, suc, ◌-◌, ◌%◌, ◌≤◌, ◌<◌}
+use mathlib.Core.Path.{◌≡◌, refl}
+use mathlib.Core.Bool.{Bool, true, false, cond}
 use mathlib.Core.List.{List, [], ◌∷◌}
-use mathlib.Core.Logic.{◌⊎◌, inl, inr}
+use mathlib.Core.Logic.{inl, inr}
 use types.Run.{OneOf}
 use denote.Enum.Declared.{tag_of}
 use native.Mathlib.Omega.{arith}
 use native.Mathlib.Nat.{mod-zero}
-use borrow.Author.Tests.{eq-eqb, ne_eqb}
-use lib.Dec.{eqb, leb}
+use borrow.Author.Tests.{ne_eqb}
+use lib.Dec.{eqb}
 use lib.ListN.{length}
 use Rattle.rules.specs.declared.Reading.{Reading}
 use Rattle.rules.specs.declared.Reading.TheVariants.{First, Strict}
 use Rattle.kinds.specs.declared.Kind.{Kind}
 use Rattle.entries.specs.declared.Fields.{Fields}
-use Rattle.entries.specs.declared.Entry.{Entry}
-use Rattle.entries.specs.declared.Entry.TheVariants.{Record, Nothing}
 use Rattle.kinds.specs.Kinds.{number_of, is_value_kind}
-use Rattle.entries.specs.Entries.{entry_at}
+use Rattle.entries.specs.Entries.{entry_at, whole}
 use Rattle.nesting.specs.declared.Where.{Where}
 use Rattle.nesting.specs.declared.Where.TheVariants.{Start, Items, Names, Values, Wants}
 use Rattle.nesting.specs.declared.Stand.{Stand}
@@ -27,6 +25,7 @@ use Rattle.entries.specs.Walk.{entries}
 use Rattle.entries.proofs.Walking.{rest, rest_all, rest_over, rest-none, next-at}
 use Rattle.nesting.specs.contracts.Where.{the_type as where-type}
 use Rattle.nesting.specs.Nesting.{opens_loop, further, at_items, after_name, at_names, ends_loop, at_values, standing, ended, follow, nested_from, nested, counted}
+use Rattle.std.specs.Prelude.{None}
 
 -- a loop without tags falls, any other asks for its tags
 pub loop-none : (f : Bool) (n : ℕ) → n ≡ 0 → Falls ≡ opens_loop f n
@@ -83,11 +82,11 @@ module _ (r : Reading) (st : List ℕ) (at : ℕ) (f : Bool) (w : Where) where
   unfolding nested_from
   nest-end h = rw (rest_over st at h)
 
-  pub nest-none : at < length st → entry_at st at ≡ Nothing → nested_from r (rest st at) f w ≡ false
+  pub nest-none : at < length st → entry_at st at ≡ None → nested_from r (rest st at) f w ≡ false
   unfolding nested_from
   nest-none h e = rw (rest-none st at h e)
 
-  module _ (k : Kind) (x : Fields) (next : ℕ) (h : at < length st) (e : entry_at st at ≡ Record k x next) where
+  module _ (k : Kind) (x : Fields) (next : ℕ) (h : at < length st) (e : entry_at st at ≡ whole k x next) where
     pub nest-falls : standing r f w (number_of k) x.number ≡ Falls → nested_from r (rest st at) f w ≡ false
     unfolding nested_from follow
     nest-falls s = rw ((next-at st at k x next h e).here, s)

@@ -1,11 +1,10 @@
 -- Whole records, nested as document 01 says: the first kind 1 and no other of that kind; a loop has the tags it counts, at least one, and whole rows; a loop without rows
 -- isn't followed by kind 4. In the strict reading (document 02, Three) a further kind 1 may stand outside frames, and a loop has at least one row. A machine over
 -- kinds. Assumes nothing.
-use Rattle.std.specs.Prelude.{ℕ, zero, suc, ◌%◌, Bool, true, false, not, cond, List, [], ◌∷◌, eqb}
+use Rattle.std.specs.Prelude.{ℕ, zero, suc, ◌%◌, Bool, true, false, not, cond, List, [], ◌∷◌, eqb, Option, Some, None}
 use Rattle.rules.specs.declared.Reading.{Reading}
 use Rattle.rules.specs.declared.Reading.TheVariants.{First, Strict}
 use Rattle.entries.specs.declared.Entry.{Entry}
-use Rattle.entries.specs.declared.Entry.TheVariants.{Record, Nothing}
 use Rattle.kinds.specs.Kinds.{number_of, is_value_kind}
 use Rattle.nesting.specs.declared.Where.{Where}
 use Rattle.nesting.specs.declared.Where.TheVariants.{Start, Items, Names, Values, Wants}
@@ -69,12 +68,12 @@ unfoldable pub follow : Stand → (Bool → Where → Bool) → Bool
 follow (Stands f w) rest = rest f w
 follow Falls rest = false
 
-unfoldable pub nested_from : Reading → List Entry → Bool → Where → Bool
+unfoldable pub nested_from : Reading → List (Option Entry) → Bool → Where → Bool
 nested_from r [] f w = ended f w
-nested_from r (Nothing ∷ es) f w = false
-nested_from r (Record k x next ∷ es) f w = follow (standing r f w (number_of k) x.number) (λ f' w'. nested_from r es f' w')
+nested_from r (None ∷ es) f w = false
+nested_from r (Some e ∷ es) f w = follow (standing r f w (number_of e.kind) e.fields.number) (λ f' w'. nested_from r es f' w')
 
-unfoldable pub nested : Reading → List Entry → Bool
+unfoldable pub nested : Reading → List (Option Entry) → Bool
 nested r es = nested_from r es false Start
 
 -- how many values of a loop have been counted

@@ -247,7 +247,7 @@ pub fn is_nested(reading: Reading, store: &[u8]) -> bool
     let mut place = Where::Start;
     let mut at = 0;
     while at < store.len() {
-        let Entry::Record { kind, fields, next } = entries::read_record(store, at) else {
+        let Some(Entry { kind, fields, next }) = entries::read_record(store, at) else {
             return false;
         };
         let stand = standing(reading, frame, place, kind.number(), fields.number as usize);

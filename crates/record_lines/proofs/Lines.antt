@@ -1,7 +1,7 @@
 -- Laws of a record's line: its pieces, its length, and what a sound record says of them. Assumes nothing.
-use Prim.Native.Nat.{ℕ, zero, suc, ◌+◌, ◌-◌, ◌≤◌, ◌<◌, ◌^◌}
+use Prim.Native.Nat.{ℕ, zero, suc, ◌+◌, ◌-◌, ◌≤◌}
 use mathlib.Core.Path.{◌≡◌, refl, sym, ap, ◌∙◌}
-use mathlib.Core.Bool.{Bool, true, false, cond, ◌&&◌, true≢false}
+use mathlib.Core.Bool.{Bool, true, false, cond, true≢false}
 use mathlib.Core.List.{List, [], ◌∷◌, ◌++◌, append_assoc}
 use native.Mathlib.Omega.{arith}
 use lib.Dec.{ltb}
@@ -14,7 +14,6 @@ use Rattle.rules.specs.declared.Reading.{Reading}
 use Rattle.text.proofs.Bools.{and_l, and_r}
 use Rattle.keywords.specs.Keywords.{key_data, key_loop, key_save}
 use Rattle.numbers.specs.Spelling.{render_number}
-use Rattle.entries.specs.declared.Entry.TheVariants.{Record}
 use Rattle.kinds.specs.declared.Kind.{Kind}
 use Rattle.kinds.specs.declared.Kind.TheVariants.{NoKind, Block, FrameOpen, FrameClose, Tag, Loop, LoopTag, LoopEnd, Inapplicable, Unknown, Bare, SingleQuoted, DoubleQuoted, Multiline, Number, Uncertain, Quoted}
 use Rattle.kinds.specs.declared.Shape.{Shape}
@@ -30,6 +29,7 @@ use Rattle.contents.proofs.Kept.{Lies, content-length, content-bytes, content-si
 use Rattle.record_lines.specs.Lines.{decimal_of, token_text, is_end, plain_line, line_of}
 use Rattle.record_lines.specs.Writing.{mark_of, opening_text, body_by, body_text, closing_text, keeps_digits, is_writable, plain_length, line_length}
 use Rattle.numerals.specs.Written.{Short}
+use Rattle.entries.specs.Entries.{whole}
 
 -- The pieces of a line
 
@@ -148,11 +148,11 @@ line-none ar k f e = rw e
 
 -- behind a space, or as it is
 module _ (r : Reading) (ar : List ℕ) (k : Kind) (f : Fields) where
-  pub line-led : is_led r k (content_bytes ar k f) ≡ true → line_of r ar (Record k f 0) ≡ (32 ∷ []) ++ plain_line ar k f
+  pub line-led : is_led r k (content_bytes ar k f) ≡ true → line_of r ar (whole k f 0) ≡ (32 ∷ []) ++ plain_line ar k f
   unfolding line_of
   line-led e = rw e
 
-  pub line_plain : is_led r k (content_bytes ar k f) ≡ false → line_of r ar (Record k f 0) ≡ plain_line ar k f
+  pub line_plain : is_led r k (content_bytes ar k f) ≡ false → line_of r ar (whole k f 0) ≡ plain_line ar k f
   unfolding line_of
   line_plain e = rw e
 
@@ -230,11 +230,11 @@ plain_size r ar Uncertain f h = prefixed [] (render_number (decimal_of true f.pa
 plain_size r ar Quoted f h = closed (content_bytes ar Quoted f) f.token.length (quoted-some r (content_bytes ar Quoted f) (own-readable r ar Quoted f h refl)) (token-size r ar Quoted f refl h)
 
 -- with what stands before it
-pub line-size : (r : Reading) (ar : List ℕ) (k : Kind) (f : Fields) → own_rule r ar k f ≡ true → length (line_of r ar (Record k f 0)) ≡ line_length r ar k f
+pub line-size : (r : Reading) (ar : List ℕ) (k : Kind) (f : Fields) → own_rule r ar k f ≡ true → length (line_of r ar (whole k f 0)) ≡ line_length r ar k f
 unfolding line_length
 line-size r ar k f h = by (is_led r k (content_bytes ar k f)) refl
   where
-    by : (t : Bool) → is_led r k (content_bytes ar k f) ≡ t → length (line_of r ar (Record k f 0)) ≡ cond t (1 + plain_length k f) (plain_length k f)
+    by : (t : Bool) → is_led r k (content_bytes ar k f) ≡ t → length (line_of r ar (whole k f 0)) ≡ cond t (1 + plain_length k f) (plain_length k f)
     by true e = ap length (line-led r ar k f e) ∙ omega (arith, plain_size r ar k f h)
     by false e = ap length (line_plain r ar k f e) ∙ plain_size r ar k f h
 

@@ -1,12 +1,11 @@
 -- A record's line (document 01): each record but kind 7 is its token and one LF; in the strict reading a space stands before a bare value that starts with `;` (document
 -- 02, Three). Assumes nothing.
-use Rattle.std.specs.Prelude.{ℕ, ◌-◌, Bool, true, false, cond, List, [], ◌∷◌, ◌++◌, eqb, leb}
+use Rattle.std.specs.Prelude.{ℕ, ◌-◌, Bool, true, false, cond, List, [], ◌∷◌, ◌++◌, eqb, leb, Option, Some, None}
 use Rattle.rules.specs.declared.Reading.{Reading}
 use Rattle.keywords.specs.Keywords.{key_loop, key_save}
 use Rattle.numbers.specs.declared.Decimal.{Decimal}
 use Rattle.numbers.specs.Spelling.{render_number}
 use Rattle.entries.specs.declared.Entry.{Entry}
-use Rattle.entries.specs.declared.Entry.TheVariants.{Record, Nothing}
 use Rattle.kinds.specs.declared.Kind.{Kind}
 use Rattle.kinds.specs.declared.Kind.TheVariants.{NoKind, Block, FrameOpen, FrameClose, Tag, Loop, LoopTag, LoopEnd, Inapplicable, Unknown, Bare, SingleQuoted, DoubleQuoted, Multiline, Number, Uncertain, Quoted}
 use Rattle.entries.specs.declared.Parts.{Parts}
@@ -72,6 +71,6 @@ abbrev pub plain_line : List ℕ → Kind → Fields → List ℕ
 plain_line ar k f = cond (is_end k) [] (token_text k (content_bytes ar k f) f.parts ++ (10 ∷ []))
 
 -- a record's line: before its token what the reading puts there
-unfoldable pub line_of : Reading → List ℕ → Entry → List ℕ
-line_of r ar Nothing = []
-line_of r ar (Record k f next) = lead r k (content_bytes ar k f) ++ plain_line ar k f
+unfoldable pub line_of : Reading → List ℕ → Option Entry → List ℕ
+line_of r ar None = []
+line_of r ar (Some e) = lead r e.kind (content_bytes ar e.kind e.fields) ++ plain_line ar e.kind e.fields

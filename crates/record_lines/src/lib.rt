@@ -2,7 +2,7 @@
 #![tactic(auto)]
 
 ghost use Rattle.std.specs.Prelude.{◌≡◌, true, ◌+◌, ◌-◌, ◌≤◌, ◌<◌, length, take, drop};
-ghost use Rattle.entries.specs.declared.Entry.TheVariants.{Record};
+ghost use Rattle.entries.specs.Entries.{whole};
 ghost use Rattle.readable.specs.Tokens.{mark};
 ghost use Rattle.contents.specs.Contents.{content_bytes, own_rule};
 ghost use Rattle.record_lines.specs.Lines.{decimal_of, is_end, plain_line, line_of};
@@ -172,8 +172,8 @@ pub fn write_line(
     kind: Kind,
     fields: Fields,
 ) -> usize
-    requires { (own_rule reading area.now kind fields ≡ true) × (at + length (line_of reading area.now (Record kind fields 0)) ≤ length out.old) }
-    ensures { Wrote at (line_of reading area.now (Record kind fields 0)) out.old out.new result }
+    requires { (own_rule reading area.now kind fields ≡ true) × (at + length (line_of reading area.now (whole kind fields 0)) ≤ length out.old) }
+    ensures { Wrote at (line_of reading area.now (whole kind fields 0)) out.old out.new result }
 {
     if contents::is_led(reading, area, kind, fields) {
         let token = numerals::put_byte(out, at, b' ');

@@ -1,7 +1,7 @@
 -- Laws of the two walks over a sound store: one adds the lengths of the lines, one writes them. Assumes nothing.
 use Prim.Native.Nat.{ℕ, ◌+◌, ◌-◌, ◌≤◌, ◌<◌}
 use mathlib.Core.Path.{◌≡◌, sym, ap, ◌∙◌}
-use mathlib.Core.Bool.{true, cond}
+use mathlib.Core.Bool.{true}
 use mathlib.Core.List.{List, [], ◌∷◌, ◌++◌}
 use native.Mathlib.Omega.{arith}
 use borrow.Author.Tests.{lt-ltb, le-ltb}
@@ -9,10 +9,9 @@ use lib.ListN.{length, take, drop, length-append, length-take, length-drop}
 use lib.Seq.{take_all, take-add, drop-drop, take-append_seam, drop-append_seam}
 use Rattle.rules.specs.declared.Reading.{Reading}
 use Rattle.entries.specs.declared.Entry.{Entry}
-use Rattle.entries.specs.declared.Entry.TheVariants.{Record, Nothing}
 use Rattle.kinds.specs.declared.Kind.{Kind}
 use Rattle.entries.specs.declared.Fields.{Fields}
-use Rattle.entries.specs.Entries.{entry_at}
+use Rattle.entries.specs.Entries.{entry_at, whole}
 use Rattle.records.specs.Put.{front, put}
 use Rattle.records.proofs.Putting.{length_front, front-none, front-next}
 use Rattle.entries.specs.Walk.{entries}
@@ -23,12 +22,13 @@ use Rattle.record_lines.specs.Lines.{line_of}
 use Rattle.record_lines.specs.Writing.{line_length}
 use Rattle.rendering.specs.Rendering.{capped}
 use Rattle.numerals.specs.Written.{Wrote}
-use Rattle.stores.specs.Soundness.{Owned, none, more}
+use Rattle.stores.specs.Soundness.{Owned, more}
 use Rattle.record_lines.proofs.Lines.{line-size}
+use Rattle.std.specs.Prelude.{Option, None}
 
 -- The lines from an offset of the store on
 
-owned-first : (r : Reading) (ar : List ℕ) (k : Kind) (f : Fields) (n : ℕ) (es : List Entry) → Owned r ar (Record k f n ∷ es) → (own_rule r ar k f ≡ true) × Owned r ar es
+owned-first : (r : Reading) (ar : List ℕ) (k : Kind) (f : Fields) (n : ℕ) (es : List (Option Entry)) → Owned r ar (whole k f n ∷ es) → (own_rule r ar k f ≡ true) × Owned r ar es
 owned-first r ar k f n es (more h o) = (h, o)
 
 pub lines : (r : Reading) → List ℕ → List ℕ → ℕ → List ℕ
@@ -39,12 +39,12 @@ module _ (r : Reading) (st ar : List ℕ) (from : ℕ) where
   unfolding lines lines_of
   lines-over h = rw (rest_over st from h)
 
-  lines_none : from < length st → entry_at st from ≡ Nothing → lines r st ar from ≡ []
+  lines_none : from < length st → entry_at st from ≡ None → lines r st ar from ≡ []
   unfolding lines lines_of line_of
   lines_none h e = rw (rest-none st from h e)
 
-  module _ (k : Kind) (f : Fields) (next : ℕ) (h : from < length st) (e : entry_at st from ≡ Record k f next) where
-    lines_next : lines r st ar from ≡ line_of r ar (Record k f 0) ++ lines r st ar next
+  module _ (k : Kind) (f : Fields) (next : ℕ) (h : from < length st) (e : entry_at st from ≡ whole k f next) where
+    lines_next : lines r st ar from ≡ line_of r ar (whole k f 0) ++ lines r st ar next
     unfolding lines lines_of line_of
     lines_next = rw (next-at st from k f next h e).here
 
@@ -61,7 +61,7 @@ pub record Summing (r : Reading) (st ar : List ℕ) (from total : ℕ) : Type 0 
 pub summing-first : (r : Reading) (st ar : List ℕ) → Owned r ar (entries st) → Summing r st ar 0 0
 unfolding rendering lines
 summing-first r st ar o =
-    record { owned = rw (← rest_all st) o; few = omega arith; sum = omega (arith, ap (λ (es : List Entry). length (lines_of r ar es)) (rest_all st)) }
+    record { owned = rw (← rest_all st) o; few = omega arith; sum = omega (arith, ap (λ (es : List (Option Entry)). length (lines_of r ar es)) (rest_all st)) }
 
 capped-few : (n : ℕ) → n ≤ 16777216 → n ≡ capped n
 unfolding capped limit
@@ -79,10 +79,10 @@ summed r st ar from total e w =
 pub summing-end : (r : Reading) (st ar : List ℕ) (from total : ℕ) → length st ≤ from → Summing r st ar from total → total ≡ capped (length (rendering r st ar))
 summing-end r st ar from total h w = summed r st ar from total (lines-over r st ar from h) w
 
-pub summing-none : (r : Reading) (st ar : List ℕ) (from total : ℕ) → from < length st → entry_at st from ≡ Nothing → Summing r st ar from total → total ≡ capped (length (rendering r st ar))
+pub summing-none : (r : Reading) (st ar : List ℕ) (from total : ℕ) → from < length st → entry_at st from ≡ None → Summing r st ar from total → total ≡ capped (length (rendering r st ar))
 summing-none r st ar from total h e w = summed r st ar from total (lines_none r st ar from h e) w
 
-module _ (r : Reading) (st ar : List ℕ) (from total : ℕ) (k : Kind) (f : Fields) (next : ℕ) (h : from < length st) (e : entry_at st from ≡ Record k f next) (w : Summing r st ar from total) where
+module _ (r : Reading) (st ar : List ℕ) (from total : ℕ) (k : Kind) (f : Fields) (next : ℕ) (h : from < length st) (e : entry_at st from ≡ whole k f next) (w : Summing r st ar from total) where
   pub summing-own : own_rule r ar k f ≡ true
   summing-own = (owned-next r st ar from k f next h e w.owned).0
 
@@ -91,7 +91,7 @@ module _ (r : Reading) (st ar : List ℕ) (from total : ℕ) (k : Kind) (f : Fie
   more-lines =
       let size = line-size r ar k f (owned-next r st ar from k f next h e w.owned).0 in
       let line : length (lines r st ar from) ≡ line_length r ar k f + length (lines r st ar next) =
-      ap length (lines_next r st ar from k f next h e) ∙ (length-append (line_of r ar (Record k f 0)) (lines r st ar next) ∙ rw size) in
+      ap length (lines_next r st ar from k f next h e) ∙ (length-append (line_of r ar (whole k f 0)) (lines r st ar next) ∙ rw size) in
       omega (arith, w.sum, line)
 
   pub summing-over : 16777216 - total < line_length r ar k f → 16777216 + 1 ≡ capped (length (rendering r st ar))
@@ -136,17 +136,17 @@ module _ (r : Reading) (st ar l m : List ℕ) (from at : ℕ) (w : Writing r st 
   pub writing-end : length st ≤ from → m ≡ front (rendering r st ar) l
   writing-end h = written (lines-over r st ar from h)
 
-  pub writing-none : from < length st → entry_at st from ≡ Nothing → m ≡ front (rendering r st ar) l
+  pub writing-none : from < length st → entry_at st from ≡ None → m ≡ front (rendering r st ar) l
   writing-none h e = written (lines_none r st ar from h e)
 
-  module _ (k : Kind) (f : Fields) (next : ℕ) (h : from < length st) (e : entry_at st from ≡ Record k f next) where
+  module _ (k : Kind) (f : Fields) (next : ℕ) (h : from < length st) (e : entry_at st from ≡ whole k f next) where
     pub writing-own : own_rule r ar k f ≡ true
     writing-own = (owned-next r st ar from k f next h e w.owned).0
 
-    line_first : drop at (rendering r st ar) ≡ line_of r ar (Record k f 0) ++ lines r st ar next
+    line_first : drop at (rendering r st ar) ≡ line_of r ar (whole k f 0) ++ lines r st ar next
     line_first = w.left ∙ lines_next r st ar from k f next h e
 
-    pub writing-room : at + length (line_of r ar (Record k f 0)) ≤ length m
+    pub writing-room : at + length (line_of r ar (whole k f 0)) ≤ length m
     writing-room =
         omega (
           arith,
@@ -155,12 +155,12 @@ module _ (r : Reading) (st ar l m : List ℕ) (from at : ℕ) (w : Writing r st 
           writing-length,
           length-drop at (rendering r st ar),
           ap length line_first,
-          length-append (line_of r ar (Record k f 0)) (lines r st ar next),
+          length-append (line_of r ar (whole k f 0)) (lines r st ar next),
         )
 
-    pub writing_more : (n : List ℕ) (q : ℕ) → Wrote at (line_of r ar (Record k f 0)) m n q → Writing r st ar l n next q
+    pub writing_more : (n : List ℕ) (q : ℕ) → Wrote at (line_of r ar (whole k f 0)) m n q → Writing r st ar l n next q
     writing_more n q p =
-        let line = line_of r ar (Record k f 0) in
+        let line = line_of r ar (whole k f 0) in
         let all = rendering r st ar in
         let taken : take q all ≡ take at all ++ line =
         ap (λ (i : ℕ). take i all) p.next ∙ (take-add at (length line) all ∙ rw (line_first, take-append_seam)) in

@@ -1,6 +1,6 @@
 -- RENDER (document 01): the lines of a sound store's records. Order: 12, 1, 11. The rendered length on success, the
 -- needed one on 11; a refusal writes nothing. Assumes nothing.
-use Rattle.std.specs.Prelude.{ℕ, ◌+◌, cond, List, [], ◌∷◌, ◌++◌, eqb, ltb, length}
+use Rattle.std.specs.Prelude.{ℕ, ◌+◌, cond, List, [], ◌∷◌, ◌++◌, eqb, ltb, length, Option}
 use Rattle.rules.specs.declared.Reading.{Reading}
 use Rattle.places.specs.declared.Report.{Report}
 use Rattle.places.specs.Reports.{success, refused_bare, no_room}
@@ -13,7 +13,7 @@ use Rattle.rendering.specs.declared.Rendered.{Rendered}
 use Rattle.rendering.specs.declared.Rendered.TheVariants.{Done, NotSound, TooLong, NoRoom}
 
 -- the lines of entries, one behind the other
-unfoldable pub lines_of : Reading → List ℕ → List Entry → List ℕ
+unfoldable pub lines_of : Reading → List ℕ → List (Option Entry) → List ℕ
 lines_of r ar [] = []
 lines_of r ar (e ∷ es) = line_of r ar e ++ lines_of r ar es
 

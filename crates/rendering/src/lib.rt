@@ -61,7 +61,7 @@ fn rendered_length(reading: Reading, store: &[u8], area: &[u8]) -> usize
     let mut from = 0;
     let mut total = 0;
     while from < store.len() {
-        let Entry::Record { kind, fields, next } = entries::read_record(store, from) else {
+        let Some(Entry { kind, fields, next }) = entries::read_record(store, from) else {
             return total;
         };
         let line = record_lines::line_length(reading, area, kind, fields);
@@ -82,7 +82,7 @@ fn write_lines(reading: Reading, store: &[u8], area: &[u8], out: &mut [u8])
     let mut from = 0;
     let mut at = 0;
     while from < store.len() {
-        let Entry::Record { kind, fields, next } = entries::read_record(store, from) else {
+        let Some(Entry { kind, fields, next }) = entries::read_record(store, from) else {
             return;
         };
         at = record_lines::write_line(reading, out, at, area, kind, fields);

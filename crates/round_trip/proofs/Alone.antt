@@ -1,6 +1,6 @@
 -- The tokens that a sound store renders to, by either reading. Proved: the token of each record, on its line, is read whole as its kind (reads-tag, reads-head,
 -- reads-loop, reads-open, reads-shut, reads-value), and is ASCII (token-ascii). Assumes nothing.
-use Prim.Native.Nat.{ℕ, suc, ◌+◌, ◌-◌, ◌^◌, ◌<◌}
+use Prim.Native.Nat.{ℕ, suc, ◌-◌, ◌^◌, ◌<◌}
 use mathlib.Core.Bool.{true≢false, false≢true, Bool, true, false, cond, ◌&&◌, ◌||◌}
 use mathlib.Core.Path.{◌≡◌, refl, sym, ap, ◌∙◌}
 use mathlib.Core.List.{List, [], ◌∷◌, ◌++◌}

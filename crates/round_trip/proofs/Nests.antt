@@ -17,15 +17,13 @@ use Rattle.words.specs.Names.{fits_tag, heading_fits}
 use Rattle.keywords.specs.Keywords.{key_data, key_save}
 use Rattle.numbers.proofs.Made.{all}
 use Rattle.entries.specs.declared.Entry.{Entry}
-use Rattle.entries.specs.declared.Entry.TheVariants.{Record, Nothing}
 use Rattle.entries.specs.declared.Fields.{Fields}
 use Rattle.kinds.specs.declared.Kind.{Kind}
 use Rattle.kinds.specs.declared.Kind.TheVariants.{NoKind, Block, FrameOpen, FrameClose, Tag, Loop, LoopTag, LoopEnd, Inapplicable, Unknown, Bare, SingleQuoted, DoubleQuoted, Multiline, Number, Uncertain, Quoted}
 use Rattle.kinds.specs.declared.Shape.{Shape}
 use Rattle.kinds.specs.declared.Shape.TheVariants.{Empty, Place, Content, Count, Parts as PartsShape, PartsUncertain}
 use Rattle.kinds.specs.Kinds.{kind_of, number_of, shape_of, shape_length, body_length, is_content, is_value_kind}
-use Rattle.entries.specs.Entries.{de32, parts_of, plain_fields, parts_fields, fields_of, is_kind, entry_of, entry_at}
-use Rattle.values.specs.Values.{loop, value}
+use Rattle.entries.specs.Entries.{de32, parts_of, plain_fields, parts_fields, fields_of, is_kind, entry_of, entry_at, whole}
 use Rattle.entries.specs.Walk.{onward, entries_from}
 use Rattle.nesting.specs.declared.Stand.{Stand}
 use Rattle.nesting.specs.declared.Stand.TheVariants.{Stands, Falls}
@@ -45,13 +43,14 @@ use Rattle.written.proofs.Lexing.{mode_of}
 use Rattle.round_trip.proofs.Lines.{Line, line, ending, render, Where as Spot, on_items, on_names, on_values, on_value}
 use Rattle.round_trip.proofs.Trip.{Nested, over, headed, tagged, valued, looped, named, first-value, no_rows, next-value, rows, opened, shut}
 use Rattle.round_trip.proofs.Alone.{has_parts, Stored, Fine, fine, reads-tag, reads-head, reads-loop, reads-shut, shut-five, reads-open, word_for, lead_for, by_kind, reads-value, all_append, token-ascii}
+use Rattle.std.specs.Prelude.{Option, Some, None}
 
 -- What stands in a store of bytes: whole records, so many bytes in all, or nothing from some place on
 
-pub data Standing : ℕ → List Entry → Type 0 where
+pub data Standing : ℕ → List (Option Entry) → Type 0 where
   over-all : Standing 0 []
-  no_record : (n : ℕ) → Standing n (Nothing ∷ [])
-  and_then : {n : ℕ} {es : List Entry} {k : Kind} {f : Fields} (next : ℕ) → Stored k f → next ≡ suc (shape_length (shape_of k)) → Standing n es → Standing (next + n) (Record k f next ∷ es)
+  no_record : (n : ℕ) → Standing n (None ∷ [])
+  and_then : {n : ℕ} {es : List (Option Entry)} {k : Kind} {f : Fields} (next : ℕ) → Stored k f → next ≡ suc (shape_length (shape_of k)) → Standing n es → Standing (next + n) (whole k f next ∷ es)
 
 drop-bytes : (s : List ℕ) (n : ℕ) → Bytes s → Bytes (drop n s)
 unfolding Bytes
@@ -81,7 +80,7 @@ front-standing : (b : ℕ) (s : List ℕ) → Bytes (b ∷ s) → ((k : ℕ) →
 unfolding entry_of onward Bytes
 front-standing b s h more = by (is_kind (kind_of b) && leb (body_length b) (length s)) refl
   where
-    by : (t : Bool) → (is_kind (kind_of b) && leb (body_length b) (length s)) ≡ t → Standing (suc (length s)) (onward (cond t (Record (kind_of b) (fields_of (shape_of (kind_of b)) s) (0 + 1 + body_length b)) Nothing) (λ k. entries_from s k))
+    by : (t : Bool) → (is_kind (kind_of b) && leb (body_length b) (length s)) ≡ t → Standing (suc (length s)) (onward (cond t (whole (kind_of b) (fields_of (shape_of (kind_of b)) s) (0 + 1 + body_length b)) None) (λ k. entries_from s k))
     by false q = no_record (suc (length s))
     by true q =
         let body = body_length b in
@@ -97,11 +96,11 @@ standing-all (b ∷ s) (suc k) h l = let z : suc (length s) - suc k ≡ length s
 
 -- A store that is filled: each record keeps its own rule, its content starting at area offset a
 
-pub data Filled (r : Reading) (ar : List ℕ) : ℕ → ℕ → List Entry → Type 0 where
+pub data Filled (r : Reading) (ar : List ℕ) : ℕ → ℕ → List (Option Entry) → Type 0 where
   full : {a : ℕ} → a ≡ length ar → Filled r ar a 0 []
-  more : {a n : ℕ} {es : List Entry} {k : Kind} {f : Fields} {next : ℕ} → Fine r ar k f → next ≡ suc (shape_length (shape_of k)) → Filled r ar (a + takes k f) n es → Filled r ar a (next + n) (Record k f next ∷ es)
+  more : {a n : ℕ} {es : List (Option Entry)} {k : Kind} {f : Fields} {next : ℕ} → Fine r ar k f → next ≡ suc (shape_length (shape_of k)) → Filled r ar (a + takes k f) n es → Filled r ar a (next + n) (whole k f next ∷ es)
 
-pub filled-by : (r : Reading) (ar : List ℕ) {n : ℕ} {es : List Entry} → Standing n es → (a : ℕ) → filled_from r es ar a ≡ true → Filled r ar a n es
+pub filled-by : (r : Reading) (ar : List ℕ) {n : ℕ} {es : List (Option Entry)} → Standing n es → (a : ℕ) → filled_from r es ar a ≡ true → Filled r ar a n es
 filled-by r ar over-all a e = full (eqb-true a (length ar) (sym (filled_none r ar a) ∙ e))
 filled-by r ar (no_record n) a e = absurd (false≢true (sym (filled-nothing r [] ar a) ∙ e))
 filled-by r ar (and_then {es = es} {k = k} {f = f} next g z h) a e =
@@ -154,11 +153,11 @@ value_line Quoted e = refl
 
 -- The lines
 
-unfoldable pub line_for : Reading → List ℕ → Entry → Line
-line_for r ar Nothing = ending
-line_for r ar (Record k f next) = cond (is_end k) ending (line (number_of k) (lead_for r ar k f) (word_for ar k f))
+unfoldable pub line_for : Reading → List ℕ → Option Entry → Line
+line_for r ar None = ending
+line_for r ar (Some e) = cond (is_end e.kind) ending (line (number_of e.kind) (lead_for r ar e.kind e.fields) (word_for ar e.kind e.fields))
 
-unfoldable pub lines_for : Reading → List ℕ → List Entry → List Line
+unfoldable pub lines_for : Reading → List ℕ → List (Option Entry) → List Line
 lines_for r ar [] = []
 lines_for r ar (e ∷ es) = line_for r ar e ∷ lines_for r ar es
 
@@ -176,20 +175,20 @@ unfolding lead_for is_bare_field
 end-lead First ar k f e = refl
 end-lead Strict ar k f e = rw (end-bare k e)
 
-pub render-lines : (r : Reading) (ar : List ℕ) (es : List Entry) → lines_of r ar es ≡ render (lines_for r ar es)
+pub render-lines : (r : Reading) (ar : List ℕ) (es : List (Option Entry)) → lines_of r ar es ≡ render (lines_for r ar es)
 unfolding lines_of lines_for render line_of line_for word_for lead_for
 render-lines r ar [] = refl
-render-lines r ar (Nothing ∷ es) = render-lines r ar es
-render-lines r ar (Record k f next ∷ es) = by (is_end k) refl (render-lines r ar es)
+render-lines r ar (None ∷ es) = render-lines r ar es
+render-lines r ar (Some y ∷ es) = by (is_end y.kind) refl (render-lines r ar es)
   where
     l : List ℕ
-    l = lead_for r ar k f
+    l = lead_for r ar y.kind y.fields
 
     w : List ℕ
-    w = word_for ar k f
+    w = word_for ar y.kind y.fields
 
-    by : (t : Bool) → is_end k ≡ t → lines_of r ar es ≡ render (lines_for r ar es) → (l ++ cond t [] (w ++ (10 ∷ []))) ++ lines_of r ar es ≡ render (cond t ending (line (number_of k) l w) ∷ lines_for r ar es)
-    by true q e = rw (end-lead r ar k f q) e
+    by : (t : Bool) → is_end y.kind ≡ t → lines_of r ar es ≡ render (lines_for r ar es) → (l ++ cond t [] (w ++ (10 ∷ []))) ++ lines_of r ar es ≡ render (cond t ending (line (number_of y.kind) l w) ∷ lines_for r ar es)
+    by true q e = rw (end-lead r ar y.kind y.fields q) e
     by false q e = append_assoc l (w ++ (10 ∷ [])) (lines_of r ar es) ∙ ap (λ (x : List ℕ). l ++ x) (append_assoc w (10 ∷ []) (lines_of r ar es) ∙ ap (λ (x : List ℕ). w ++ 10 ∷ x) e)
 
 lead-ascii : (t : Bool) → all is_ascii (cond t (32 ∷ []) []) ≡ true
@@ -197,7 +196,7 @@ unfolding all is_ascii
 lead-ascii true = refl
 lead-ascii false = refl
 
-pub lines-ascii : (r : Reading) (ar : List ℕ) {a n : ℕ} {es : List Entry} → Filled r ar a n es → all is_ascii (lines_of r ar es) ≡ true
+pub lines-ascii : (r : Reading) (ar : List ℕ) {a n : ℕ} {es : List (Option Entry)} → Filled r ar a n es → all is_ascii (lines_of r ar es) ≡ true
 unfolding lines_of line_of all word_for is_ascii
 lines-ascii r ar (full e) = refl
 lines-ascii r ar (more {es = es} {k = k} {f = f} h z g) =
@@ -240,8 +239,8 @@ rowed Strict f total j onto z then e =
     rows total (suc j) n z (then (rw n at e))
 
 -- a further heading, in the strict reading
-heading : (g : Reading) (ar : List ℕ) (es : List Entry) → (nested_from g es false (Items false) ≡ true → Nested g false (on_items false) (lines_for g ar es)) → (k : Kind) (r : Fields) (next : ℕ) → Fine g ar k r
-    → (f e : Bool) → follow (another g f (number_of k)) (λ f w. nested_from g es f w) ≡ true → Nested g f (on_items e) (line_for g ar (Record k r next) ∷ lines_for g ar es)
+heading : (g : Reading) (ar : List ℕ) (es : List (Option Entry)) → (nested_from g es false (Items false) ≡ true → Nested g false (on_items false) (lines_for g ar es)) → (k : Kind) (r : Fields) (next : ℕ) → Fine g ar k r
+    → (f e : Bool) → follow (another g f (number_of k)) (λ f w. nested_from g es f w) ≡ true → Nested g f (on_items e) (line_for g ar (whole k r next) ∷ lines_for g ar es)
 unfolding follow line_for kind_of is_end word_for lead_for token_text shape_of is_content readable_by
 heading First ar es then k r next h f e q = absurd (false≢true q)
 heading Strict ar es then k r next h f e q =
@@ -249,7 +248,7 @@ heading Strict ar es then k r next h f e q =
     (λ t. by f (of_number k 1 t))
     (λ t. follow-falls (λ f w. nested_from Strict es f w)) q
   where
-    by : (f : Bool) → k ≡ Block → follow (cond f Falls (Stands false (Items false))) (λ f w. nested_from Strict es f w) ≡ true → Nested Strict f (on_items e) (line_for Strict ar (Record k r next) ∷ lines_for Strict ar es)
+    by : (f : Bool) → k ≡ Block → follow (cond f Falls (Stands false (Items false))) (λ f w. nested_from Strict es f w) ≡ true → Nested Strict f (on_items e) (line_for Strict ar (whole k r next) ∷ lines_for Strict ar es)
     by true z q = absurd (false≢true q)
     by false z q =
         let c = content_bytes ar Block r in
@@ -257,12 +256,12 @@ heading Strict ar es then k r next h f e q =
         rw z (headed e (lead Strict Block c) (key_data ++ c) (reads-head in_block c (and_r (heading_fits Strict (length (key_data ++ c))) (is_name c) b)) (and_l (heading_fits Strict (length (key_data ++ c))) (is_name c) b) (then q))
 
 -- one record, and what follows it
-module _ (g : Reading) (ar : List ℕ) (es : List Entry) (then : (f : Bool) (w : Where) (x : Spot) → Meets w x → nested_from g es f w ≡ true → Nested g f x (lines_for g ar es)) (k : Kind) (r : Fields) (next : ℕ) (h : Fine g ar k r) where
+module _ (g : Reading) (ar : List ℕ) (es : List (Option Entry)) (then : (f : Bool) (w : Where) (x : Spot) → Meets w x → nested_from g es f w ≡ true → Nested g f x (lines_for g ar es)) (k : Kind) (r : Fields) (next : ℕ) (h : Fine g ar k r) where
   onto : Bool → Where → Bool
   onto f w = nested_from g es f w
 
   Here : Bool → Spot → Type 0
-  Here f x = Nested g f x (line_for g ar (Record k r next) ∷ lines_for g ar es)
+  Here f x = Nested g f x (line_for g ar (whole k r next) ∷ lines_for g ar es)
 
   want : (f : Bool) → follow (cond (is_value_kind (number_of k)) (Stands f (Items false)) Falls) onto ≡ true → Here f on_value
   unfolding follow onto Here line_for
@@ -341,7 +340,7 @@ module _ (g : Reading) (ar : List ℕ) (es : List Entry) (then : (f : Bool) (w :
       by-shut z true q = rw z (shut e _ _ (reads-shut g (content_bytes ar FrameClose r)) shut-five (then false (Items false) (on_items false) (meet-items false) q))
       by-shut z false q = follow-falls onto q
 
-nested-from : (g : Reading) (ar : List ℕ) {a n : ℕ} {es : List Entry} → Filled g ar a n es → (f : Bool) (w : Where) (x : Spot) → Meets w x → nested_from g es f w ≡ true → Nested g f x (lines_for g ar es)
+nested-from : (g : Reading) (ar : List ℕ) {a n : ℕ} {es : List (Option Entry)} → Filled g ar a n es → (f : Bool) (w : Where) (x : Spot) → Meets w x → nested_from g es f w ≡ true → Nested g f x (lines_for g ar es)
 unfolding nested_from lines_for standing ended Here onto
 nested-from g ar (full e) true w x (meet-items i) q = absurd (false≢true q)
 nested-from g ar (full e) false w x (meet-items i) q = over i
@@ -356,5 +355,5 @@ nested-from g ar (more {es = es} {k = k} {f = r} {next = next} h z d) f w x (mee
 nested-from g ar (more {es = es} {k = k} {f = r} {next = next} h z d) f w x meet-wants q = want g ar es (λ f w x m q. nested-from g ar d f w x m q) k r next h f q
 
 -- NESTED AS A STORE, nested as the machine reads
-pub nested-lines : (g : Reading) (ar : List ℕ) {a n : ℕ} {es : List Entry} → Filled g ar a n es → nested_from g es false (Items false) ≡ true → Nested g false (on_items false) (lines_for g ar es)
+pub nested-lines : (g : Reading) (ar : List ℕ) {a n : ℕ} {es : List (Option Entry)} → Filled g ar a n es → nested_from g es false (Items false) ≡ true → Nested g false (on_items false) (lines_for g ar es)
 nested-lines g ar h q = nested-from g ar h false (Items false) (on_items false) (meet-items false) q

@@ -19,7 +19,7 @@ use Rattle.folding.specs.Folding.{lower}
 use Rattle.keywords.specs.Keywords.{starts, is_word, key_data, key_global, key_loop, key_save, key_stop}
 use Rattle.numbers.specs.Parts.{is_empty, absent, Parts, parts, written, is_numeric, counts_as}
 use Rattle.numbers.specs.declared.Decimal.{Decimal}
-use Rattle.numbers.specs.Cif.{all_digits, minus}
+use Rattle.numbers.specs.Cif.{all_digits}
 use Rattle.numbers.specs.Spelling.{plain, sign_bytes, unc_bytes, render_number, Kept}
 use Rattle.numbers.proofs.Made.{all, others, number-made}
 use Rattle.numbers.proofs.Spell.{parts-spell}

@@ -12,7 +12,7 @@ use mathlib.Core.Option.{none}
 use native.Mathlib.Omega.{arith}
 use borrow.Author.Tests.{eqb-true, le-ltb}
 use lib.Dec.{eqb}
-use lib.ListN.{length, take}
+use lib.ListN.{length}
 use lib.Seq.{take-append_seam}
 use Rattle.rules.specs.declared.Reading.{Reading}
 use Rattle.rules.specs.declared.Reading.TheVariants.{First, Strict}
@@ -27,14 +27,13 @@ use Rattle.words.specs.Words.{in_word, word}
 use Rattle.words.specs.Names.{heading_fits}
 use Rattle.values.specs.Values.{block, lexed}
 use Rattle.entries.specs.declared.Entry.{Entry}
-use Rattle.entries.specs.declared.Entry.TheVariants.{Record}
 use Rattle.entries.specs.declared.Fields.{Fields}
 use Rattle.kinds.specs.declared.Kind.TheVariants.{Block}
 use Rattle.kinds.specs.Kinds.{kind_of, number_of, shape_of, is_content}
 use Rattle.records.specs.Put.{front}
 use Rattle.grammar.proofs.First.{first-from}
 use Rattle.grammar.specs.Tokens.{before, in_block, lex, after, Tok, tok, tokens_from, tokens}
-use Rattle.grammar.specs.Machine.{Rec, done, start, config, go, rec, at_start, move, follow, run}
+use Rattle.grammar.specs.Machine.{Rec, done, start, config, rec, at_start, move, follow, run}
 use Rattle.grammar.specs.Reading.{decided, outline}
 use Rattle.text.specs.Limits.{limit}
 use Rattle.sizes.specs.Sizes.{store_size, area_size}
@@ -65,6 +64,8 @@ use Rattle.round_trip.proofs.Nests.{standing-all, Filled, full, more, filled-by,
 use Rattle.round_trip.proofs.Passes.{Reads}
 use Rattle.round_trip.proofs.Screens.{rendering-kept, kept-checked}
 use Rattle.round_trip.proofs.Same.{all_same, store_same, area_same}
+use Rattle.std.specs.Prelude.{Option}
+use Rattle.entries.specs.Entries.{whole}
 
 -- the block's token, alone, is read whole
 record Head (w : List ℕ) : Type 0 where
@@ -124,14 +125,14 @@ unfolding render recs_at run move at_start follow config rec tok lexed mode_of s
 run-reads r l w es h g n = rw (h (render es) 0, g) (trip n (suc (0 + length l + length w)) 0 0 _ [] refl)
 
 -- what the machine reads of a sound store's rendering
-lines-read : (r : Reading) (ar : List ℕ) {a n : ℕ} {es : List Entry} → Filled r ar a n es → nested_from r es false Start ≡ true
+lines-read : (r : Reading) (ar : List ℕ) {a n : ℕ} {es : List (Option Entry)} → Filled r ar a n es → nested_from r es false Start ≡ true
     → run r (tokens_from r (render (lines_for r ar es)) 10 0 before 0) (config start none [] []) ≡ done (recs_at 0 (lines_for r ar es))
 unfolding nested_from ended standing follows lines_for line_for is_end
 lines-read r ar (full e) q = absurd (false≢true q)
 lines-read r ar (more {es = es} {k = k} {f = f} {next = next} h z g) q = by (eqb (number_of k) 1) refl q
   where
     by : (t : Bool) → eqb (number_of k) 1 ≡ t → follows (cond t (Stands false (Items false)) Falls) (λ f w. nested_from r es f w) ≡ true
-        → run r (tokens_from r (render (line_for r ar (Record k f next) ∷ lines_for r ar es)) 10 0 before 0) (config start none [] []) ≡ done (recs_at 0 (line_for r ar (Record k f next) ∷ lines_for r ar es))
+        → run r (tokens_from r (render (line_for r ar (whole k f next) ∷ lines_for r ar es)) 10 0 before 0) (config start none [] []) ≡ done (recs_at 0 (line_for r ar (whole k f next) ∷ lines_for r ar es))
     by true t q =
         let e : k ≡ Block = unfold kind_of in of_number k 1 t in
         let b = rw e at h in

@@ -12,20 +12,18 @@ use lib.Seq.{drop-append-add, drop-append_seam, take-append_seam, drop_at}
 use Rattle.rules.specs.declared.Reading.{Reading}
 use Rattle.text.proofs.Bools.{and_l}
 use Rattle.keywords.specs.Keywords.{key_data, key_save}
-use Rattle.numbers.specs.declared.Decimal.{Decimal}
 use Rattle.numbers.specs.Parts.{parts}
 use Rattle.numbers.specs.Meaning.{meaning}
 use Rattle.numbers.specs.Spelling.{render_number}
 use Rattle.numbers.proofs.Spelled.{number-means}
 use Rattle.entries.specs.declared.Entry.{Entry}
-use Rattle.entries.specs.declared.Entry.TheVariants.{Record}
 use Rattle.entries.specs.declared.Fields.{Fields}
 use Rattle.kinds.specs.declared.Kind.{Kind}
 use Rattle.kinds.specs.declared.Kind.TheVariants.{NoKind, Block, FrameOpen, FrameClose, Tag, Loop, LoopTag, LoopEnd, Inapplicable, Unknown, Bare, SingleQuoted, DoubleQuoted, Multiline, Number, Uncertain, Quoted}
 use Rattle.entries.specs.declared.Parts.{Parts}
 use Rattle.kinds.specs.Kinds.{kind_of, number_of, shape_of, shape_length, body_length, marks_of, opening, is_content, has_content}
 use Rattle.records.specs.Bytes.{flag}
-use Rattle.entries.specs.Entries.{no_parts, stored, is_kind}
+use Rattle.entries.specs.Entries.{no_parts, stored, is_kind, whole}
 use Rattle.grammar.specs.Machine.{Rec, loop_end}
 use Rattle.sizes.specs.Sizes.{content_size, store_size, area_size}
 use Rattle.desk.specs.Written.{token_text as text_of, content_of, decimal_of as read_decimal}
@@ -38,6 +36,7 @@ use Rattle.round_trip.proofs.Lines.{line, ending, render, recs_at}
 use Rattle.written.proofs.Told.{parts_in, told}
 use Rattle.round_trip.proofs.Alone.{has_parts, Fine, number-kept, word_for, lead_for, quoted-some}
 use Rattle.round_trip.proofs.Nests.{Filled, full, more, line_for, lines_for, number-kind}
+use Rattle.std.specs.Prelude.{Option}
 
 -- Decimal parts
 
@@ -156,7 +155,7 @@ module _ (g : Reading) (ar : List ℕ) (k : Kind) (f : Fields) (h : Fine g ar k 
           let n : takes k f ≡ length c = unfold takes in rw e (sym (h.size e)) in
           rw (x.joins, append_assoc x.pre (c ++ x.post) q, drop_at x.pre ((c ++ x.post) ++ q) (opening k) x.before, append_assoc c x.post q, n) (take-append_seam c (x.post ++ q))
 
-  say-same : (next : ℕ) (p q : List ℕ) → told (p ++ (word_for ar k f ++ q)) (rendered p) ≡ saying ar (Record k f next)
+  say-same : (next : ℕ) (p q : List ℕ) → told (p ++ (word_for ar k f ++ q)) (rendered p) ≡ saying ar (whole k f next)
   unfolding told saying rendered read_decimal text_of
   say-same next p q =
       let w = word_for ar k f in
@@ -185,14 +184,14 @@ end-kind Number e h = absurd (false≢true e)
 end-kind Uncertain e h = absurd (false≢true e)
 end-kind Quoted e h = absurd (false≢true e)
 
-say-end : (g : Reading) (s ar : List ℕ) (k : Kind) (f : Fields) (next : ℕ) → Fine g ar k f → is_end k ≡ true → told s loop_end ≡ saying ar (Record k f next)
+say-end : (g : Reading) (s ar : List ℕ) (k : Kind) (f : Fields) (next : ℕ) → Fine g ar k f → is_end k ≡ true → told s loop_end ≡ saying ar (whole k f next)
 unfolding told saying loop_end kind_of content_of content_size has_content shape_of is_content content_in parts_in has_parts
 say-end g s ar k f next h e =
     let z : k ≡ LoopEnd = end-kind k e h.stored.known in
     rw z (ap (λ (d : Parts). says LoopEnd [] d) (sym (h.stored.none (rw z))))
 
 -- ALL RECORDS of a rendering, from offset o on, behind p
-pub all_same : (g : Reading) (ar : List ℕ) {a n : ℕ} {es : List Entry} → Filled g ar a n es → (p : List ℕ) (o : ℕ) → o ≡ length p → map (told (p ++ render (lines_for g ar es))) (recs_at o (lines_for g ar es)) ≡ map (saying ar) es
+pub all_same : (g : Reading) (ar : List ℕ) {a n : ℕ} {es : List (Option Entry)} → Filled g ar a n es → (p : List ℕ) (o : ℕ) → o ≡ length p → map (told (p ++ render (lines_for g ar es))) (recs_at o (lines_for g ar es)) ≡ map (saying ar) es
 unfolding lines_for line_for recs_at render
 all_same g ar (full e) p o x = refl
 all_same g ar (more {es = es} {k = k} {f = f} {next = next} h z d) p o x = by (is_end k) refl (λ p o x. all_same g ar d p o x)
@@ -209,17 +208,17 @@ all_same g ar (more {es = es} {k = k} {f = f} {next = next} h z d) p o x = by (i
     Rest : Type 0
     Rest = (p : List ℕ) (o : ℕ) → o ≡ length p → map (told (p ++ render (lines_for g ar es))) (recs_at o (lines_for g ar es)) ≡ map (saying ar) es
 
-    by : (t : Bool) → is_end k ≡ t → Rest → map (told (p ++ render (cond t ending (line (number_of k) l w) ∷ lines_for g ar es))) (recs_at o (cond t ending (line (number_of k) l w) ∷ lines_for g ar es)) ≡ saying ar (Record k f next) ∷ map (saying ar) es
+    by : (t : Bool) → is_end k ≡ t → Rest → map (told (p ++ render (cond t ending (line (number_of k) l w) ∷ lines_for g ar es))) (recs_at o (cond t ending (line (number_of k) l w) ∷ lines_for g ar es)) ≡ saying ar (whole k f next) ∷ map (saying ar) es
     by true e r = ap₂ {C = List Saying} ◌∷◌ (say-end g _ ar k f next h e) (r p o x)
     by false e r =
         ap₂ {C = List Saying} ◌∷◌
         (let y : (p ++ l) ++ (w ++ q) ≡ p ++ (l ++ (w ++ q)) = append_assoc p l (w ++ q) in
         let n : length (p ++ l) ≡ o + length l = simp length-append (omega arith) in
-        let here : told ((p ++ l) ++ (w ++ q)) (record { kind = number_of k; at = length (p ++ l); size = length w }) ≡ saying ar (Record k f next) =
+        let here : told ((p ++ l) ++ (w ++ q)) (record { kind = number_of k; at = length (p ++ l); size = length w }) ≡ saying ar (whole k f next) =
         unfold rendered in say-same g ar k f h next (p ++ l) q in
-        let there : told (p ++ (l ++ (w ++ q))) (record { kind = number_of k; at = length (p ++ l); size = length w }) ≡ saying ar (Record k f next) =
-        subst (λ (x : List ℕ). told x (record { kind = number_of k; at = length (p ++ l); size = length w }) ≡ saying ar (Record k f next)) y here in
-        subst (λ (m : ℕ). told (p ++ (l ++ (w ++ q))) (record { kind = number_of k; at = m; size = length w }) ≡ saying ar (Record k f next)) n there)
+        let there : told (p ++ (l ++ (w ++ q))) (record { kind = number_of k; at = length (p ++ l); size = length w }) ≡ saying ar (whole k f next) =
+        subst (λ (x : List ℕ). told x (record { kind = number_of k; at = length (p ++ l); size = length w }) ≡ saying ar (whole k f next)) y here in
+        subst (λ (m : ℕ). told (p ++ (l ++ (w ++ q))) (record { kind = number_of k; at = m; size = length w }) ≡ saying ar (whole k f next)) n there)
         (let y : p ++ (l ++ (w ++ q)) ≡ (p ++ (l ++ (w ++ 10 ∷ []))) ++ render (lines_for g ar es) = simp append_assoc in
         subst (λ (x : List ℕ). map (told x) (recs_at (suc (o + length l + length w)) (lines_for g ar es)) ≡ map (saying ar) es) (sym y)
         (r (p ++ (l ++ (w ++ 10 ∷ []))) (suc (o + length l + length w)) (simp length-append (omega arith))))
@@ -233,7 +232,7 @@ end-content : content_size 7 0 ≡ 0
 unfolding content_size has_content kind_of shape_of is_content
 end-content = refl
 
-pub store_same : (r : Reading) (ar : List ℕ) {a n : ℕ} {es : List Entry} → Filled r ar a n es → (o : ℕ) → store_size (recs_at o (lines_for r ar es)) ≡ n
+pub store_same : (r : Reading) (ar : List ℕ) {a n : ℕ} {es : List (Option Entry)} → Filled r ar a n es → (o : ℕ) → store_size (recs_at o (lines_for r ar es)) ≡ n
 unfolding lines_for line_for recs_at store_size loop_end body_length kind_of
 store_same r ar (full e) o = refl
 store_same r ar (more {n = n} {es = es} {k = k} {f = f} {next = next} h z g) o = by (is_end k) refl (λ o. store_same r ar g o)
@@ -242,7 +241,7 @@ store_same r ar (more {n = n} {es = es} {k = k} {f = f} {next = next} h z g) o =
     by true e x = let y : k ≡ LoopEnd = end-kind k e h.stored.known in omega (arith, x o, ap (λ (k : Kind). shape_length (shape_of k)) y)
     by false e x = omega (arith, x (suc (o + length (lead_for r ar k f) + length (word_for ar k f))), ap (λ (k : Kind). shape_length (shape_of k)) (number-kind k))
 
-pub area_same : (r : Reading) (ar : List ℕ) {a n : ℕ} {es : List Entry} → Filled r ar a n es → (o : ℕ) → a + area_size (recs_at o (lines_for r ar es)) ≡ length ar
+pub area_same : (r : Reading) (ar : List ℕ) {a n : ℕ} {es : List (Option Entry)} → Filled r ar a n es → (o : ℕ) → a + area_size (recs_at o (lines_for r ar es)) ≡ length ar
 unfolding lines_for line_for recs_at area_size loop_end
 area_same r ar (full e) o = omega arith
 area_same r ar (more {a = a} {n = n} {es = es} {k = k} {f = f} {next = next} h z g) o = by (is_end k) refl (λ o. area_same r ar g o)

@@ -35,6 +35,7 @@ use Rattle.record_lines.specs.Lines.{decimal_of, token_text, is_end}
 use Rattle.round_trip.proofs.Lines.{line, ending, render}
 use Rattle.round_trip.proofs.Alone.{Fine as FineRecord, word_for, lead_for, content-lines}
 use Rattle.round_trip.proofs.Nests.{Filled, full, more, line_for, lines_for}
+use Rattle.std.specs.Prelude.{Option}
 
 -- an LF starts a line
 lf-fits : (c : ℕ) (t : List ℕ) → fits c (10 ∷ t) ≡ fits 0 t
@@ -102,7 +103,7 @@ none_kept First = refl
 none_kept Strict = fits-screened [] ∙ fits-none 0
 
 -- ALL LINES of a sound store's rendering
-pub rendering-kept : (r : Reading) (ar : List ℕ) {a n : ℕ} {es : List Entry} → Filled r ar a n es → keeps_lines r (render (lines_for r ar es)) ≡ true
+pub rendering-kept : (r : Reading) (ar : List ℕ) {a n : ℕ} {es : List (Option Entry)} → Filled r ar a n es → keeps_lines r (render (lines_for r ar es)) ≡ true
 unfolding lines_for line_for render
 rendering-kept r ar (full e) = none_kept r
 rendering-kept r ar (more {es = es} {k = k} {f = f} h z g) = by (is_end k) refl (rendering-kept r ar g)

@@ -1,26 +1,24 @@
 -- A COLUMN of one store in another that may be compared: what meets one of its values has one tag, and stands in the order of the rows, without gaps. So a search for a
 -- later row may go on behind the partner of an earlier one, and where a row has no partner no later one has. Assumes nothing.
 use Prim.Native.Nat.{ℕ, zero, suc, ◌+◌, ◌-◌, ◌*◌, ◌≤◌, ◌<◌}
-use mathlib.Core.Path.{◌≡◌, refl, sym, ap, ap₂, subst, ◌∙◌}
-use mathlib.Core.Bool.{Bool, true, false, cond, ◌&&◌, true≢false}
+use mathlib.Core.Path.{◌≡◌, refl, sym, ap, subst, ◌∙◌}
+use mathlib.Core.Bool.{Bool, true, false, cond, true≢false}
 use mathlib.Core.List.{List, [], ◌∷◌, ◌++◌}
 use mathlib.Core.Option.{Option, none, some}
 use native.Mathlib.Omega.{arith}
 use native.Mathlib.Nat.{mul-le-mul_right}
-use borrow.Author.Tests.{eq-eqb, ne_eqb}
-use lib.Dec.{eqb}
-use Rattle.folding.specs.Folding.{folded, same_name}
+use Rattle.folding.specs.Folding.{folded}
 use Rattle.folding.proofs.Same.{folded-same}
 use Rattle.kinds.specs.Kinds.{number_of, is_value_kind}
 use Rattle.entries.specs.declared.Entry.{Entry}
-use Rattle.entries.specs.declared.Entry.TheVariants.{Record, Nothing}
 use Rattle.entries.specs.Walk.{entries}
 use Rattle.cells.specs.Cells.{Cell, Under, outset, under, cell, cells_from, cells, name_of}
-use Rattle.partners.specs.Partners.{same_frame, meets, partner_in, partner}
+use Rattle.partners.specs.Partners.{meets, partner_in, partner}
 use Rattle.soles.specs.Members.{In, here, there, Sole}
 use Rattle.soles.specs.Singular.{Singular}
-use Rattle.soles.proofs.Soles.{header_at, tags_at, place_of, Has, Told, told-all, frames-one, tags-one, sole}
-use Rattle.soles.proofs.Meeting.{Frames, frames-to, frames-turned, frames-through, Common, common-of, common-to, meets-turned, meets-through, Found, partner-some, partner-is}
+use Rattle.soles.proofs.Soles.{tags_at, place_of, Told, told-all, frames-one, tags-one, sole}
+use Rattle.soles.proofs.Meeting.{Frames, frames-to, frames-turned, frames-through, Common, common-of, common-to, meets-turned, meets-through, partner-some, partner-is}
+use Rattle.std.specs.Prelude.{Option as Maybe, Some, None}
 
 -- lists in a row
 in_left : {c : Cell} {xs : List Cell} (ys : List Cell) → In c xs → In c (xs ++ ys)
@@ -32,12 +30,12 @@ in-mid [] c ys = here refl
 in-mid (x ∷ xs) c ys = there (in-mid xs c ys)
 
 -- numbers ascend
-from_on : (es : List Entry) (i : ℕ) (u : Under) (z : Cell) → In z (cells_from es i u) → i ≤ z.number
+from_on : (es : List (Maybe Entry)) (i : ℕ) (u : Under) (z : Cell) → In z (cells_from es i u) → i ≤ z.number
 unfolding cells_from cell
-from_on (Record k f n ∷ es) i u z m = by (is_value_kind (number_of k)) m (λ q. from_on es (suc i) (under (number_of k) f.number i u) z q)
+from_on (Some x ∷ es) i u z m = by (is_value_kind (number_of x.kind)) m (λ q. from_on es (suc i) (under (number_of x.kind) x.fields.number i u) z q)
   where
     more : List Cell
-    more = cells_from es (suc i) (under (number_of k) f.number i u)
+    more = cells_from es (suc i) (under (number_of x.kind) x.fields.number i u)
 
     by : (t : Bool) → In z (cond t (cell i u ∷ more) more) → (In z more → suc i ≤ z.number) → i ≤ z.number
     by true (here e) again =
@@ -46,20 +44,20 @@ from_on (Record k f n ∷ es) i u z m = by (is_value_kind (number_of k)) m (λ q
     by true (there q) again = omega (arith, again q)
     by false q again = omega (arith, again q)
 from_on [] i u z m = elim m [ ]
-from_on (Nothing ∷ es) i u z m = elim m [ ]
+from_on (None ∷ es) i u z m = elim m [ ]
 
-ascending : (es : List Entry) (i : ℕ) (u : Under) (pre : List Cell) (y : Cell) (post : List Cell) → cells_from es i u ≡ pre ++ (y ∷ post) → (c : Cell) → In c pre → c.number < y.number
+ascending : (es : List (Maybe Entry)) (i : ℕ) (u : Under) (pre : List Cell) (y : Cell) (post : List Cell) → cells_from es i u ≡ pre ++ (y ∷ post) → (c : Cell) → In c pre → c.number < y.number
 unfolding cells_from cell
 ascending [] i u (p ∷ pre) y post e c m =
     let z : ◌≡◌ {A = ℕ} 0 1 = cc in
     absurd (omega arith)
-ascending (Nothing ∷ es) i u (p ∷ pre) y post e c m =
+ascending (None ∷ es) i u (p ∷ pre) y post e c m =
     let z : ◌≡◌ {A = ℕ} 0 1 = cc in
     absurd (omega arith)
-ascending (Record k f n ∷ es) i u (p ∷ pre) y post e c m = by (is_value_kind (number_of k)) e m (λ q d w. ascending es (suc i) (under (number_of k) f.number i u) q y post d c w)
+ascending (Some x ∷ es) i u (p ∷ pre) y post e c m = by (is_value_kind (number_of x.kind)) e m (λ q d w. ascending es (suc i) (under (number_of x.kind) x.fields.number i u) q y post d c w)
   where
     more : List Cell
-    more = cells_from es (suc i) (under (number_of k) f.number i u)
+    more = cells_from es (suc i) (under (number_of x.kind) x.fields.number i u)
 
     by :
         (t : Bool) → cond t (cell i u ∷ more) more ≡ p ∷ (pre ++ (y ∷ post)) → In c (p ∷ pre) → ((q : List Cell) → more ≡ q ++ (y ∷ post) → In c q → c.number < y.number) → c.number < y.number
@@ -71,11 +69,11 @@ ascending (Record k f n ∷ es) i u (p ∷ pre) y post e c m = by (is_value_kind
         let first : cell i u ≡ p = cc in
         let rest : more ≡ pre ++ (y ∷ post) = cc in
         let number : i ≡ c.number = ap (λ (z : Cell). z.number) (first ∙ w) in
-        let later : suc i ≤ y.number = from_on es (suc i) (under (number_of k) f.number i u) y (subst (λ (l : List Cell). In y l) (sym rest) (in-mid pre y post)) in
+        let later : suc i ≤ y.number = from_on es (suc i) (under (number_of x.kind) x.fields.number i u) y (subst (λ (l : List Cell). In y l) (sym rest) (in-mid pre y post)) in
         omega arith
 ascending [] i u [] y post e c m = elim m [ ]
-ascending (Record k f n ∷ es) i u [] y post e c m = elim m [ ]
-ascending (Nothing ∷ es) i u [] y post e c m = elim m [ ]
+ascending (Some x ∷ es) i u [] y post e c m = elim m [ ]
+ascending (None ∷ es) i u [] y post e c m = elim m [ ]
 
 module _ (st ar : List ℕ) (g : Singular st ar) where
   told : (y : Cell) → In y (cells st) → Told st ar y

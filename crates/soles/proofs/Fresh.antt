@@ -8,7 +8,7 @@ use native.Mathlib.Omega.{arith}
 use Rattle.folding.proofs.Same.{same-folded, folded-same}
 use Rattle.names.specs.Names.{Name, same_both}
 use Rattle.names.proofs.Same.{same-scope, same_bytes, same-within}
-use Rattle.naming.specs.Names.{Repeat, fresh, repeats, first_same, repeat_or, repeat_from, first_repeat}
+use Rattle.naming.specs.Names.{Repeat, fresh, first_same, repeat_or, repeat_from, first_repeat}
 use Rattle.soles.specs.Members.{In, here, there}
 
 in_left : {x : Name} {xs : List Name} (ys : List Name) → In x xs → In x (xs ++ ys)

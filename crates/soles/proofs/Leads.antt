@@ -1,6 +1,6 @@
 -- Where a record of a nested store leads, by its kind. Assumes nothing.
 use Prim.Native.Nat.{ℕ, zero, suc, ◌%◌}
-use mathlib.Core.Path.{◌≡◌, refl, sym, ap, ◌∙◌}
+use mathlib.Core.Path.{◌≡◌, refl, ap, ◌∙◌}
 use mathlib.Core.Bool.{Bool, true, false, cond}
 use native.Mathlib.Omega.{arith}
 use borrow.Author.Tests.{eqb-true}
@@ -9,7 +9,6 @@ use Rattle.rules.specs.declared.Reading.{Reading}
 use Rattle.rules.specs.declared.Reading.TheVariants.{First, Strict}
 use Rattle.nesting.specs.declared.Where.{Where}
 use Rattle.nesting.specs.declared.Where.TheVariants.{Start, Items, Names, Values, Wants}
-use Rattle.nesting.specs.declared.Stand.{Stand}
 use Rattle.nesting.specs.declared.Stand.TheVariants.{Stands, Falls}
 use Rattle.kinds.specs.Kinds.{is_value_kind}
 use Rattle.nesting.specs.Nesting.{opens_loop, further, at_items, after_name, at_names, ends_loop, at_values, standing}

@@ -15,7 +15,6 @@ use Rattle.kinds.specs.declared.Kind.{Kind}
 use Rattle.kinds.specs.Kinds.{number_of, is_value_kind}
 use Rattle.entries.specs.declared.Fields.{Fields}
 use Rattle.entries.specs.declared.Entry.{Entry}
-use Rattle.entries.specs.declared.Entry.TheVariants.{Record, Nothing}
 use Rattle.entries.specs.Walk.{entries}
 use Rattle.contents.specs.Contents.{content_bytes}
 use Rattle.folding.specs.Folding.{same_name}
@@ -36,12 +35,14 @@ use Rattle.partners.specs.Partners.{same_frame, meets}
 use Rattle.soles.specs.Members.{In, here, there, Sole}
 use Rattle.soles.proofs.Fresh.{fresh-sole}
 use Rattle.soles.proofs.Leads.{Leads, block, tag, loop, frame, close, name, last, value, end, single, leads}
+use Rattle.std.specs.Prelude.{Option, Some, None}
+use Rattle.entries.specs.Entries.{whole}
 
 -- what stands behind record number n
-unfoldable pub under_at : List Entry → ℕ → Under → ℕ → Under
+unfoldable pub under_at : List (Option Entry) → ℕ → Under → ℕ → Under
 under_at [] i u n = u
-under_at (Nothing ∷ es) i u n = u
-under_at (Record k f m ∷ es) i u n = let more = under_at es (suc i) (under (number_of k) f.number i u) n in cond (eqb n i) (under (number_of k) f.number i u) more
+under_at (None ∷ es) i u n = u
+under_at (Some e ∷ es) i u n = let more = under_at es (suc i) (under (number_of e.kind) e.fields.number i u) n in cond (eqb n i) (under (number_of e.kind) e.fields.number i u) more
 
 -- a list with or without its first
 with_first : {A : Type 0} (t : Bool) (x y : A) (ys : List A) → In x ys → In x (cond t (y ∷ ys) ys)
@@ -52,7 +53,7 @@ the-first : (t : Bool) (x y : Name) (ys : List Name) → t ≡ true → y ≡ x 
 the-first true x y ys e q = here q
 the-first false x y ys e q = absurd (true≢false (sym e))
 
-drop-one : (es : List Entry) (n : ℕ) (e : Entry) (r : List Entry) → drop n es ≡ e ∷ r → drop (suc n) es ≡ r
+drop-one : (es : List (Option Entry)) (n : ℕ) (e : Option Entry) (r : List (Option Entry)) → drop n es ≡ e ∷ r → drop (suc n) es ≡ r
 drop-one [] zero e r q =
     let z : ◌≡◌ {A = ℕ} 0 1 = cc in
     absurd (omega arith)
@@ -128,7 +129,7 @@ module _ (st ar : List ℕ) where
     pub before : (row : ℕ) → y.row ≡ suc row → Has y.tag y.frame row
 
   -- what the rest of a store has to do with the whole
-  record Common (es : List Entry) (i : ℕ) (u : Under) : Type 0 where
+  record Common (es : List (Option Entry)) (i : ℕ) (u : Under) : Type 0 where
     after : (n : ℕ) → i ≤ n → under_at (entries st) 0 outset n ≡ under_at es i u n
     tags : (x : Name) → In x (names_from es ar i 0 u.frame) → In x (names st ar)
     opens : (x : Name) → In x (frames_from es ar i) → In x (frames st ar)
@@ -136,10 +137,10 @@ module _ (st ar : List ℕ) where
     framed : (u.frame ≡ 0 → ⊥) → In (nm u.frame 0) (frames st ar)
     values : (x : Cell) → In x (cells_from es i u) → In x (cells st)
 
-  module _ (k : Kind) (f : Fields) (m : ℕ) (es : List Entry) (i : ℕ) (u : Under) (c : Common (Record k f m ∷ es) i u) where
+  module _ (k : Kind) (f : Fields) (m : ℕ) (es : List (Option Entry)) (i : ℕ) (u : Under) (c : Common (whole k f m ∷ es) i u) where
     name-here : name_of st ar i ≡ content_bytes ar k f
     unfolding name_of held_by nth
-    name-here = ap (held_by ar) (nth_drop (entries st) i ∙ ap (λ (l : List Entry). nth l 0) c.records)
+    name-here = ap (held_by ar) (nth_drop (entries st) i ∙ ap (λ (l : List (Option Entry)). nth l 0) c.records)
 
     -- the state behind this record
     state-here : under_at (entries st) 0 outset i ≡ under (number_of k) f.number i u
@@ -237,7 +238,7 @@ module _ (st ar : List ℕ) where
           rw z it
       by false q = o.items c (leb-false (all - suc left) c q)
 
-  module _ (k : Kind) (f : Fields) (m : ℕ) (es : List Entry) (i : ℕ) (u : Under) (c : Common (Record k f m ∷ es) i u) (y : Cell) where
+  module _ (k : Kind) (f : Fields) (m : ℕ) (es : List (Option Entry)) (i : ℕ) (u : Under) (c : Common (whole k f m ∷ es) i u) (y : Cell) where
     v : Under
     v = under (number_of k) f.number i u
 
@@ -351,7 +352,7 @@ module _ (st ar : List ℕ) where
     step Wants Wants x16 d ft again p = elim x16 [ ]
 
   -- the blocks that are left
-  no_block : (k : Kind) (f : Fields) (m : ℕ) (es : List Entry) → blocks_in (Record k f m ∷ es) ≡ 0 → (number_of k ≡ 1 → ⊥) × (blocks_in es ≡ 0)
+  no_block : (k : Kind) (f : Fields) (m : ℕ) (es : List (Option Entry)) → blocks_in (whole k f m ∷ es) ≡ 0 → (number_of k ≡ 1 → ⊥) × (blocks_in es ≡ 0)
   unfolding blocks_in
   no_block k f m es e = by (eqb (number_of k) 1) refl e
     where
@@ -360,22 +361,22 @@ module _ (st ar : List ℕ) where
       by false q e = (eqb-false (number_of k) 1 q, e)
 
   -- along the records
-  walked : (r : Reading) (es : List Entry) (g : Bool) (w : Where) (i : ℕ) (u : Under) → nested_from r es g w ≡ true → blocks_in es ≡ 0 → Common es i u → Fit w i u → (y : Cell) → In y (cells_from es i u) → Told y
+  walked : (r : Reading) (es : List (Option Entry)) (g : Bool) (w : Where) (i : ℕ) (u : Under) → nested_from r es g w ≡ true → blocks_in es ≡ 0 → Common es i u → Fit w i u → (y : Cell) → In y (cells_from es i u) → Told y
   unfolding nested_from cells_from more v follow
-  walked r (Record k f m ∷ es) g w i u n b c ft y p =
-      let rest = no_block k f m es b in
-      on (standing r g w (number_of k) f.number) refl n rest.0 (λ g' w' n' ft' q. walked r es g' w' (suc i) (under (number_of k) f.number i u) n' rest.1 (common-step k f m es i u c rest.0) ft' y q)
+  walked r (Some e ∷ es) g w i u n b c ft y p =
+      let rest = no_block e.kind e.fields e.next es b in
+      on (standing r g w (number_of e.kind) e.fields.number) refl n rest.0 (λ g' w' n' ft' q. walked r es g' w' (suc i) (under (number_of e.kind) e.fields.number i u) n' rest.1 (common-step e.kind e.fields e.next es i u c rest.0) ft' y q)
     where
       on :
-          (s : Stand) → standing r g w (number_of k) f.number ≡ s → follow s (λ g' w'. nested_from r es g' w') ≡ true → (number_of k ≡ 1 → ⊥) →
-          ((g' : Bool) (w' : Where) → nested_from r es g' w' ≡ true → Fit w' (suc i) (under (number_of k) f.number i u) → In y (cells_from es (suc i) (under (number_of k) f.number i u)) → Told y) → Told y
-      on (Stands g' w') q n d again = step k f m es i u c y w w' (leads r g w (number_of k) f.number g' w' q) d ft (λ ft' x. again g' w' n ft' x) p
+          (s : Stand) → standing r g w (number_of e.kind) e.fields.number ≡ s → follow s (λ g' w'. nested_from r es g' w') ≡ true → (number_of e.kind ≡ 1 → ⊥) →
+          ((g' : Bool) (w' : Where) → nested_from r es g' w' ≡ true → Fit w' (suc i) (under (number_of e.kind) e.fields.number i u) → In y (cells_from es (suc i) (under (number_of e.kind) e.fields.number i u)) → Told y) → Told y
+      on (Stands g' w') q n d again = step e.kind e.fields e.next es i u c y w w' (leads r g w (number_of e.kind) e.fields.number g' w' q) d ft (λ ft' x. again g' w' n ft' x) p
       on Falls q n d again = absurd (true≢false (sym n))
   walked r [] g w i u n b c ft y p = elim p [ ]
-  walked r (Nothing ∷ es) g w i u n b c ft y p = elim p [ ]
+  walked r (None ∷ es) g w i u n b c ft y p = elim p [ ]
 
   -- behind the block's own record
-  common-first : (k : Kind) (f : Fields) (m : ℕ) (es : List Entry) → entries st ≡ Record k f m ∷ es → number_of k ≡ 1 → Common es 1 outset
+  common-first : (k : Kind) (f : Fields) (m : ℕ) (es : List (Option Entry)) → entries st ≡ whole k f m ∷ es → number_of k ≡ 1 → Common es 1 outset
   unfolding under_at under is_value_kind names names_from frames frames_from block_after scope_after cells cells_from
   common-first k f m es e q =
       record {
@@ -392,8 +393,8 @@ module _ (st ar : List ℕ) where
   block-first (block q) = (q, tt)
 
   told-first :
-      (r : Reading) (k : Kind) (f : Fields) (m : ℕ) (es : List Entry) → entries st ≡ Record k f m ∷ es → (s : Stand) → standing r false Start (number_of k) f.number ≡ s →
-      follow s (λ g' w'. nested_from r es g' w') ≡ true → blocks_in (Record k f m ∷ es) ≡ 1 → (y : Cell) → In y (cells_from (Record k f m ∷ es) 0 outset) → Told y
+      (r : Reading) (k : Kind) (f : Fields) (m : ℕ) (es : List (Option Entry)) → entries st ≡ whole k f m ∷ es → (s : Stand) → standing r false Start (number_of k) f.number ≡ s →
+      follow s (λ g' w'. nested_from r es g' w') ≡ true → blocks_in (whole k f m ∷ es) ≡ 1 → (y : Cell) → In y (cells_from (whole k f m ∷ es) 0 outset) → Told y
   unfolding follow blocks_in cells_from under is_value_kind
   told-first r k f m es e Falls q n b y p = absurd (true≢false (sym n))
   told-first r k f m es e (Stands g' w') q n b y p =
@@ -408,10 +409,10 @@ module _ (st ar : List ℕ) where
   unfolding nested cells nested_from ended
   told-all r n b y p = by (entries st) refl n b p
     where
-      by : (es : List Entry) → entries st ≡ es → nested_from r es false Start ≡ true → blocks_in es ≡ 1 → In y (cells_from es 0 outset) → Told y
+      by : (es : List (Option Entry)) → entries st ≡ es → nested_from r es false Start ≡ true → blocks_in es ≡ 1 → In y (cells_from es 0 outset) → Told y
       by [] e n b p = absurd (true≢false (sym n))
-      by (Nothing ∷ es) e n b p = absurd (true≢false (sym n))
-      by (Record k f m ∷ es) e n b p = told-first r k f m es e (standing r false Start (number_of k) f.number) refl n b y p
+      by (None ∷ es) e n b p = absurd (true≢false (sym n))
+      by (Some x ∷ es) e n b p = told-first r x.kind x.fields x.next es e (standing r false Start (number_of x.kind) x.fields.number) refl n b y p
 
   -- frames of the same name are one
   pub frames-one :

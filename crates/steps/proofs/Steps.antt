@@ -1,5 +1,5 @@
 -- Laws of the walk from name to name. Assumes nothing.
-use Prim.Native.Nat.{ℕ, zero, suc, ◌+◌, ◌-◌, ◌≤◌, ◌<◌, min}
+use Prim.Native.Nat.{ℕ, suc, ◌+◌, ◌-◌, ◌≤◌, ◌<◌, min}
 use mathlib.Core.Path.{◌≡◌, refl, sym, ap, ap₂, ◌∙◌}
 use mathlib.Core.Bool.{Bool, true, false}
 use mathlib.Core.List.{List, [], ◌∷◌}
@@ -13,22 +13,21 @@ use Rattle.text.proofs.Bools.{or_cases}
 use Rattle.text.proofs.Parts.{part-is, part_none, part-clamped, part-past}
 use Rattle.kinds.specs.declared.Kind.{Kind}
 use Rattle.entries.specs.declared.Fields.{Fields}
-use Rattle.entries.specs.declared.Entry.TheVariants.{Record, Nothing}
 use Rattle.kinds.specs.Kinds.{number_of, marks_of}
-use Rattle.entries.specs.Entries.{entry_at}
+use Rattle.entries.specs.Entries.{entry_at, whole}
 use Rattle.contents.specs.Contents.{content_bytes}
 use Rattle.entries.proofs.Walking.{rest, rest_over, rest-none, next-at}
 use Rattle.entries.proofs.Walking.{rest-is, entries-first}
 use Rattle.contents.proofs.Kept.{content-bytes}
 use Rattle.names.specs.declared.Named.{Named}
 use Rattle.names.specs.Names.{Name, block_after, scope_after, is_name_kind, names_from, names}
-use Rattle.text.specs.Parts.{part}
 use Rattle.names.specs.Parts.{name_of, Inside}
 use Rattle.names.proofs.Lists.{drop-next}
 use Rattle.steps.specs.declared.Spot.{Spot}
 use Rattle.steps.specs.declared.Next.{Next}
 use Rattle.steps.specs.declared.Next.TheVariants.{Met, End}
 use Rattle.steps.specs.Steps.{Holds, names_at, Counted, first, listed, Kept, Ahead, Reached, held_by, held_at, HeldAt, Before}
+use Rattle.std.specs.Prelude.{None}
 
 -- the names from an offset on, with a record's number, block and scope
 unfoldable pub names_on : List ℕ → List ℕ → ℕ → ℕ → ℕ → ℕ → List Name
@@ -42,11 +41,11 @@ pub names-over : (st ar : List ℕ) (at i block scope : ℕ) → length st ≤ a
 unfolding names_on names_from
 names-over st ar at i block scope h = rw (rest_over st at h)
 
-pub names-none : (st ar : List ℕ) (at i block scope : ℕ) → at < length st → entry_at st at ≡ Nothing → names_on st ar at i block scope ≡ []
+pub names-none : (st ar : List ℕ) (at i block scope : ℕ) → at < length st → entry_at st at ≡ None → names_on st ar at i block scope ≡ []
 unfolding names_on names_from
 names-none st ar at i block scope h e = rw (rest-none st at h e)
 
-module _ (st ar : List ℕ) (at i block scope : ℕ) (k : Kind) (f : Fields) (next : ℕ) (h : at < length st) (e : entry_at st at ≡ Record k f next) where
+module _ (st ar : List ℕ) (at i block scope : ℕ) (k : Kind) (f : Fields) (next : ℕ) (h : at < length st) (e : entry_at st at ≡ whole k f next) where
   pub names-other : is_name_kind (number_of k) ≡ false → names_on st ar at i block scope ≡ names_on st ar next (i + 1) (block_after (number_of k) i block) (scope_after (number_of k) i block scope)
   unfolding names_on names_from is_name_kind
   names-other q = rw ((next-at st at k f next h e).here, q, add-one)
@@ -154,10 +153,10 @@ holds-within ar k f at i scope n h e =
     }
 
 -- a name that is found by its record's offset
-pub held-record : (st ar : List ℕ) (at i scope : ℕ) (k : Kind) (f : Fields) (next : ℕ) (r : Named) → entry_at st at ≡ Record k f next → Holds ar k f i scope r → HeldAt st ar at r
+pub held-record : (st ar : List ℕ) (at i scope : ℕ) (k : Kind) (f : Fields) (next : ℕ) (r : Named) → entry_at st at ≡ whole k f next → Holds ar k f i scope r → HeldAt st ar at r
 unfolding held_at held_by
 held-record st ar at i scope k f next r e h = record { bytes = ap (λ (x : Name). x.bytes) h.name ∙ rw e; inside = h.inside }
 
-pub held_none : (st ar : List ℕ) (at : ℕ) (r : Named) → entry_at st at ≡ Nothing → r.from ≡ 0 → r.size ≡ 0 → HeldAt st ar at r
+pub held_none : (st ar : List ℕ) (at : ℕ) (r : Named) → entry_at st at ≡ None → r.from ≡ 0 → r.size ≡ 0 → HeldAt st ar at r
 unfolding held_at held_by
 held_none st ar at r e f s = record { bytes = rw (e, f, s) (part_none ar 0); inside = omega arith }

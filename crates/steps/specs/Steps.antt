@@ -1,9 +1,8 @@
 -- How names are found in a store: from name to name, each with its record's number, its scope and the part of the area that holds it. Assumes nothing.
-use Rattle.std.specs.Prelude.{ℕ, ◌+◌, ◌≤◌, ◌<◌, ◌≡◌, List, [], ◌∷◌, drop}
+use Rattle.std.specs.Prelude.{ℕ, ◌+◌, ◌≤◌, ◌<◌, ◌≡◌, List, [], ◌∷◌, drop, Option, Some, None}
 use Rattle.kinds.specs.declared.Kind.{Kind}
 use Rattle.entries.specs.declared.Fields.{Fields}
 use Rattle.entries.specs.declared.Entry.{Entry}
-use Rattle.entries.specs.declared.Entry.TheVariants.{Record, Nothing}
 use Rattle.entries.specs.Entries.{entry_at}
 use Rattle.entries.specs.Walk.{entries_from}
 use Rattle.contents.specs.Contents.{content_bytes}
@@ -58,9 +57,9 @@ pub record Reached (st ar : List ℕ) (s : Spot) : Type 0 where
   pub counted : Counted s
 
 -- the bytes of the name at an offset, none where no record stands
-unfoldable pub held_by : List ℕ → Entry → List ℕ
-held_by ar (Record k f next) = content_bytes ar k f
-held_by ar Nothing = []
+unfoldable pub held_by : List ℕ → Option Entry → List ℕ
+held_by ar (Some e) = content_bytes ar e.kind e.fields
+held_by ar None = []
 
 unfoldable pub held_at : List ℕ → List ℕ → ℕ → List ℕ
 held_at st ar at = held_by ar (entry_at st at)

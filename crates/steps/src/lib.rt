@@ -75,7 +75,7 @@ pub fn next_name(store: &[u8], area: &[u8], spot: Spot) -> Next
     let mut block = spot.block;
     let mut scope = spot.scope;
     while at < store.len() {
-        let Entry::Record { kind, fields, next } = entries::read_record(store, at) else {
+        let Some(Entry { kind, fields, next }) = entries::read_record(store, at) else {
             return Next::End;
         };
         let k = kind.number();
@@ -127,11 +127,13 @@ pub fn start() -> Spot
 pub fn name_at(store: &[u8], area: &[u8], at: usize) -> Named
     ensures { HeldAt store.now area.now at result }
 {
-    let Entry::Record {
-        kind,
-        fields,
-        next: _,
-    } = entries::read_record(store, at)
+    let Some(
+        Entry {
+            kind,
+            fields,
+            next: _,
+        },
+    ) = entries::read_record(store, at)
     else {
         return Named {
             at,

@@ -1,30 +1,30 @@
 -- Laws of looking a content up: record by record, and that a sound store's contents lie inside the area. Assumes nothing.
 use Prim.Native.Nat.{ℕ, zero, suc, ◌+◌, ◌-◌, ◌≤◌, ◌<◌}
-use mathlib.Core.Path.{◌≡◌, refl, sym, ap, ◌∙◌}
-use mathlib.Core.Bool.{Bool, true, false, cond, ◌&&◌, true≢false}
+use mathlib.Core.Path.{◌≡◌, refl}
+use mathlib.Core.Bool.{Bool, true, false, cond}
 use mathlib.Core.List.{List, [], ◌∷◌}
-use mathlib.Core.Logic.{◌⊎◌, inl, inr}
+use mathlib.Core.Logic.{inl, inr}
 use types.Run.{OneOf}
 use denote.Enum.Declared.{tag_of}
 use native.Mathlib.Omega.{arith}
-use lib.ListN.{length, take, drop}
+use lib.ListN.{length}
 use Rattle.rules.specs.declared.Reading.{Reading}
 use Rattle.kinds.specs.declared.Kind.{Kind}
 use Rattle.entries.specs.declared.Fields.{Fields}
 use Rattle.entries.specs.declared.Entry.{Entry}
-use Rattle.entries.specs.declared.Entry.TheVariants.{Record, Nothing}
 use Rattle.kinds.specs.Kinds.{shape_of, is_content}
-use Rattle.entries.specs.Entries.{entry_at}
+use Rattle.entries.specs.Entries.{entry_at, whole}
 use Rattle.entries.specs.Walk.{entries}
 use Rattle.contents.specs.Contents.{content_length}
 use Rattle.contents.proofs.Kept.{content-length, own-inside}
-use Rattle.stores.specs.Soundness.{sound, Owned, none, more}
+use Rattle.stores.specs.Soundness.{sound, Owned, more}
 use Rattle.stores.specs.Content.{nth, part_of, content_at, part_bytes}
 use Rattle.stores.specs.declared.Content.{Content}
 use Rattle.stores.specs.declared.Content.TheVariants.{Part, NotSound, NoContent}
 use Rattle.stores.specs.contracts.Content.{the_type as content-type}
 use Rattle.entries.proofs.Walking.{rest, rest_all, rest_over, rest-none, next-at}
 use Rattle.stores.proofs.Filling.{owned-sound}
+use Rattle.std.specs.Prelude.{Option, Some, None}
 
 pub part-all : (st : List ℕ) (i : ℕ) → part_of (nth (entries st) i) ≡ part_of (nth (rest st 0) i)
 part-all st i = rw rest_all
@@ -34,16 +34,16 @@ module _ (st : List ℕ) (at : ℕ) where
   unfolding nth part_of
   part_end i h = rw (rest_over st at h)
 
-  pub part_none : (i : ℕ) → at < length st → entry_at st at ≡ Nothing → part_of (nth (rest st at) i) ≡ NoContent
+  pub part_none : (i : ℕ) → at < length st → entry_at st at ≡ None → part_of (nth (rest st at) i) ≡ NoContent
   unfolding nth part_of
   part_none i h e = rw (rest-none st at h e) (by i)
     where
-      by : (i : ℕ) → part_of (nth (Nothing ∷ []) i) ≡ NoContent
+      by : (i : ℕ) → part_of (nth (None ∷ []) i) ≡ NoContent
       by zero = refl
       by (suc i) = refl
 
-  module _ (k : Kind) (f : Fields) (next : ℕ) (h : at < length st) (e : entry_at st at ≡ Record k f next) where
-    pub part-here : (i : ℕ) → i ≡ 0 → part_of (nth (rest st at) i) ≡ part_of (Record k f 0)
+  module _ (k : Kind) (f : Fields) (next : ℕ) (h : at < length st) (e : entry_at st at ≡ whole k f next) where
+    pub part-here : (i : ℕ) → i ≡ 0 → part_of (nth (rest st at) i) ≡ part_of (whole k f 0)
     unfolding nth part_of
     part-here i z = rw ((next-at st at k f next h e).here, z)
 
@@ -55,23 +55,23 @@ module _ (st : List ℕ) (at : ℕ) where
         rw ((next-at st at k f next h e).here, less)
 
 -- a content of a filled area lies inside
-part-inside : (r : Reading) (es : List Entry) (ar : List ℕ) (i from size : ℕ) → Owned r ar es → part_of (nth es i) ≡ Part from size → from + size ≤ length ar
+part-inside : (r : Reading) (es : List (Option Entry)) (ar : List ℕ) (i from size : ℕ) → Owned r ar es → part_of (nth es i) ≡ Part from size → from + size ≤ length ar
 unfolding nth part_of
 part-inside r [] ar i from size o p =
     let z : ◌≡◌ {A = ℕ} 0 1 = cc in
     absurd (omega arith)
-part-inside r (Record k f n ∷ es) ar zero from size (more h o) p = by (is_content (shape_of k)) refl p
+part-inside r (Some e ∷ es) ar zero from size (more h o) p = by (is_content (shape_of e.kind)) refl p
   where
-    by : (t : Bool) → is_content (shape_of k) ≡ t → cond t (Part f.number (content_length k f)) NoContent ≡ Part from size → from + size ≤ length ar
+    by : (t : Bool) → is_content (shape_of e.kind) ≡ t → cond t (Part e.fields.number (content_length e.kind e.fields)) NoContent ≡ Part from size → from + size ≤ length ar
     by true q p =
-        let start : f.number ≡ from = cc in
-        let long : content_length k f ≡ size = cc in
-        omega (arith, (own-inside r ar k f h q).inside, content-length k f)
+        let start : e.fields.number ≡ from = cc in
+        let long : content_length e.kind e.fields ≡ size = cc in
+        omega (arith, (own-inside r ar e.kind e.fields h q).inside, content-length e.kind e.fields)
     by false q p =
         let z : ◌≡◌ {A = ℕ} 0 1 = cc in
         absurd (omega arith)
-part-inside r (Record k f n ∷ es) ar (suc i) from size (more h o) p = part-inside r es ar i from size o p
-part-inside r (Nothing ∷ es) ar i from size o p = elim o [ ]
+part-inside r (Some e ∷ es) ar (suc i) from size (more h o) p = part-inside r es ar i from size o p
+part-inside r (None ∷ es) ar i from size o p = elim o [ ]
 
 pub content-inside : (r : Reading) (st ar : List ℕ) (i from size : ℕ) → content_at r st ar i ≡ Part from size → from + size ≤ length ar
 unfolding content_at

@@ -1,7 +1,7 @@
 -- The walk by offsets. Proved: a caller who walks a sound store from offset 0 on by `next` meets exactly its records,
 -- in order (walk-sound). Assumes nothing.
 use Prim.Native.Nat.{ℕ, ◌+◌, ◌-◌, ◌≤◌, ◌<◌}
-use mathlib.Core.Path.{◌≡◌, refl, sym, ap, ◌∙◌}
+use mathlib.Core.Path.{◌≡◌, refl, sym, ◌∙◌}
 use mathlib.Core.Bool.{Bool, true, false, cond}
 use mathlib.Core.List.{List, [], ◌∷◌}
 use native.Mathlib.Omega.{arith}
@@ -12,9 +12,8 @@ use Rattle.rules.specs.declared.Reading.{Reading}
 use Rattle.kinds.specs.declared.Kind.{Kind}
 use Rattle.entries.specs.declared.Fields.{Fields}
 use Rattle.entries.specs.declared.Entry.{Entry}
-use Rattle.entries.specs.declared.Entry.TheVariants.{Record as Whole, Nothing}
 use Rattle.kinds.specs.Kinds.{number_of, shape_of, is_content}
-use Rattle.entries.specs.Entries.{entry_at}
+use Rattle.entries.specs.Entries.{entry_at, whole}
 use Rattle.entries.specs.Walk.{entries}
 use Rattle.contents.specs.Contents.{content_length, lies, own_rule}
 use Rattle.contents.proofs.Kept.{own-lies}
@@ -24,9 +23,11 @@ use Rattle.stores.specs.declared.Walked.{Walked}
 use Rattle.stores.specs.declared.Walked.TheVariants.{Record, NoRecord}
 use Rattle.entries.proofs.Walking.{rest, rest_all, rest_over, rest-none, next-at}
 use Rattle.stores.proofs.Filling.{owned-sound}
+use Rattle.std.specs.Prelude.{Option, Some, None}
+use Rattle.entries.proofs.Wholes.{one}
 
 -- an offset from which entries follow lies inside the store, and one from which none do does not
-rest-here : (st : List ℕ) (at : ℕ) (e : Entry) (es : List Entry) → rest st at ≡ e ∷ es → at < length st
+rest-here : (st : List ℕ) (at : ℕ) (e : Option Entry) (es : List (Option Entry)) → rest st at ≡ e ∷ es → at < length st
 rest-here st at e es q = by (leb (length st) at) refl
   where
     by : (t : Bool) → leb (length st) at ≡ t → at < length st
@@ -39,9 +40,9 @@ rest-here st at e es q = by (leb (length st) at) refl
 rest-empty : (st : List ℕ) (at : ℕ) → rest st at ≡ [] → length st ≤ at
 rest-empty st at q = by (leb (length st) at) refl
   where
-    some : (x : Entry) → at < length st → entry_at st at ≡ x → ◌≡◌ {A = ℕ} 0 1
-    some Nothing h e = let here = rest-none st at h e in cc
-    some (Whole k f next) h e = let here = (next-at st at k f next h e).here in cc
+    some : (x : Option Entry) → at < length st → entry_at st at ≡ x → ◌≡◌ {A = ℕ} 0 1
+    some None h e = let here = rest-none st at h e in cc
+    some (Some x) h e = let here = (next-at st at x.kind x.fields x.next h e).here in cc
 
     by : (t : Bool) → leb (length st) at ≡ t → length st ≤ at
     by true p = leb-true (length st) at p
@@ -50,30 +51,28 @@ rest-empty st at q = by (leb (length st) at) refl
         absurd (omega arith)
 
 -- the record that the entries from an offset start with
-record Starts (st : List ℕ) (at : ℕ) (k : Kind) (f : Fields) (n : ℕ) (es : List Entry) : Type 0 where
-  entry : entry_at st at ≡ Whole k f (at + n)
+record Starts (st : List ℕ) (at : ℕ) (k : Kind) (f : Fields) (n : ℕ) (es : List (Option Entry)) : Type 0 where
+  entry : entry_at st at ≡ whole k f (at + n)
   more : rest st (at + n) ≡ es
 
-starts-of : (st : List ℕ) (at : ℕ) (k : Kind) (f : Fields) (n : ℕ) (es : List Entry) → rest st at ≡ Whole k f n ∷ es → Starts st at k f n es
+starts-of : (st : List ℕ) (at : ℕ) (k : Kind) (f : Fields) (n : ℕ) (es : List (Option Entry)) → rest st at ≡ whole k f n ∷ es → Starts st at k f n es
 starts-of st at k f n es q = by (entry_at st at) (rest-here st at _ es q) refl
   where
-    by : (x : Entry) → at < length st → entry_at st at ≡ x → Starts st at k f n es
-    by Nothing h e =
+    by : (x : Option Entry) → at < length st → entry_at st at ≡ x → Starts st at k f n es
+    by None h e =
         let none = rest-none st at h e in
         let z : ◌≡◌ {A = ℕ} 0 1 = cc in
         absurd (omega arith)
-    by (Whole k' f' next) h e =
-        let far = next-at st at k' f' next h e in
-        let same : Whole k' f' (next - at) ∷ rest st next ≡ Whole k f n ∷ es = sym far.here ∙ q in
-        let kind : k' ≡ k = cc in
-        let fields : f' ≡ f = cc in
-        let size : next - at ≡ n = cc in
-        let then : rest st next ≡ es = cc in
-        let end : next ≡ at + n = omega (arith, far.onwards) in
-        record { entry = e ∙ rw (kind, fields, end); more = rw (← end) then }
+    by (Some x) h e =
+        let far = next-at st at x.kind x.fields x.next h e in
+        let same : whole x.kind x.fields (x.next - at) ∷ rest st x.next ≡ whole k f n ∷ es = sym far.here ∙ q in
+        let w = one x.kind k x.fields f (x.next - at) n (cc) in
+        let then : rest st x.next ≡ es = cc in
+        let end : x.next ≡ at + n = omega (arith, far.onwards, w.next) in
+        record { entry = e ∙ rw (w.kind, w.fields, end); more = rw (← end) then }
 
 -- a record that keeps its own rule is answered
-kept-answered : (r : Reading) (ar : List ℕ) (k : Kind) (f : Fields) (next : ℕ) → own_rule r ar k f ≡ true → walked_of (length ar) (Whole k f next) ≡ answered k f next
+kept-answered : (r : Reading) (ar : List ℕ) (k : Kind) (f : Fields) (next : ℕ) → own_rule r ar k f ≡ true → walked_of (length ar) (whole k f next) ≡ answered k f next
 unfolding walked_of
 kept-answered r ar k f next o = by (is_content (shape_of k)) refl
   where
@@ -90,14 +89,14 @@ step st ar at next k f ws e w = by (is_content (shape_of k)) e
     by true e = onto e w
     by false e = onto e w
 
-walk-owned : (r : Reading) (st ar : List ℕ) (es : List Entry) (at : ℕ) → rest st at ≡ es → Owned r ar es → Walks st ar at (answers at es)
+walk-owned : (r : Reading) (st ar : List ℕ) (es : List (Option Entry)) (at : ℕ) → rest st at ≡ es → Owned r ar es → Walks st ar at (answers at es)
 unfolding answers
 walk-owned r st ar [] at q none = over (rest-empty st at q)
-walk-owned r st ar (Whole k f n ∷ es) at q (more h o) =
-    let s = starts-of st at k f n es q in
-    let here : walked_at st ar at ≡ answered k f (at + n) = unfold walked_at in rw s.entry (kept-answered r ar k f (at + n) h) in
-    step st ar at (at + n) k f (answers (at + n) es) here (walk-owned r st ar es (at + n) s.more o)
-walk-owned r st ar (Nothing ∷ es) at q x4 = elim x4 [ ]
+walk-owned r st ar (Some e ∷ es) at q (more h o) =
+    let s = starts-of st at e.kind e.fields e.next es q in
+    let here : walked_at st ar at ≡ answered e.kind e.fields (at + e.next) = unfold walked_at in rw s.entry (kept-answered r ar e.kind e.fields (at + e.next) h) in
+    step st ar at (at + e.next) e.kind e.fields (answers (at + e.next) es) here (walk-owned r st ar es (at + e.next) s.more o)
+walk-owned r st ar (None ∷ es) at q x4 = elim x4 [ ]
 
 pub walk-sound : (r : Reading) (st ar : List ℕ) → sound r st ar ≡ true → Walks st ar 0 (answers 0 (entries st))
 walk-sound r st ar e = walk-owned r st ar (entries st) 0 (sym (rest_all st)) (owned-sound r st ar e)

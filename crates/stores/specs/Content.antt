@@ -1,11 +1,10 @@
 -- CONTENT (document 01): reading, store, area and a record number from 0. 12 where the store isn't sound; 14 where there is no
 -- such record, or it has no content; else the part of the area that holds it. Assumes nothing.
-use Rattle.std.specs.Prelude.{ℕ, zero, suc, ◌-◌, Bool, true, false, cond, List, [], ◌∷◌, take, drop}
+use Rattle.std.specs.Prelude.{ℕ, zero, suc, cond, List, [], ◌∷◌, take, drop, Option, Some, None}
 use Rattle.rules.specs.declared.Reading.{Reading}
 use Rattle.places.specs.declared.Report.{Report}
 use Rattle.places.specs.Reports.{success, refused_bare}
 use Rattle.entries.specs.declared.Entry.{Entry}
-use Rattle.entries.specs.declared.Entry.TheVariants.{Record, Nothing}
 use Rattle.kinds.specs.Kinds.{shape_of, is_content}
 use Rattle.entries.specs.Walk.{entries}
 use Rattle.contents.specs.Contents.{content_length}
@@ -14,15 +13,15 @@ use Rattle.stores.specs.declared.Content.{Content}
 use Rattle.stores.specs.declared.Content.TheVariants.{Part, NotSound, NoContent}
 
 -- record number i
-unfoldable pub nth : List Entry → ℕ → Entry
-nth [] i = Nothing
+unfoldable pub nth : List (Option Entry) → ℕ → Option Entry
+nth [] i = None
 nth (e ∷ es) zero = e
 nth (e ∷ es) (suc i) = nth es i
 
 -- the part of the area that a record's content takes
-unfoldable pub part_of : Entry → Content
-part_of Nothing = NoContent
-part_of (Record k f next) = cond (is_content (shape_of k)) (Part f.number (content_length k f)) NoContent
+unfoldable pub part_of : Option Entry → Content
+part_of None = NoContent
+part_of (Some e) = cond (is_content (shape_of e.kind)) (Part e.fields.number (content_length e.kind e.fields)) NoContent
 
 unfoldable pub content_at : Reading → List ℕ → List ℕ → ℕ → Content
 content_at r st ar i = cond (sound r st ar) (part_of (nth (entries st) i)) NotSound

@@ -3,11 +3,10 @@
 -- kind's marks, or where the content does not lie inside the area. It looks at that record only, and promises no
 -- more: the bytes may be any, of any length. A caller who walks a sound store from offset 0 on by `next` meets
 -- exactly its records, in order (proofs/Records.antt, walk-sound). Assumes nothing.
-use Rattle.std.specs.Prelude.{ℕ, ◌+◌, ◌≤◌, ◌≡◌, cond, List, [], ◌∷◌, length}
+use Rattle.std.specs.Prelude.{ℕ, ◌+◌, ◌≤◌, ◌≡◌, cond, List, [], ◌∷◌, length, Option, Some, None}
 use Rattle.kinds.specs.declared.Kind.{Kind}
 use Rattle.entries.specs.declared.Fields.{Fields}
 use Rattle.entries.specs.declared.Entry.{Entry}
-use Rattle.entries.specs.declared.Entry.TheVariants.{Record as Whole, Nothing}
 use Rattle.kinds.specs.Kinds.{number_of, shape_of, is_content}
 use Rattle.entries.specs.Entries.{entry_at}
 use Rattle.contents.specs.Contents.{content_length, lies}
@@ -19,9 +18,9 @@ unfoldable pub answered : Kind → Fields → ℕ → Walked
 answered k f next =
     cond (is_content (shape_of k)) (Record (number_of k) f f.number (content_length k f) next) (Record (number_of k) f 0 0 next)
 
-unfoldable pub walked_of : ℕ → Entry → Walked
-walked_of size Nothing = NoRecord
-walked_of size (Whole k f next) = cond (is_content (shape_of k)) (cond (lies size k f) (answered k f next) NoRecord) (answered k f next)
+unfoldable pub walked_of : ℕ → Option Entry → Walked
+walked_of size None = NoRecord
+walked_of size (Some e) = cond (is_content (shape_of e.kind)) (cond (lies size e.kind e.fields) (answered e.kind e.fields e.next) NoRecord) (answered e.kind e.fields e.next)
 
 -- the record at an offset
 unfoldable pub walked_at : List ℕ → List ℕ → ℕ → Walked
@@ -33,7 +32,7 @@ pub data Walks (st ar : List ℕ) : ℕ → List Walked → Type 0 where
   onto : {at k from size next : ℕ} {f : Fields} {ws : List Walked} → walked_at st ar at ≡ Record k f from size next → Walks st ar next ws → Walks st ar at (Record k f from size next ∷ ws)
 
 -- entries as the walk answers them, from an offset on
-unfoldable pub answers : ℕ → List Entry → List Walked
+unfoldable pub answers : ℕ → List (Option Entry) → List Walked
 answers at [] = []
-answers at (Nothing ∷ es) = NoRecord ∷ []
-answers at (Whole k f n ∷ es) = answered k f (at + n) ∷ answers (at + n) es
+answers at (None ∷ es) = NoRecord ∷ []
+answers at (Some e ∷ es) = answered e.kind e.fields (at + e.next) ∷ answers (at + e.next) es

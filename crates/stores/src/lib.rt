@@ -2,6 +2,7 @@
 #![tactic(auto)]
 
 ghost use Rattle.std.specs.Prelude.{◌≡◌, ◌+◌, ◌<◌};
+ghost use Rattle.entries.specs.Entries.{whole};
 ghost use Rattle.entries.specs.Walk.{entries};
 ghost use Rattle.stores.specs.Soundness.{follows, kept, takes, filled, sound};
 ghost use Rattle.stores.specs.Content.{nth, part_of, content_at, content_report, part_bytes};
@@ -50,7 +51,7 @@ fn is_filled(reading: Reading, store: &[u8], area: &[u8]) -> bool
     let mut from = 0;
     let mut at = 0;
     while at < store.len() {
-        let Entry::Record { kind, fields, next } = entries::read_record(store, at) else {
+        let Some(Entry { kind, fields, next }) = entries::read_record(store, at) else {
             return false;
         };
         if !is_kept(reading, area, from, kind, fields) {
@@ -96,7 +97,7 @@ pub enum Walked {
 
 // The part of the area that a record's content takes.
 fn part_of(kind: Kind, fields: Fields) -> Content
-    ensures { result ≡ part_of (Entry.Record kind fields 0) }
+    ensures { result ≡ part_of (whole kind fields 0) }
 {
     if contents::has_content(kind) {
         return Content::Part {
@@ -114,7 +115,7 @@ fn part_at(store: &[u8], number: usize) -> Content
     let mut left = number;
     let mut at = 0;
     while at < store.len() {
-        let Entry::Record { kind, fields, next } = entries::read_record(store, at) else {
+        let Some(Entry { kind, fields, next }) = entries::read_record(store, at) else {
             return Content::NoContent;
         };
         if left == 0 {
@@ -175,7 +176,7 @@ pub fn record_at(store: &[u8], area: &[u8], at: usize) -> Walked
     ensures { result ≡ walked_at store.now area.now at }
 {
     let found = entries::read_record(store, at);
-    let Entry::Record { kind, fields, next } = found else {
+    let Some(Entry { kind, fields, next }) = found else {
         return Walked::NoRecord;
     };
     let number = kind.number();

@@ -15,7 +15,6 @@ use Rattle.places.proofs.Places.{line-bound, column-bound}
 use Rattle.numbers.specs.Meaning.{judged, number_of as number_in}
 use Rattle.numbers.proofs.Facts.{Bounded, number-facts}
 use Rattle.entries.specs.declared.Entry.{Entry}
-use Rattle.entries.specs.declared.Entry.TheVariants.{Record}
 use Rattle.entries.specs.declared.Fields.{Fields}
 use Rattle.kinds.specs.declared.Kind.{Kind}
 use Rattle.kinds.specs.declared.Kind.TheVariants.{NoKind, Block, FrameOpen, FrameClose, Tag, Loop, LoopTag, LoopEnd, Inapplicable, Unknown, Bare, SingleQuoted, DoubleQuoted, Multiline, Number, Uncertain, Quoted}
@@ -23,7 +22,7 @@ use Rattle.kinds.specs.declared.Shape.{Shape}
 use Rattle.kinds.specs.declared.Shape.TheVariants.{Empty, Place, Content, Count, Parts, PartsUncertain}
 use Rattle.kinds.specs.Kinds.{kind_of, number_of, shape_of, shape_length, body_length}
 use Rattle.records.specs.Records.{end_record}
-use Rattle.entries.specs.Entries.{stored, no_parts, no_fields, entry_at}
+use Rattle.entries.specs.Entries.{stored, no_parts, no_fields, entry_at, whole}
 use Rattle.records.proofs.Forms.{length-place, length-content, length-loop, length-number, length-uncertain}
 use Rattle.entries.proofs.Back.{Fits, Small, end_back, place-back, content-back, loop-back, number-back, uncertain-back}
 use Rattle.grammar.specs.Machine.{Rec}
@@ -34,6 +33,7 @@ use Rattle.walking.specs.Writing.{tags_of, store_of}
 use Rattle.entries.specs.Walk.{onward, entries_from, entries}
 use Rattle.written.proofs.Taken.{bytes_of, Outline}
 use Rattle.written.proofs.Sources.{Each, none, also, each_map, sources, Facts, facts}
+use Rattle.std.specs.Prelude.{Option}
 
 -- the fields that a record is written with: a is the area offset, n the number of tags
 unfoldable pub fields_in : Shape → List ℕ → ℕ → ℕ → Rec → Fields
@@ -44,11 +44,11 @@ fields_in Count s a n r = record { token = token_of s r; number = n; parts = no_
 fields_in Parts s a n r = record { token = token_of s r; number = 0; parts = stored (decimal_of s r) 0 }
 fields_in PartsUncertain s a n r = record { token = token_of s r; number = 0; parts = stored (decimal_of s r) (decimal_of s r).uncertainty }
 
-unfoldable pub entry_of : List ℕ → ℕ → ℕ → Rec → Entry
-entry_of s a n r = Record (kind_of r.kind) (fields_in (shape_of (kind_of r.kind)) s a n r) (suc (body_length r.kind))
+unfoldable pub entry_of : List ℕ → ℕ → ℕ → Rec → Option Entry
+entry_of s a n r = whole (kind_of r.kind) (fields_in (shape_of (kind_of r.kind)) s a n r) (suc (body_length r.kind))
 
 -- the entries of records whose contents start at area offset a
-unfoldable pub written : List ℕ → ℕ → List Rec → List Entry
+unfoldable pub written : List ℕ → ℕ → List Rec → List (Option Entry)
 written s a [] = []
 written s a (r ∷ rs) = entry_of s a (tags_of rs) r ∷ written s (a + content_size r.kind r.size) rs
 
@@ -110,11 +110,11 @@ module _ (g : Reading) (s : List ℕ) (fits : length s ≤ 16777216) (r : Rec) (
       let p : 10 ^ (decimal_of s r).places ≤ 10 ^ 18 = pow-le-pow_right (omega arith) b.places in
       record { integer = omega (arith, b.integer); fraction = omega (arith, b.fraction); uncertainty = omega (arith, b.uncertainty) }
 
-  of-kind : {x : Entry} {f : Fields} {n : ℕ} (k : Kind) → kind_of r.kind ≡ k → x ≡ Record k f n → x ≡ Record (kind_of r.kind) f n
-  of-kind {f = f} {n = n} k q e = e ∙ ap (λ (k : Kind). Record k f n) (sym q)
+  of-kind : {x : Option Entry} {f : Fields} {n : ℕ} (k : Kind) → kind_of r.kind ≡ k → x ≡ whole k f n → x ≡ whole (kind_of r.kind) f n
+  of-kind {f = f} {n = n} k q e = e ∙ ap (λ (k : Kind). whole k f n) (sym q)
 
   module _ (a n : ℕ) (at : a < 4294967296) (tags : n < 4294967296) (rest : List ℕ) where
-    shape-back : (x : Shape) → shape_of (kind_of r.kind) ≡ x → Only x r.kind → entry_at (shaped x s a n r ++ rest) 0 ≡ Record (kind_of r.kind) (fields_in x s a n r) (suc (shape_length x))
+    shape-back : (x : Shape) → shape_of (kind_of r.kind) ≡ x → Only x r.kind → entry_at (shaped x s a n r ++ rest) 0 ≡ whole (kind_of r.kind) (fields_in x s a n r) (suc (shape_length x))
     unfolding shaped fields_in Only shape_length end_record kind_of
     shape-back Empty e o = of-kind LoopEnd (ap kind_of o) (end_back (r.kind ∷ rest) rest 0 (ap (λ k. k ∷ rest) o))
     shape-back Place e o = place-back _ rest 0 (token_of s r) token-fits r.kind e refl
@@ -130,12 +130,12 @@ module _ (g : Reading) (s : List ℕ) (fits : length s ≤ 16777216) (r : Rec) (
 -- All records
 
 -- a record of its length, and what follows
-entries-cons : (b rest : List ℕ) (k : Kind) (f : Fields) (n : ℕ) → entry_at (b ++ rest) 0 ≡ Record k f (suc n) → length b ≡ suc n → entries_from (b ++ rest) 0 ≡ Record k f (suc n) ∷ entries_from rest 0
+entries-cons : (b rest : List ℕ) (k : Kind) (f : Fields) (n : ℕ) → entry_at (b ++ rest) 0 ≡ whole k f (suc n) → length b ≡ suc n → entries_from (b ++ rest) 0 ≡ whole k f (suc n) ∷ entries_from rest 0
 unfolding entries_from onward
 entries-cons [] rest k f n e l = absurd (omega arith)
 entries-cons (x ∷ b) rest k f n e l =
     let z : suc n - 1 ≡ length b = omega arith in
-    rw (e, z) (ap (λ (es : List Entry). Record k f (suc n) ∷ es) (cover b rest))
+    rw (e, z) (ap (λ (es : List (Option Entry)). whole k f (suc n) ∷ es) (cover b rest))
   where
     cover : (b rest : List ℕ) → entries_from (b ++ rest) (length b) ≡ entries_from rest 0
     cover [] rest = refl
@@ -168,7 +168,7 @@ entries-written g s fits (also {r = r} {rs = rs} p h) a l =
     let x = shape_of (kind_of r.kind) in
     let e = record-back g s fits r p a (tags_of rs) (omega arith) (omega (arith, tags-few h)) (store_of true s b rs) in
     entries-cons (record_bytes true s a (tags_of rs) r) (store_of true s b rs) _ _ (shape_length x) e (shape-length x s a (tags_of rs) r)
-    ∙ ap (λ (es : List Entry). entry_of s a (tags_of rs) r ∷ es) (entries-written g s fits h b (omega (arith, content-small r.kind r.size)))
+    ∙ ap (λ (es : List (Option Entry)). entry_of s a (tags_of rs) r ∷ es) (entries-written g s fits h b (omega (arith, content-small r.kind r.size)))
 
 -- WHAT IS WRITTEN IS READ BACK
 pub written_back : (g : Reading) (s : List ℕ) (rs : List Rec) → Outline g s rs → entries (store_of true s 0 rs) ≡ written s 0 rs

@@ -1,8 +1,7 @@
 -- What a store and its area say, record by record, places aside: the kind, the content and the decimal parts. Two stores with their areas say the same when these lists
 -- are equal. Assumes nothing.
-use Rattle.std.specs.Prelude.{ℕ, ◌<◌, ◌≡◌, cond, List, [], map, get_or}
+use Rattle.std.specs.Prelude.{ℕ, ◌<◌, ◌≡◌, cond, List, [], map, get_or, Option, Some, None}
 use Rattle.entries.specs.declared.Entry.{Entry}
-use Rattle.entries.specs.declared.Entry.TheVariants.{Record, Nothing}
 use Rattle.entries.specs.declared.Fields.{Fields}
 use Rattle.kinds.specs.declared.Kind.{Kind}
 use Rattle.entries.specs.declared.Parts.{Parts}
@@ -22,9 +21,9 @@ pub data Saying : Type 0 where
 unfoldable pub content_in : List ℕ → Kind → Fields → List ℕ
 content_in ar k f = cond (is_content (shape_of k)) (content_bytes ar k f) []
 
-unfoldable pub saying : List ℕ → Entry → Saying
-saying ar (Record k f next) = says k (content_in ar k f) f.parts
-saying ar Nothing = nothing
+unfoldable pub saying : List ℕ → Option Entry → Saying
+saying ar (Some e) = says e.kind (content_in ar e.kind e.fields) e.fields.parts
+saying ar None = nothing
 
 unfoldable pub sayings : List ℕ → List ℕ → List Saying
 sayings st ar = map (saying ar) (entries st)

@@ -12,4 +12,4 @@ returns-in_default c = rw (eq-eqb _ 5 c.if-kind-ne-LOOP.false, ← c.read_record
 
 pub returns : goal.returns
 unfolding count_of
-returns c = rw (eq-eqb _ 5 c.if-kind-ne-LOOP.false, ← c.read_record.ensures, c.in-Record.is)
+returns c = rw (eq-eqb _ 5 c.if-kind-ne-LOOP.false, ← c.read_record.ensures, c.in-Some.is)

@@ -1,5 +1,4 @@
 -- `frames::first_same`: the first among all so many frames is the first among those that are left. Assumes nothing.
-use Prim.Native.Nat.{◌-◌}
 use mathlib.Core.Path.{sym, ◌∙◌}
 use native.Mathlib.Omega.{arith}
 use Rattle.frames.proofs.Frames.{met, seek-first, seek-over, seek-end, seek_hit, seek-miss}

@@ -1,9 +1,7 @@
 -- `frames::next_frame`: the frames from where the walk began are those from here on. Assumes nothing.
-use Prim.Native.Nat.{◌-◌}
 use mathlib.Core.Path.{◌≡◌, sym, ◌∙◌}
 use native.Mathlib.Omega.{arith}
-use Rattle.entries.specs.declared.Entry.TheVariants.{Record}
-use Rattle.entries.specs.Entries.{entry_at}
+use Rattle.entries.specs.Entries.{entry_at, whole}
 use Rattle.frames.specs.Frames.{Counted}
 use Rattle.frames.proofs.Frames.{frames-mark, frames-over, frames-none, frames-other, frames-onwards, ahead-frame, ahead-end}
 use Rattle.frames.proofs.next_frame.Goals as goal
@@ -30,7 +28,7 @@ overflow_add-result-then-number-eq-FRAME_OPEN c =
 pub returns-then-number-eq-FRAME_OPEN : goal.returns-then-number-eq-FRAME_OPEN
 returns-then-number-eq-FRAME_OPEN c =
     let here = c.loop-at in
-    let e : entry_at c.args.store.now here.at ≡ Record c.in-Record.kind c.in-Record.fields c.in-Record.next = sym c.read_record.ensures ∙ c.in-Record.is in
+    let e : entry_at c.args.store.now here.at ≡ whole c.in-Some.field-0.kind c.in-Some.field-0.fields c.in-Some.field-0.next = sym c.read_record.ensures ∙ c.in-Some.is in
     ahead-frame _ _ here.at here.number _ _ _ c.loop-at-test.true e c.args.mark c.name_at-held.result here.invariant.0 here.invariant.1 here.invariant.2 (sym c.number.ensures ∙ c.if-number-eq-FRAME_OPEN.true) c.name_at-held.ensures
 
 pub overflow_add-number : goal.overflow_add-number
@@ -39,13 +37,13 @@ overflow_add-number c = omega arith
 pub loop-at-smaller : goal.loop-at-smaller
 loop-at-smaller c =
     let here = c.loop-at in
-    let e : entry_at c.args.store.now here.at ≡ Record c.in-Record.kind c.in-Record.fields c.in-Record.next = sym c.read_record.ensures ∙ c.in-Record.is in
+    let e : entry_at c.args.store.now here.at ≡ whole c.in-Some.field-0.kind c.in-Some.field-0.fields c.in-Some.field-0.next = sym c.read_record.ensures ∙ c.in-Some.is in
     omega (arith, frames-onwards _ c.args.area.now here.at here.number _ _ _ c.loop-at-test.true e)
 
 pub loop-at-preserved : goal.loop-at-preserved
 loop-at-preserved c =
     let here = c.loop-at in
-    let e : entry_at c.args.store.now here.at ≡ Record c.in-Record.kind c.in-Record.fields c.in-Record.next = sym c.read_record.ensures ∙ c.in-Record.is in
+    let e : entry_at c.args.store.now here.at ≡ whole c.in-Some.field-0.kind c.in-Some.field-0.fields c.in-Some.field-0.next = sym c.read_record.ensures ∙ c.in-Some.is in
     let on = frames-onwards _ c.args.area.now here.at here.number _ _ _ c.loop-at-test.true e in
     (omega (arith, here.invariant.0), omega (arith, here.invariant.1, on), here.invariant.2 ∙ frames-other _ _ here.at here.number _ _ _ c.loop-at-test.true e (λ q. c.if-number-eq-FRAME_OPEN.false (c.number.ensures ∙ q)))
 

@@ -1,5 +1,4 @@
 -- `names::hash_name`: the number of the whole name is that of what is left. Assumes nothing.
-use Prim.Native.Nat.{◌-◌}
 use mathlib.Core.Path.{◌∙◌}
 use native.Mathlib.Omega.{arith}
 use Rattle.names.specs.Numbers.{hash_of}

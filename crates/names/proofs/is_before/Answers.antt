@@ -1,5 +1,4 @@
 -- `names::is_before`: the lengths first, then byte by byte, what is left to compare decides. Assumes nothing.
-use Prim.Native.Nat.{◌-◌}
 use mathlib.Core.Path.{sym, ◌∙◌}
 use Rattle.names.proofs.Order.{less-size, less-all, less-go, less-stop, less_done}
 use native.Mathlib.Omega.{arith}

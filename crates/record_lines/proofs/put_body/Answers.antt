@@ -1,10 +1,9 @@
 -- `record_lines::put_body` meets its contract: by the shape of the record. Assumes nothing.
-use borrow.Enum.Refused.{opened}
 use Prim.Native.Nat.{◌-◌}
 use mathlib.Core.Path.{sym, ap, ◌∙◌}
 use mathlib.Core.Bool.{true, false}
 use native.Mathlib.Omega.{arith}
-use lib.ListN.{length, take, drop, length-take, length-drop}
+use lib.ListN.{take, drop, length-take, length-drop}
 use Rattle.numbers.specs.Spelling.{render_number}
 use Rattle.kinds.specs.Kinds.{is_content, marks_of}
 use Rattle.record_lines.specs.Writing.{body_text}

@@ -1,6 +1,5 @@
 -- `record_lines::put_closing` meets its contract: each arm at once for its kinds' numbers. Assumes nothing.
 use borrow.Enum.Refused.{opened}
-use Prim.Native.Nat.{◌-◌}
 use mathlib.Core.Path.{refl, sym, ap}
 use mathlib.Core.Bool.{true}
 use mathlib.Core.List.{[], ◌∷◌}

@@ -1,5 +1,4 @@
 -- `record_lines::put_opening` meets its contract: each arm at once for its kinds' numbers. Assumes nothing.
-use borrow.Enum.Refused.{opened}
 use mathlib.Core.Path.{refl, sym, ap, ◌∙◌}
 use mathlib.Core.Bool.{true}
 use mathlib.Core.List.{[], ◌∷◌}

@@ -1,5 +1,4 @@
 -- `record_lines::put_part` meets its contract: where the loop stands, i bytes are copied. Assumes nothing.
-use Prim.Native.Nat.{◌-◌}
 use mathlib.Core.Path.{◌≡◌, refl, sym}
 use native.Mathlib.Omega.{arith}
 use lib.ListN.{length, take, drop, length-set, length-take, length-drop}

@@ -1,9 +1,7 @@
 -- `rendering::write_lines` meets its contract: where the loop stands, the lines so far are written, and the others are left. Assumes nothing.
-use Prim.Native.Nat.{◌-◌}
 use mathlib.Core.Path.{◌≡◌, sym, ◌∙◌}
 use native.Mathlib.Omega.{arith}
-use Rattle.entries.specs.declared.Entry.TheVariants.{Record}
-use Rattle.entries.specs.Entries.{entry_at}
+use Rattle.entries.specs.Entries.{entry_at, whole}
 use Rattle.entries.proofs.Walking.{next-at}
 use Rattle.rendering.proofs.Passing.{writing-first, writing-end, writing-none, writing-own, writing-room, writing_more}
 use Rattle.rendering.proofs.write_lines.Goals as goal
@@ -21,26 +19,26 @@ pub write_line-at-requires : goal.write_line-at-requires
 write_line-at-requires c =
     let a = c.args in
     let here = c.loop-from in
-    let e : entry_at a.store.now here.from ≡ Record c.in-Record.kind c.in-Record.fields c.in-Record.next = sym c.read_record.ensures ∙ c.in-Record.is in
+    let e : entry_at a.store.now here.from ≡ whole c.in-Some.field-0.kind c.in-Some.field-0.fields c.in-Some.field-0.next = sym c.read_record.ensures ∙ c.in-Some.is in
     let test = c.loop-from-test.true in
-    (writing-own a.reading a.store.now a.area.now a.out.now here.out here.from here.at here.invariant c.in-Record.kind c.in-Record.fields c.in-Record.next test e, writing-room a.reading a.store.now a.area.now a.out.now here.out here.from here.at here.invariant c.in-Record.kind c.in-Record.fields c.in-Record.next test e)
+    (writing-own a.reading a.store.now a.area.now a.out.now here.out here.from here.at here.invariant c.in-Some.field-0.kind c.in-Some.field-0.fields c.in-Some.field-0.next test e, writing-room a.reading a.store.now a.area.now a.out.now here.out here.from here.at here.invariant c.in-Some.field-0.kind c.in-Some.field-0.fields c.in-Some.field-0.next test e)
 
 pub loop-from-smaller : goal.loop-from-smaller
 loop-from-smaller c =
     let a = c.args in
     let here = c.loop-from in
-    let e : entry_at a.store.now here.from ≡ Record c.in-Record.kind c.in-Record.fields c.in-Record.next = sym c.read_record.ensures ∙ c.in-Record.is in
+    let e : entry_at a.store.now here.from ≡ whole c.in-Some.field-0.kind c.in-Some.field-0.fields c.in-Some.field-0.next = sym c.read_record.ensures ∙ c.in-Some.is in
     let test = c.loop-from-test.true in
-    let far = next-at a.store.now here.from c.in-Record.kind c.in-Record.fields c.in-Record.next test e in
+    let far = next-at a.store.now here.from c.in-Some.field-0.kind c.in-Some.field-0.fields c.in-Some.field-0.next test e in
     omega (arith, far.onwards)
 
 pub loop-from-preserved : goal.loop-from-preserved
 loop-from-preserved c =
     let a = c.args in
     let here = c.loop-from in
-    let e : entry_at a.store.now here.from ≡ Record c.in-Record.kind c.in-Record.fields c.in-Record.next = sym c.read_record.ensures ∙ c.in-Record.is in
+    let e : entry_at a.store.now here.from ≡ whole c.in-Some.field-0.kind c.in-Some.field-0.fields c.in-Some.field-0.next = sym c.read_record.ensures ∙ c.in-Some.is in
     let test = c.loop-from-test.true in
-    writing_more a.reading a.store.now a.area.now a.out.now here.out here.from here.at here.invariant c.in-Record.kind c.in-Record.fields c.in-Record.next test e _ _ c.write_line-at.ensures
+    writing_more a.reading a.store.now a.area.now a.out.now here.out here.from here.at here.invariant c.in-Some.field-0.kind c.in-Some.field-0.fields c.in-Some.field-0.next test e _ _ c.write_line-at.ensures
 
 pub returns : goal.returns
 returns c =

@@ -7,4 +7,4 @@ pub returns-in_default : goal.returns-in_default
 returns-in_default c = held_none _ _ _ _ (sym c.read_record.ensures ∙ c.in_default.is) refl refl
 
 pub returns : goal.returns
-returns c = held-record _ _ _ _ _ _ _ _ _ (sym c.read_record.ensures ∙ c.in-Record.is) c.name_of.ensures
+returns c = held-record _ _ _ _ _ _ _ _ _ (sym c.read_record.ensures ∙ c.in-Some.is) c.name_of.ensures

@@ -1,11 +1,10 @@
 -- `stores::is_filled`: the whole is filled just where what is left is, from here on. Assumes nothing.
-use Prim.Native.Nat.{◌-◌, ◌<◌}
+use Prim.Native.Nat.{◌<◌}
 use mathlib.Core.Path.{◌≡◌, sym, ◌∙◌}
-use mathlib.Core.Bool.{true, false}
+use mathlib.Core.Bool.{true}
 use native.Mathlib.Omega.{arith}
 use lib.ListN.{length}
-use Rattle.entries.specs.declared.Entry.TheVariants.{Record}
-use Rattle.entries.specs.Entries.{entry_at}
+use Rattle.entries.specs.Entries.{entry_at, whole}
 use Rattle.stores.specs.Soundness.{kept}
 use Rattle.entries.proofs.Walking.{next-at}
 use Rattle.stores.proofs.Filling.{fill-all, fill_end, fill_none, fill-breaks, fill-keeps, takes-inside}
@@ -24,21 +23,21 @@ pub returns-then-not-is_kept : goal.returns-then-not-is_kept
 returns-then-not-is_kept c =
     let given = c.args in
     let here = c.loop-at in
-    let e : entry_at given.store.now here.at ≡ Record c.in-Record.kind c.in-Record.fields c.in-Record.next = sym c.read_record.ensures ∙ c.in-Record.is in
+    let e : entry_at given.store.now here.at ≡ whole c.in-Some.field-0.kind c.in-Some.field-0.fields c.in-Some.field-0.next = sym c.read_record.ensures ∙ c.in-Some.is in
     sym (here.invariant.2 ∙ fill-breaks given.reading given.store.now given.area.now here.at here.from _ _ _ c.loop-at-test.true e (sym c.is_kept.ensures ∙ c.if-not-is_kept.true))
 
 pub overflow_add-from : goal.overflow_add-from
 overflow_add-from c =
     let given = c.args in
     let here = c.loop-at in
-    let room = takes-inside given.reading given.area.now here.from c.in-Record.kind c.in-Record.fields here.invariant.1 (sym c.is_kept.ensures ∙ c.if-not-is_kept.false) in
+    let room = takes-inside given.reading given.area.now here.from c.in-Some.field-0.kind c.in-Some.field-0.fields here.invariant.1 (sym c.is_kept.ensures ∙ c.if-not-is_kept.false) in
     omega (arith, room, c.taken-from.ensures)
 
 pub loop-at-smaller : goal.loop-at-smaller
 loop-at-smaller c =
     let given = c.args in
     let here = c.loop-at in
-    let far = next-at given.store.now here.at c.in-Record.kind c.in-Record.fields c.in-Record.next (omega arith) (sym c.read_record.ensures ∙ c.in-Record.is) in
+    let far = next-at given.store.now here.at c.in-Some.field-0.kind c.in-Some.field-0.fields c.in-Some.field-0.next (omega arith) (sym c.read_record.ensures ∙ c.in-Some.is) in
     omega (arith, far.onwards, far.within)
 
 pub loop-at-preserved : goal.loop-at-preserved
@@ -46,9 +45,9 @@ loop-at-preserved c =
     let given = c.args in
     let here = c.loop-at in
     let inside : here.at < length given.store.now = omega arith in
-    let e : entry_at given.store.now here.at ≡ Record c.in-Record.kind c.in-Record.fields c.in-Record.next = sym c.read_record.ensures ∙ c.in-Record.is in
-    let keeps : kept given.reading given.area.now here.from c.in-Record.kind c.in-Record.fields ≡ true = sym c.is_kept.ensures ∙ c.if-not-is_kept.false in
-    let room = takes-inside given.reading given.area.now here.from c.in-Record.kind c.in-Record.fields here.invariant.1 keeps in
+    let e : entry_at given.store.now here.at ≡ whole c.in-Some.field-0.kind c.in-Some.field-0.fields c.in-Some.field-0.next = sym c.read_record.ensures ∙ c.in-Some.is in
+    let keeps : kept given.reading given.area.now here.from c.in-Some.field-0.kind c.in-Some.field-0.fields ≡ true = sym c.is_kept.ensures ∙ c.if-not-is_kept.false in
+    let room = takes-inside given.reading given.area.now here.from c.in-Some.field-0.kind c.in-Some.field-0.fields here.invariant.1 keeps in
     ((next-at given.store.now here.at _ _ _ inside e).within, omega (arith, room, c.taken-from.ensures), here.invariant.2 ∙ fill-keeps given.reading given.store.now given.area.now here.at here.from _ _ _ inside e keeps ∙ rw (← c.taken-from.ensures))
 
 pub returns : goal.returns

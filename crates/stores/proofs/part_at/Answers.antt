@@ -1,10 +1,7 @@
 -- `stores::part_at`: the record sought is as many records further on as are left to pass. Assumes nothing.
-use Prim.Native.Nat.{◌-◌}
 use mathlib.Core.Path.{◌≡◌, sym, ◌∙◌}
 use native.Mathlib.Omega.{arith}
-use Rattle.entries.specs.declared.Entry.TheVariants.{Record}
-use Rattle.entries.specs.Entries.{entry_at}
-use Rattle.stores.specs.Content.{part_of}
+use Rattle.entries.specs.Entries.{entry_at, whole}
 use Rattle.entries.proofs.Walking.{next-at}
 use Rattle.stores.proofs.Looking.{part-all, part_end, part_none, part-here, part-more}
 use Rattle.stores.proofs.part_at.Goals as goal
@@ -22,7 +19,7 @@ pub returns-then-left-eq0 : goal.returns-then-left-eq0
 returns-then-left-eq0 c =
     let st = c.args.store.now in
     let here = c.loop-at in
-    let e : entry_at st here.at ≡ Record c.in-Record.kind c.in-Record.fields c.in-Record.next = sym c.read_record.ensures ∙ c.in-Record.is in
+    let e : entry_at st here.at ≡ whole c.in-Some.field-0.kind c.in-Some.field-0.fields c.in-Some.field-0.next = sym c.read_record.ensures ∙ c.in-Some.is in
     sym (here.invariant ∙ part-here st here.at _ _ _ c.loop-at-test.true e here.left c.if-left-eq0.true ∙ sym c.part_of.ensures)
 
 pub overflow_sub-left : goal.overflow_sub-left
@@ -32,14 +29,14 @@ pub loop-at-smaller : goal.loop-at-smaller
 loop-at-smaller c =
     let st = c.args.store.now in
     let here = c.loop-at in
-    let far = next-at st here.at c.in-Record.kind c.in-Record.fields c.in-Record.next (omega arith) (sym c.read_record.ensures ∙ c.in-Record.is) in
+    let far = next-at st here.at c.in-Some.field-0.kind c.in-Some.field-0.fields c.in-Some.field-0.next (omega arith) (sym c.read_record.ensures ∙ c.in-Some.is) in
     omega (arith, far.onwards, far.within)
 
 pub loop-at-preserved : goal.loop-at-preserved
 loop-at-preserved c =
     let st = c.args.store.now in
     let here = c.loop-at in
-    let e : entry_at st here.at ≡ Record c.in-Record.kind c.in-Record.fields c.in-Record.next = sym c.read_record.ensures ∙ c.in-Record.is in
+    let e : entry_at st here.at ≡ whole c.in-Some.field-0.kind c.in-Some.field-0.fields c.in-Some.field-0.next = sym c.read_record.ensures ∙ c.in-Some.is in
     here.invariant ∙ part-more st here.at _ _ _ c.loop-at-test.true e here.left c.if-left-eq0.false
 
 pub returns : goal.returns

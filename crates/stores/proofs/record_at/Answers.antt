@@ -11,7 +11,7 @@ unfolding walked_at walked_of answered
 returns-then-not-has_content c =
     rw (
       ← c.read_record-found.ensures,
-      c.in-Record.is,
+      c.in-Some.is,
       ← c.has_content.ensures,
       c.if-not-has_content.true,
       c.number-number.ensures,
@@ -22,7 +22,7 @@ unfolding walked_at walked_of answered
 returns-then-not-lies_inside c =
     rw (
       ← c.read_record-found.ensures,
-      c.in-Record.is,
+      c.in-Some.is,
       ← c.has_content.ensures,
       c.if-not-has_content.false,
       ← c.lies_inside.ensures,
@@ -34,7 +34,7 @@ unfolding walked_at walked_of answered
 returns c =
     rw (
       ← c.read_record-found.ensures,
-      c.in-Record.is,
+      c.in-Some.is,
       ← c.has_content.ensures,
       c.if-not-has_content.false,
       ← c.lies_inside.ensures,
