@@ -1,11 +1,11 @@
 -- Laws of the values of a store: what stands at a spot, and where that leads; and that each value takes 17 bytes of the store or more. Assumes nothing.
 use Prim.Native.Nat.{ℕ, zero, suc, ◌+◌, ◌-◌, ◌*◌, ◌/◌, ◌%◌, ◌≤◌, ◌<◌}
-use mathlib.Core.Path.{◌≡◌, refl, sym, ap, ◌∙◌}
+use mathlib.Core.Path.{◌≡◌, refl, sym, ap, ap₂, ◌∙◌}
 use mathlib.Core.Bool.{Bool, true, false, cond, ◌&&◌, true≢false}
 use mathlib.Core.List.{List, [], ◌∷◌}
 use native.Mathlib.Omega.{arith}
 use native.Mathlib.Numerals.{add-one}
-use native.Mathlib.Nat.{zero-mod, mod-zero, mod_self, mod-lt, mod-eq_of_lt, mod-add-mod, div-zero}
+use native.Mathlib.Nat.{zero-mod, mod-zero, mod_self, mod-lt, mod-eq_of_lt, mod-add-mod}
 use borrow.Author.Tests.{leb-true, leb-false, eqb-true, ne_eqb}
 use lib.Dec.{eqb, leb}
 use lib.ListN.{length, drop}
@@ -24,7 +24,7 @@ use Rattle.entries.proofs.Walking.{rest, rest_all, rest_over, rest-none, next-at
 use Rattle.kinds.specs.Kinds.{is_value_kind}
 use Rattle.cells.specs.declared.Here.{Here}
 use Rattle.cells.specs.declared.Found.{Found}
-use Rattle.cells.specs.declared.Leap.TheVariants.{Over, Nowhere}
+use Rattle.cells.specs.declared.Leap.{Leap}
 use Rattle.cells.specs.declared.Met.{Met}
 use Rattle.cells.specs.Cells.{Cell, Under, outset, under, cell, cells_from, cells}
 use Rattle.cells.specs.Walk.{entries_at, IsAt, under_of, cells_at, first, Placed, opened, closed, tagged, looped, counted, passed, here_after, cell_of, Lies, Finds, listed, Kept, Ahead, leap_of, count_of}
@@ -314,28 +314,44 @@ module _ (st : List ℕ) (from h : Here) (at : ℕ) (w : Comes st from h at) whe
         }
 
 -- what a leap tells of the record
-pub record Leapt (e : Option Entry) (n next : ℕ) : Type 0 where
-  pub kind : Kind
+pub record Leapt (e : Option Entry) (l : Leap) : Type 0 where
   pub fields : Fields
-  pub is : e ≡ whole kind fields next
-  pub number : number_of kind ≡ n
+  pub is : e ≡ whole l.kind fields l.next
 
-pub leapt : (e : Option Entry) (n next : ℕ) → leap_of e ≡ Over n next → Leapt e n next
+pub leapt : (e : Option Entry) (l : Leap) → leap_of e ≡ Some l → Leapt e l
 unfolding leap_of
-leapt (Some e) n next q =
-    let a : number_of e.kind ≡ n = cc in
-    let b : e.next ≡ next = cc in
-    record { kind = e.kind; fields = e.fields; is = ap (λ (z : ℕ). whole e.kind e.fields z) b; number = a }
-leapt None n next q =
-    let z : ◌≡◌ {A = ℕ} 0 1 = cc in
-    absurd (omega arith)
+leapt (Some e) l q =
+    let a : e.kind ≡ l.kind = cc in
+    let b : e.next ≡ l.next = cc in
+    record { fields = e.fields; is = ap₂ (λ (k : Kind) (n : ℕ). whole k e.fields n) a b }
+leapt None l q = cc
 
-pub leapt-none : (e : Option Entry) → leap_of e ≡ Nowhere → e ≡ None
+pub leapt-none : (e : Option Entry) → leap_of e ≡ None → e ≡ None
 unfolding leap_of
-leapt-none (Some e) q =
-    let z : ◌≡◌ {A = ℕ} 0 1 = cc in
-    absurd (omega arith)
+leapt-none (Some e) q = cc
 leapt-none None q = refl
+
+-- any other kind passes
+pub other-passes :
+    (k : Kind) → (k ≡ FrameOpen → ⊥) → (k ≡ FrameClose → ⊥) → (k ≡ Tag → ⊥) → (k ≡ Loop → ⊥) → (n next : ℕ) (h : Here) → passed next h ≡ here_after (number_of k) n next h
+unfolding here_after
+other-passes NoKind a b c d n next h = refl
+other-passes Block a b c d n next h = refl
+other-passes FrameOpen a b c d n next h = absurd (a refl)
+other-passes FrameClose a b c d n next h = absurd (b refl)
+other-passes Tag a b c d n next h = absurd (c refl)
+other-passes Loop a b c d n next h = absurd (d refl)
+other-passes LoopTag a b c d n next h = refl
+other-passes LoopEnd a b c d n next h = refl
+other-passes Inapplicable a b c d n next h = refl
+other-passes Unknown a b c d n next h = refl
+other-passes Bare a b c d n next h = refl
+other-passes SingleQuoted a b c d n next h = refl
+other-passes DoubleQuoted a b c d n next h = refl
+other-passes Multiline a b c d n next h = refl
+other-passes Number a b c d n next h = refl
+other-passes Uncertain a b c d n next h = refl
+other-passes Quoted a b c d n next h = refl
 
 -- tags count for loops alone
 counts-loop : (k n next : ℕ) (h : Here) → here_after k (cond (eqb k 5) n 0) next h ≡ here_after k n next h
@@ -349,6 +365,6 @@ counts-loop k n next h = by (eqb k 5)
     by true = refl
     by false = refl
 
-pub after-leap : (e : Option Entry) (n next : ℕ) (l : Leapt e n next) (h : Here) → here_after n (cond (eqb n 5) (count_of e) 0) next h ≡ here_after (number_of l.kind) l.fields.number next h
+pub after-leap : (e : Option Entry) (l : Leap) (t : Leapt e l) (h : Here) → here_after (number_of l.kind) (cond (eqb (number_of l.kind) 5) (count_of e) 0) l.next h ≡ here_after (number_of l.kind) t.fields.number l.next h
 unfolding count_of
-after-leap e n next l h = counts-loop n (count_of e) next h ∙ rw (l.is, ← l.number)
+after-leap e l t h = counts-loop (number_of l.kind) (count_of e) l.next h ∙ rw t.is

@@ -1,12 +1,10 @@
 -- How the values of a store are walked: a spot and a value found have numbers of records and, beside each, the offset where that record stands. Assumes nothing.
 use Rattle.std.specs.Prelude.{ℕ, ◌+◌, ◌%◌, ◌≤◌, ◌≡◌, cond, List, [], ◌∷◌, eqb, drop, Option, Some, None}
-use Rattle.kinds.specs.Kinds.{number_of}
 use Rattle.entries.specs.declared.Entry.{Entry}
 use Rattle.entries.specs.Walk.{entries_from, entries}
 use Rattle.cells.specs.declared.Here.{Here}
 use Rattle.cells.specs.declared.Found.{Found}
 use Rattle.cells.specs.declared.Leap.{Leap}
-use Rattle.cells.specs.declared.Leap.TheVariants.{Over, Nowhere}
 use Rattle.cells.specs.declared.Met.{Met}
 use Rattle.cells.specs.Cells.{Cell, Under, cell, cells_from}
 
@@ -94,9 +92,9 @@ pub record Ahead (st : List ℕ) (h : Here) (r : Option Met) : Type 0 where
   pub kept : Kept st r
 
 -- what is read of a record that is passed over
-unfoldable pub leap_of : Option Entry → Leap
-leap_of (Some e) = Over (number_of e.kind) e.next
-leap_of None = Nowhere
+unfoldable pub leap_of : Option Entry → Option Leap
+leap_of (Some e) = Some (record { kind = e.kind; next = e.next })
+leap_of None = None
 
 -- how many tags a record counts, if it is a loop's
 unfoldable pub count_of : Option Entry → ℕ

@@ -2,10 +2,10 @@
 #![tactic(auto)]
 
 ghost use Rattle.std.specs.Prelude.{◌≡◌, cond, ◌+◌, ◌/◌, ◌%◌, ◌<◌, ◌^◌, eqb, drop};
+ghost use Rattle.kinds.specs.Kinds.{number_of};
 ghost use Rattle.entries.specs.Entries.{entry_at};
 ghost use Rattle.cells.specs.Walk.{entries_at, Placed, Finds, Ahead, here_after, first, leap_of, count_of};
 
-use entries::Entry;
 use kinds::Kind;
 
 // A store with its area.
@@ -49,11 +49,11 @@ pub struct Met {
     pub after: Here,
 }
 
-// A record that is passed over.
+// A record that is passed over: its kind, and where the next one starts.
 #[derive(Clone, Copy)]
-enum Leap {
-    Over { kind: u8, next: usize },
-    Nowhere,
+struct Leap {
+    kind: Kind,
+    next: usize,
 }
 
 // The spot of the first record.
@@ -87,58 +87,46 @@ fn row_of(count: usize, tags: usize) -> usize
     count.checked_div(tags).unwrap_or(0)
 }
 
-// The record at an offset: its kind, and where the next one starts. Its fields are not read, as most are passed over.
-fn leap_from(store: &[u8], at: usize) -> Leap
+// The leap over the record at an offset. Its fields are not read, as most are passed over.
+fn leap_from(store: &[u8], at: usize) -> Option<Leap>
     ensures { result ≡ leap_of (entry_at store.now at) }
 {
-    if store.len() <= at {
-        return Leap::Nowhere;
-    }
-    let kind = Kind::of(store[at]);
-    let number = kind.number();
-    if number == 0 {
-        return Leap::Nowhere;
+    let kind = Kind::of(*store.get(at)?);
+    if kind.number() == 0 {
+        return None;
     }
     let body = at + 1;
-    let shape = kind.shape();
-    let length = shape.length();
+    let length = kind.shape().length();
     if store.len() - body < length {
-        return Leap::Nowhere;
+        return None;
     }
-    Leap::Over {
-        kind: number,
+    Some(Leap {
+        kind,
         next: body + length,
-    }
+    })
 }
 
 // The offset of the record behind the one at an offset; the store's end where there is none.
 fn record_behind(store: &[u8], at: usize) -> usize
     ensures { entries_at store.now result ≡ drop 1 (entries_at store.now at) }
 {
-    let Leap::Over { kind: _, next } = leap_from(store, at) else {
-        return store.len();
-    };
-    next
+    match leap_from(store, at) {
+        Some(leap) => leap.next,
+        None => store.len(),
+    }
 }
 
 // How many tags the record at an offset counts, where it is a loop's; any other counts none.
-fn tags_at(store: &[u8], at: usize, kind: u8) -> usize
-    ensures { result ≡ cond (eqb kind 5) (count_of (entry_at store.now at)) 0 }
+fn tags_at(store: &[u8], at: usize, kind: Kind) -> usize
+    ensures { result ≡ cond (eqb (number_of kind) 5) (count_of (entry_at store.now at)) 0 }
 {
-    if kind != Kind::LOOP {
-        return 0;
-    }
-    let Some(
-        Entry {
-            kind: _,
-            fields,
-            next: _,
-        },
-    ) = entries::read_record(store, at)
-    else {
+    let Kind::Loop = kind else {
         return 0;
     };
-    fields.number as usize
+    match entries::read_record(store, at) {
+        Some(entry) => entry.fields.number as usize,
+        None => 0,
+    }
 }
 
 // The value at a spot.
@@ -171,9 +159,9 @@ fn tag_behind(store: &[u8], here: Here) -> usize
 }
 
 // The spot behind a record that is no value.
-fn behind(here: Here, kind: u8, tags: usize, next: usize) -> Here
+fn behind(here: Here, kind: Kind, tags: usize, next: usize) -> Here
     requires { here.number + 1 < 2 ^ 64 }
-    ensures { result ≡ here_after kind tags next here }
+    ensures { result ≡ here_after (number_of kind) tags next here }
 {
     let passed = Here {
         at: next,
@@ -181,17 +169,17 @@ fn behind(here: Here, kind: u8, tags: usize, next: usize) -> Here
         ..here
     };
     match kind {
-        Kind::FRAME_OPEN => Here {
+        Kind::FrameOpen => Here {
             frame: here.number,
             outer: here.at,
             ..passed
         },
-        Kind::FRAME_CLOSE => Here {
+        Kind::FrameClose => Here {
             frame: 0,
             outer: 0,
             ..passed
         },
-        Kind::TAG => Here {
+        Kind::Tag => Here {
             header: here.number,
             from: here.at,
             tags: 1,
@@ -199,7 +187,7 @@ fn behind(here: Here, kind: u8, tags: usize, next: usize) -> Here
             name: here.at,
             ..passed
         },
-        Kind::LOOP => Here {
+        Kind::Loop => Here {
             header: here.number + 1,
             from: next,
             tags,
@@ -219,10 +207,8 @@ pub fn next_value(store: &[u8], here: Here) -> Option<Met>
     let mut spot = here;
     let mut at = here.at;
     while at < store.len() {
-        let Leap::Over { kind, next } = leap_from(store, at) else {
-            return None;
-        };
-        if nesting::is_value(kind) {
+        let Leap { kind, next } = leap_from(store, at)?;
+        if nesting::is_value(kind.number()) {
             return Some(Met {
                 value: value_at(store, spot),
                 after: Here {

@@ -1,27 +1,25 @@
 -- `cells::behind`: by the kind. Assumes nothing.
-use native.Mathlib.Omega.{arith}
-use borrow.Author.Tests.{ne_eqb}
 use Rattle.cells.specs.Walk.{here_after}
+use Rattle.cells.proofs.Cells.{other-passes}
 use Rattle.cells.proofs.behind.Goals as goal
 
-pub returns-in-2 : goal.returns-in-2
+pub returns-in-FrameOpen : goal.returns-in-FrameOpen
 unfolding here_after
-returns-in-2 c = rw c.in-2.is
+returns-in-FrameOpen c = rw c.in-FrameOpen.is
 
-pub returns-in-3 : goal.returns-in-3
+pub returns-in-FrameClose : goal.returns-in-FrameClose
 unfolding here_after
-returns-in-3 c = rw c.in-3.is
+returns-in-FrameClose c = rw c.in-FrameClose.is
 
-pub returns-in-4 : goal.returns-in-4
+pub returns-in-Tag : goal.returns-in-Tag
 unfolding here_after
-returns-in-4 c = rw c.in-4.is
+returns-in-Tag c = rw c.in-Tag.is
 
-pub returns-in-5 : goal.returns-in-5
+pub returns-in-Loop : goal.returns-in-Loop
 unfolding here_after
-returns-in-5 c = rw c.in-5.is
+returns-in-Loop c = rw c.in-Loop.is
 
 pub returns-in_default : goal.returns-in_default
-unfolding here_after
 returns-in_default c =
-    let k = c.args.kind in
-    rw (ne_eqb k 2 (omega arith), ne_eqb k 3 (omega arith), ne_eqb k 4 (omega arith), ne_eqb k 5 (omega arith))
+    let k = c.in_default in
+    other-passes _ k.not-FrameOpen k.not-FrameClose k.not-Tag k.not-Loop _ _ _
