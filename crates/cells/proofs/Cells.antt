@@ -15,7 +15,8 @@ use Rattle.kinds.specs.declared.Kind.{Kind}
 use Rattle.kinds.specs.declared.Kind.TheVariants.{NoKind, Block, FrameOpen, FrameClose, Tag, Loop, LoopTag}
 use Rattle.kinds.specs.declared.Kind.TheVariants.{LoopEnd, Inapplicable, Unknown, Bare, SingleQuoted}
 use Rattle.kinds.specs.declared.Kind.TheVariants.{DoubleQuoted, Multiline, Number, Uncertain, Quoted}
-use Rattle.kinds.specs.Kinds.{number_of, shape_of, shape_length}
+use Rattle.kinds.specs.Kinds.{kind_of, number_of, shape_of, shape_length}
+use Rattle.kinds.proofs.Numbering.{kind-number}
 use Rattle.entries.specs.declared.Fields.{Fields}
 use Rattle.entries.specs.declared.Entry.{Entry}
 use Rattle.entries.specs.Entries.{entry_at, whole}
@@ -331,27 +332,9 @@ unfolding leap_of
 leapt-none (Some e) q = cc
 leapt-none None q = refl
 
--- any other kind passes
-pub other-passes :
-    (k : Kind) → (k ≡ FrameOpen → ⊥) → (k ≡ FrameClose → ⊥) → (k ≡ Tag → ⊥) → (k ≡ Loop → ⊥) → (n next : ℕ) (h : Here) → passed next h ≡ here_after (number_of k) n next h
-unfolding here_after
-other-passes NoKind a b c d n next h = refl
-other-passes Block a b c d n next h = refl
-other-passes FrameOpen a b c d n next h = absurd (a refl)
-other-passes FrameClose a b c d n next h = absurd (b refl)
-other-passes Tag a b c d n next h = absurd (c refl)
-other-passes Loop a b c d n next h = absurd (d refl)
-other-passes LoopTag a b c d n next h = refl
-other-passes LoopEnd a b c d n next h = refl
-other-passes Inapplicable a b c d n next h = refl
-other-passes Unknown a b c d n next h = refl
-other-passes Bare a b c d n next h = refl
-other-passes SingleQuoted a b c d n next h = refl
-other-passes DoubleQuoted a b c d n next h = refl
-other-passes Multiline a b c d n next h = refl
-other-passes Number a b c d n next h = refl
-other-passes Uncertain a b c d n next h = refl
-other-passes Quoted a b c d n next h = refl
+-- kinds that are not the same have other numbers
+pub other-number : (k j : Kind) → (k ≡ j → ⊥) → eqb (number_of k) (number_of j) ≡ false
+other-number k j d = ne_eqb (number_of k) (number_of j) (λ e. d (sym (kind-number k) ∙ ap kind_of e ∙ kind-number j))
 
 -- tags count for loops alone
 counts-loop : (k n next : ℕ) (h : Here) → here_after k (cond (eqb k 5) n 0) next h ≡ here_after k n next h

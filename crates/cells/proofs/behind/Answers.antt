@@ -1,6 +1,7 @@
 -- `cells::behind`: by the kind. Assumes nothing.
+use Rattle.kinds.specs.declared.Kind.TheVariants.{FrameOpen, FrameClose, Tag, Loop}
 use Rattle.cells.specs.Walk.{here_after}
-use Rattle.cells.proofs.Cells.{other-passes}
+use Rattle.cells.proofs.Cells.{other-number}
 use Rattle.cells.proofs.behind.Goals as goal
 
 pub returns-in-FrameOpen : goal.returns-in-FrameOpen
@@ -20,6 +21,7 @@ unfolding here_after
 returns-in-Loop c = rw c.in-Loop.is
 
 pub returns-in_default : goal.returns-in_default
+unfolding here_after
 returns-in_default c =
     let k = c.in_default in
-    other-passes _ k.not-FrameOpen k.not-FrameClose k.not-Tag k.not-Loop _ _ _
+    rw (other-number _ FrameOpen k.not-FrameOpen, other-number _ FrameClose k.not-FrameClose, other-number _ Tag k.not-Tag, other-number _ Loop k.not-Loop)
