@@ -1,5 +1,5 @@
 -- Laws of exact decimals: the sizes that are compared stand to each other as the decimals do. Assumes nothing.
-use Prim.Native.Nat.{ℕ, zero, suc, ◌+◌, ◌-◌, ◌*◌, ◌%◌, ◌^◌, ◌≤◌, ◌<◌}
+use Prim.Native.Nat.{ℕ, zero, suc, ◌+◌, ◌-◌, ◌*◌, ◌^◌, ◌≤◌, ◌<◌}
 use mathlib.Core.Path.{◌≡◌, refl, sym, ap, ◌∙◌}
 use mathlib.Core.Bool.{Bool, true, false, cond, ◌&&◌}
 use native.Mathlib.Omega.{arith}
@@ -8,8 +8,9 @@ use borrow.Author.Tests.{eqb-true, eqb-false, eq-eqb, ne_eqb}
 use lib.Dec.{eqb}
 use lib.Pow.{pow-add}
 use Rattle.entries.specs.declared.Parts.{Parts}
-use Rattle.orders.specs.declared.Order.TheVariants.{Less, Same}
-use Rattle.orders.specs.Order.{order_of, flipped}
+use Rattle.std.specs.Ordering.{ordering_reverse}
+use Rattle.std.specs.declared.cmp.Ordering.TheVariants.{Less, Equal}
+use Rattle.orders.specs.Order.{order_of}
 use Rattle.orders.specs.Sizes.{Fits, pair, size_order, apart}
 use Rattle.orders.proofs.Laws.{order-less, order_same, order-units, flip-order, ten-pos, sizes-are, apart-is}
 use Rattle.amounts.specs.Exact.{Kept, digits, raised, unit, in_unit, above, below, value_order, uncertainty_order}
@@ -78,7 +79,7 @@ unfolding raised
 raised_below e = mod-lt (e + 2147483648) (omega arith)
 
 -- below 0 against above
-apart_by : (a b : Parts) → Kept a → Kept b → (s t : Bool) → eqb (pair (size_of a)) 0 ≡ s → eqb (pair (size_of b)) 0 ≡ t → cond (s && t) Same Less ≡ order_of 0 (in_unit (digits b) b a + in_unit (digits a) a b)
+apart_by : (a b : Parts) → Kept a → Kept b → (s t : Bool) → eqb (pair (size_of a)) 0 ≡ s → eqb (pair (size_of b)) 0 ≡ t → cond (s && t) Equal Less ≡ order_of 0 (in_unit (digits b) b a + in_unit (digits a) a b)
 unfolding in_unit
 apart_by a b k l true true p q =
     let x : digits a ≡ 0 = no-digits a k (eqb-true (pair (size_of a)) 0 p) in
@@ -109,24 +110,24 @@ module _ (a b : Parts) (k : Kept a) (l : Kept b) where
   unfolding value_order above below
   below-above m n = apart-order a b k l ∙ rw (eq-eqb a.sign 1 m, ne_eqb b.sign 1 n)
 
-  pub above-below : (a.sign ≡ 1 → ⊥) → b.sign ≡ 1 → flipped (apart (size_of a) (size_of b)) ≡ value_order a b
+  pub above-below : (a.sign ≡ 1 → ⊥) → b.sign ≡ 1 → ordering_reverse (apart (size_of a) (size_of b)) ≡ value_order a b
   unfolding value_order above below
   above-below m n =
-      ap flipped (apart-order a b k l) ∙ flip-order 0 (in_unit (digits b) b a + in_unit (digits a) a b) ∙ rw (ne_eqb a.sign 1 m, eq-eqb b.sign 1 n, add_comm (in_unit (digits a) a b) (in_unit (digits b) b a))
+      ap ordering_reverse (apart-order a b k l) ∙ flip-order 0 (in_unit (digits b) b a + in_unit (digits a) a b) ∙ rw (ne_eqb a.sign 1 m, eq-eqb b.sign 1 n, add_comm (in_unit (digits a) a b) (in_unit (digits b) b a))
 
 -- a number agrees with itself, so equal parts need no order; and the order turns round
-pub value_same : (p : Parts) → value_order p p ≡ Same
+pub value_same : (p : Parts) → value_order p p ≡ Equal
 unfolding value_order
 value_same p = order_same _ _ refl
 
-pub doubt-same : (p : Parts) → uncertainty_order p p ≡ Same
+pub doubt-same : (p : Parts) → uncertainty_order p p ≡ Equal
 unfolding uncertainty_order
 doubt-same p = order_same _ _ refl
 
-pub value-turned : (a b : Parts) → flipped (value_order a b) ≡ value_order b a
+pub value-turned : (a b : Parts) → ordering_reverse (value_order a b) ≡ value_order b a
 unfolding value_order
 value-turned a b = flip-order _ _
 
-pub doubt-turned : (a b : Parts) → flipped (uncertainty_order a b) ≡ uncertainty_order b a
+pub doubt-turned : (a b : Parts) → ordering_reverse (uncertainty_order a b) ≡ uncertainty_order b a
 unfolding uncertainty_order
 doubt-turned a b = flip-order _ _

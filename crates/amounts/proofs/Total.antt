@@ -2,15 +2,14 @@
 -- less than itself, from the other side less is more, and both less and same go through a number between. Numbers that are the same stand alike to every other.
 -- Assumes nothing.
 use Prim.Native.Nat.{ℕ, ◌+◌, ◌-◌, ◌*◌, ◌^◌, ◌<◌, min}
-use mathlib.Core.Path.{◌≡◌, refl, sym, ap, ap₂, ◌∙◌}
+use mathlib.Core.Path.{◌≡◌, sym, ap₂, ◌∙◌}
 use mathlib.Core.Bool.{Bool, true, false, cond}
 use native.Mathlib.Omega.{arith}
 use native.Mathlib.Nat.{add-mul, zero-add, add-zero, sub-add-min_cancel, min_comm}
 use lib.Dec.{eqb}
 use Rattle.entries.specs.declared.Parts.{Parts}
-use Rattle.orders.specs.declared.Order.{Order}
-use Rattle.orders.specs.declared.Order.TheVariants.{Less, Same, More}
-use Rattle.orders.specs.Order.{order_of, flipped}
+use Rattle.std.specs.declared.cmp.Ordering.TheVariants.{Less, Equal, Greater}
+use Rattle.orders.specs.Order.{order_of}
 use Rattle.orders.proofs.Laws.{Stands, less, same, more, stands, order-less, order_same, order-more, order-times, in-units, ten-pos}
 use Rattle.amounts.specs.Exact.{digits, unit, in_unit, above, below, value_order}
 use Rattle.amounts.proofs.Laws.{value_same, value-turned}
@@ -56,7 +55,7 @@ order-says a b e = by (stands a b)
     by (same h) = let z : ◌≡◌ {A = ℕ} 0 1 = cc (order_same a b h) in absurd (omega arith)
     by (more h) = let z : ◌≡◌ {A = ℕ} 0 1 = cc (order-more a b h) in absurd (omega arith)
 
-order-equal : (a b : ℕ) → order_of a b ≡ Same → a ≡ b
+order-equal : (a b : ℕ) → order_of a b ≡ Equal → a ≡ b
 order-equal a b e = by (stands a b)
   where
     by : Stands a b → a ≡ b
@@ -69,12 +68,10 @@ pub less-never-self : (a : Parts) → value_order a a ≡ Less → ⊥
 less-never-self a e = let z : ◌≡◌ {A = ℕ} 0 1 = cc (value_same a) in omega arith
 
 -- less from one side is more from the other
-pub less-turned : (a b : Parts) → value_order a b ≡ Less → value_order b a ≡ More
-unfolding flipped
+pub less-turned : (a b : Parts) → value_order a b ≡ Less → value_order b a ≡ Greater
 less-turned a b e = sym (value-turned a b) ∙ rw e
 
-pub more-turned : (a b : Parts) → value_order a b ≡ More → value_order b a ≡ Less
-unfolding flipped
+pub more-turned : (a b : Parts) → value_order a b ≡ Greater → value_order b a ≡ Less
 more-turned a b e = sym (value-turned a b) ∙ rw e
 
 -- through a number between
@@ -85,7 +82,7 @@ less-through a b c e f =
     value-worth a c ∙ order-less _ _ (omega arith)
 
 -- numbers that are the same stand alike to every other
-pub same_alike : (a b c : Parts) → value_order a b ≡ Same → value_order a c ≡ value_order b c
+pub same_alike : (a b c : Parts) → value_order a b ≡ Equal → value_order a c ≡ value_order b c
 same_alike a b c e =
     let h : above-all a + below_all b ≡ above-all b + below_all a = order-equal _ _ (sym (value-worth a b) ∙ e) in
     value-worth a c ∙ by (stands (above-all b + below_all c) (above-all c + below_all b)) h ∙ sym (value-worth b c)
@@ -98,7 +95,7 @@ same_alike a b c e =
     by (more k) h = order-more _ _ (omega arith) ∙ sym (order-more _ _ k)
 
 -- 0 is 0 whatever its sign and exponent: `-0`, `0`, `0e999999999`
-pub nothing-same : (a b : Parts) → digits a ≡ 0 → digits b ≡ 0 → value_order a b ≡ Same
+pub nothing-same : (a b : Parts) → digits a ≡ 0 → digits b ≡ 0 → value_order a b ≡ Equal
 unfolding above-all below_all above below
 nothing-same a b e f = value-worth a b ∙ order_same _ _ (rw (e, f) (by (eqb a.sign 1) (eqb b.sign 1) (10 ^ unit a) (10 ^ unit b)))
   where

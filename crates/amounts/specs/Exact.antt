@@ -4,7 +4,7 @@
 -- numbers; of two units the smaller one is taken for both. Nothing of this is ever computed. Assumes nothing.
 use Rattle.std.specs.Prelude.{ℕ, ◌+◌, ◌-◌, ◌*◌, ◌%◌, ◌^◌, ◌≤◌, ◌<◌, cond, eqb}
 use Rattle.entries.specs.declared.Parts.{Parts}
-use Rattle.orders.specs.declared.Order.{Order}
+use Rattle.std.specs.declared.cmp.Ordering.{Ordering}
 use Rattle.orders.specs.Order.{order_of}
 
 -- what is asked of decimal parts: less than soundness gives
@@ -38,11 +38,11 @@ unfoldable pub below : Parts → ℕ → ℕ
 below p n = cond (eqb p.sign 1) n 0
 
 -- a stands to b as what a has above 0, with what b has below, stands to what b has above 0, with what a has below: so -0 is 0
-unfoldable pub value_order : Parts → Parts → Order
+unfoldable pub value_order : Parts → Parts → Ordering
 value_order a b =
     let x = in_unit (digits a) a b in
     let y = in_unit (digits b) b a in
     order_of (above a x + below b y) (above b y + below a x)
 
-unfoldable pub uncertainty_order : Parts → Parts → Order
+unfoldable pub uncertainty_order : Parts → Parts → Ordering
 uncertainty_order a b = order_of (in_unit a.uncertainty a b) (in_unit b.uncertainty b a)

@@ -1,6 +1,6 @@
 -- How the order is decided: by sizes. A number's fraction is filled up to 18 digits, so that its unit is its exponent's. proofs/Laws.antt has that the order of sizes is
 -- that of the exact decimals. Assumes nothing.
-use Rattle.std.specs.Prelude.{ℕ, ◌+◌, ◌-◌, ◌*◌, ◌^◌}
+use Rattle.std.specs.Prelude.{◌+◌, ◌-◌, ◌*◌, ◌^◌}
 use Rattle.entries.specs.declared.Parts.{Parts}
 use Rattle.orders.specs.declared.Size.{Size}
 use Rattle.amounts.specs.Exact.{raised}

@@ -1,15 +1,18 @@
 -- Laws of the cases of two values: by what stands at their offsets. Assumes nothing.
 use Prim.Native.Nat.{ℕ, suc, ◌+◌, ◌-◌}
-use mathlib.Core.Path.{◌≡◌, sym, ap, ◌∙◌}
-use mathlib.Core.Bool.{Bool, true, false, cond, ◌&&◌}
+use mathlib.Core.Path.{◌≡◌, refl, sym, ap, ◌∙◌}
+use mathlib.Core.Bool.{Bool, true, false, cond, ◌&&◌, ◌||◌}
 use mathlib.Core.List.{List}
 use native.Mathlib.Omega.{arith}
-use borrow.Author.Tests.{eq-eqb, ne_eqb}
+use borrow.Author.Tests.{eqb-false, leb-true}
+use lib.Dec.{leb}
 use lib.ListN.{drop}
 use Rattle.text.specs.Parts.{part}
 use Rattle.text.proofs.Parts.{part_none, part-cons}
 use Rattle.kinds.specs.declared.Kind.{Kind}
+use Rattle.kinds.specs.declared.Kind.TheVariants.{Bare, SingleQuoted, DoubleQuoted, Multiline, Quoted}
 use Rattle.kinds.specs.Kinds.{number_of}
+use Rattle.cells.proofs.Cells.{other-number}
 use Rattle.entries.specs.declared.Fields.{Fields}
 use Rattle.entries.specs.declared.Entry.{Entry}
 use Rattle.entries.specs.Entries.{whole}
@@ -17,30 +20,51 @@ use Rattle.amounts.specs.Exact.{Kept}
 use Rattle.names.specs.declared.Named.{Named}
 use Rattle.names.specs.Parts.{Inside}
 use Rattle.steps.specs.Steps.{held_by}
+use Rattle.number_cases.specs.declared.Case.TheVariants.{Same, Different}
 use Rattle.number_cases.specs.Numbers.{numbers_case}
-use Rattle.cases.specs.Cases.{is_number, unmarked, others_case, case_of, Orderly}
+use Rattle.cases.specs.Cases.{is_number, is_text, unmarked, agree, others_case, case_of, Orderly}
 use Rattle.cases.specs.Texts.{Unmarks}
 use Rattle.std.specs.Prelude.{Option, None}
 
--- a text without marks
-pub unmarked-other : (ar : List ℕ) (k : ℕ) (x : Named) → Inside ar x → (k ≡ 21 → ⊥) → Unmarks ar k x x
-unfolding unmarked
-unmarked-other ar k x i d = record { bytes = rw (ne_eqb k 21 d); inside = i }
+-- any other kind is no text
+pub other-text : (k : Kind) → (k ≡ Bare → ⊥) → (k ≡ SingleQuoted → ⊥) → (k ≡ DoubleQuoted → ⊥) → (k ≡ Multiline → ⊥) → (k ≡ Quoted → ⊥) → false ≡ is_text (number_of k)
+unfolding is_text
+other-text k a b c d e =
+    let n = number_of k in
+    rw (other-number k Quoted e) (by (leb 10 n) (leb n 13) refl refl)
+  where
+    by : (s t : Bool) → leb 10 (number_of k) ≡ s → leb (number_of k) 13 ≡ t → false ≡ ((s && t) || false)
+    by false t p q = refl
+    by true false p q = refl
+    by true true p q =
+        let n = number_of k in
+        let ten = eqb-false n 10 (other-number k Bare a) in
+        let eleven = eqb-false n 11 (other-number k SingleQuoted b) in
+        let twelve = eqb-false n 12 (other-number k DoubleQuoted c) in
+        let thirteen = eqb-false n 13 (other-number k Multiline d) in
+        let low = leb-true 10 n p in
+        let high = leb-true n 13 q in
+        absurd (omega arith)
 
-pub unmarked-none : (ar : List ℕ) (k : ℕ) (x : Named) → Inside ar x → k ≡ 21 → x.size ≡ 0 → Unmarks ar k x x
+-- a text without marks
+pub unmarked-other : (ar : List ℕ) (k : Kind) (x : Named) → Inside ar x → (k ≡ Quoted → ⊥) → Unmarks ar (number_of k) x x
 unfolding unmarked
-unmarked-none ar k x i e z = record { bytes = rw (eq-eqb k 21 e, z, part_none ar x.from); inside = i }
+unmarked-other ar k x i d = record { bytes = rw (other-number k Quoted d); inside = i }
+
+pub unmarked-none : (ar : List ℕ) (k : Kind) (x : Named) → Inside ar x → k ≡ Quoted → x.size ≡ 0 → Unmarks ar (number_of k) x x
+unfolding unmarked
+unmarked-none ar k x i e z = record { bytes = rw (e, z, part_none ar x.from); inside = i }
 
 pub unmarked-quoted :
-    (ar : List ℕ) (k : ℕ) (x : Named) → Inside ar x → k ≡ 21 → (x.size ≡ 0 → ⊥) →
-    Unmarks ar k x (record { at = x.at; number = x.number; scope = x.scope; from = x.from + 1; size = x.size - 1 })
+    (ar : List ℕ) (k : Kind) (x : Named) → Inside ar x → k ≡ Quoted → (x.size ≡ 0 → ⊥) →
+    Unmarks ar (number_of k) x (record { at = x.at; number = x.number; scope = x.scope; from = x.from + 1; size = x.size - 1 })
 unfolding unmarked
 unmarked-quoted ar k x i e z =
     let a : x.from + 1 ≡ suc x.from = omega arith in
     let b : x.size ≡ suc (x.size - 1) = omega arith in
     let c : part ar x.from x.size ≡ part ar x.from (suc (x.size - 1)) = ap (part ar x.from) b in
     record {
-      bytes = sym (ap (λ (t : Bool). cond t (drop 1 (part ar x.from x.size)) (part ar x.from x.size)) (eq-eqb k 21 e) ∙ ap (drop 1) (c ∙ part-cons ar x.from (x.size - 1) (omega arith)) ∙ rw a);
+      bytes = rw (e, a) (sym (ap (drop 1) (c ∙ part-cons ar x.from (x.size - 1) (omega arith))));
       inside = omega arith;
     }
 
@@ -51,12 +75,12 @@ orderly-parts e k f n q o t = (rw q at o) t
 
 -- two records
 module _ (ar ar' : List ℕ) (e e' : Option Entry) where
-  pub case-none : e ≡ None → ◌≡◌ {A = ℕ} 3 (case_of ar ar' e e')
+  pub case-none : e ≡ None → Different ≡ case_of ar ar' e e'
   unfolding case_of
   case-none q = rw q
 
   module _ (k : Kind) (f : Fields) (n : ℕ) (q : e ≡ whole k f n) where
-    pub case-alone : e' ≡ None → ◌≡◌ {A = ℕ} 3 (case_of ar ar' e e')
+    pub case-alone : e' ≡ None → Different ≡ case_of ar ar' e e'
     unfolding case_of
     case-alone p = rw (q, p)
 
@@ -70,6 +94,7 @@ module _ (ar ar' : List ℕ) (e e' : Option Entry) where
       case-texts t = rw (q, p, t)
 
       pub case-others :
-          (is_number (number_of k) && is_number (number_of j)) ≡ false → (x y : Named) → part ar x.from x.size ≡ held_by ar e → part ar' y.from y.size ≡ held_by ar' e' →
-          others_case (number_of k) (number_of j) (part ar x.from x.size) (part ar' y.from y.size) ≡ case_of ar ar' e e'
-      case-others t x y a b = sym (case-texts t ∙ rw (a, b))
+          (is_number (number_of k) && is_number (number_of j)) ≡ false → (x y : Named) → part ar x.from x.size ≡ held_by ar e → part ar' y.from y.size ≡ held_by ar' e' → (v : Bool) →
+          v ≡ agree (number_of k) (number_of j) (part ar x.from x.size) (part ar' y.from y.size) → cond v Same Different ≡ case_of ar ar' e e'
+      unfolding others_case
+      case-others t x y a b v w = sym (case-texts t ∙ rw (← a, ← b, w))

@@ -1,5 +1,5 @@
--- WHAT TWO VALUES ARE TO EACH OTHER (document 02, Four), as a number: 0 the same, and no entry; 3 different; 4 to 7 for two numbers (specs/Numbers.antt of number_cases).
--- (1 and 2 are values that one store alone has.) "Texts are equal when they are without marks." Any other two are the same where both are `.` or both `?`.
+-- WHAT TWO VALUES ARE TO EACH OTHER (document 02, Four): the same, and no entry; different; or a case of two numbers (specs/Numbers.antt of number_cases).
+-- "Texts are equal when they are without marks." Any other two are the same where both are `.` or both `?`.
 -- Assumes nothing.
 use Rattle.std.specs.Prelude.{ℕ, ◌≡◌, Bool, true, cond, ◌&&◌, ◌||◌, List, eqb, leb, drop, Option, Some, None}
 use Rattle.folding.specs.Folding.{equal_bytes}
@@ -7,6 +7,8 @@ use Rattle.kinds.specs.Kinds.{number_of}
 use Rattle.entries.specs.declared.Entry.{Entry}
 use Rattle.contents.specs.Contents.{content_bytes}
 use Rattle.amounts.specs.Exact.{Kept}
+use Rattle.number_cases.specs.declared.Case.{Case}
+use Rattle.number_cases.specs.declared.Case.TheVariants.{Same, Different}
 use Rattle.number_cases.specs.Numbers.{numbers_case}
 
 -- numbers are kinds 14 and 15; texts 10 to 13, and 21
@@ -20,14 +22,17 @@ is_text k = (leb 10 k && leb k 13) || eqb k 21
 unfoldable pub unmarked : ℕ → List ℕ → List ℕ
 unmarked k c = cond (eqb k 21) (drop 1 c) c
 
--- values that are not both numbers
-unfoldable pub others_case : ℕ → ℕ → List ℕ → List ℕ → ℕ
-others_case k j c d = cond (cond (is_text k && is_text j) (equal_bytes (unmarked k c) (unmarked j d)) (eqb k j)) 0 3
+-- whether values that are not both numbers are the same
+unfoldable pub agree : ℕ → ℕ → List ℕ → List ℕ → Bool
+agree k j c d = cond (is_text k && is_text j) (equal_bytes (unmarked k c) (unmarked j d)) (eqb k j)
+
+unfoldable pub others_case : ℕ → ℕ → List ℕ → List ℕ → Case
+others_case k j c d = cond (agree k j c d) Same Different
 
 -- two records, with their areas
-unfoldable pub case_of : List ℕ → List ℕ → Option Entry → Option Entry → ℕ
-case_of ar ar' None e = 3
-case_of ar ar' (Some e) None = 3
+unfoldable pub case_of : List ℕ → List ℕ → Option Entry → Option Entry → Case
+case_of ar ar' None e = Different
+case_of ar ar' (Some e) None = Different
 case_of ar ar' (Some e) (Some x) =
     cond (is_number (number_of e.kind) && is_number (number_of x.kind))
     (numbers_case (number_of e.kind) (number_of x.kind) e.fields.parts x.fields.parts)

@@ -1,131 +1,102 @@
 // What two values are to each other.
 #![tactic(auto)]
 
-ghost use Rattle.std.specs.Prelude.{◌≡◌, ◌+◌, ◌≤◌, ◌&&◌};
+ghost use Rattle.std.specs.Prelude.{◌≡◌, ◌&&◌};
 ghost use Rattle.text.specs.Parts.{part};
+ghost use Rattle.kinds.specs.Kinds.{number_of};
 ghost use Rattle.entries.specs.Entries.{entry_at};
 ghost use Rattle.names.specs.Parts.{Inside};
-ghost use Rattle.cases.specs.Cases.{is_number, is_text, others_case, case_of, Orderly};
+ghost use Rattle.cases.specs.Cases.{is_number, is_text, agree, case_of, Orderly};
 ghost use Rattle.cases.specs.Texts.{Unmarks};
 
-use entries::Entry;
+use cells::Side;
 use kinds::Kind;
 use names::Named;
-use number_cases::{DIFFERENT, SAME};
+use number_cases::Case;
 
 // Numbers, with or without uncertainty.
-fn is_number(kind: u8) -> bool
-    ensures { result ≡ is_number kind }
+fn is_number(kind: Kind) -> bool
+    ensures { result ≡ is_number (number_of kind) }
 {
-    if kind == Kind::NUMBER {
-        return true;
-    }
-    kind == Kind::UNCERTAIN
+    matches!(kind, Kind::Number | Kind::Uncertain)
 }
 
 // Both of them.
-fn are_numbers(kind: u8, kind2: u8) -> bool
-    ensures { result ≡ (is_number kind && is_number kind2) }
+fn are_numbers(kind: Kind, kind2: Kind) -> bool
+    ensures { result ≡ (is_number (number_of kind) && is_number (number_of kind2)) }
 {
-    if !is_number(kind) {
-        return false;
-    }
-    is_number(kind2)
+    is_number(kind) && is_number(kind2)
 }
 
 // Texts, with or without marks.
-fn is_text(kind: u8) -> bool
-    ensures { result ≡ is_text kind }
+fn is_text(kind: Kind) -> bool
+    ensures { result ≡ is_text (number_of kind) }
 {
-    if kind < Kind::BARE {
-        return false;
-    }
-    if kind <= Kind::MULTILINE {
-        return true;
-    }
-    kind == Kind::QUOTED
+    matches!(
+        kind,
+        Kind::Bare | Kind::SingleQuoted | Kind::DoubleQuoted | Kind::Multiline | Kind::Quoted
+    )
 }
 
 // Both of them.
-fn are_texts(kind: u8, kind2: u8) -> bool
-    ensures { result ≡ (is_text kind && is_text kind2) }
+fn are_texts(kind: Kind, kind2: Kind) -> bool
+    ensures { result ≡ (is_text (number_of kind) && is_text (number_of kind2)) }
 {
-    if !is_text(kind) {
-        return false;
-    }
-    is_text(kind2)
+    is_text(kind) && is_text(kind2)
 }
 
 // The part of a text without marks.
-fn text_of(area: &[u8], kind: u8, x: Named) -> Named
+fn text_of(area: &[u8], kind: Kind, x: Named) -> Named
     requires { Inside area.now x }
-    ensures { Unmarks area.now kind x result }
+    ensures { Unmarks area.now (number_of kind) x result }
 {
-    if kind != Kind::QUOTED {
+    let Kind::Quoted = kind else {
         return x;
-    }
+    };
     if x.size == 0 {
         return x;
     }
     Named {
-        at: x.at,
-        number: x.number,
-        scope: x.scope,
         from: x.from + Kind::QUOTE_OPENING,
         size: x.size - Kind::QUOTE_OPENING,
+        ..x
     }
 }
 
-// The case of two values that are not both numbers.
-fn others_case(area: &[u8], kind: u8, x: Named, area2: &[u8], kind2: u8, y: Named) -> u8
+// Whether two values that are not both numbers are the same.
+fn do_agree(area: &[u8], kind: Kind, x: Named, area2: &[u8], kind2: Kind, y: Named) -> bool
     requires { Inside area.now x × Inside area2.now y }
-    ensures { result ≡ others_case kind kind2 (part area.now x.from x.size) (part area2.now y.from y.size) }
+    ensures { result ≡ agree (number_of kind) (number_of kind2) (part area.now x.from x.size) (part area2.now y.from y.size) }
 {
     if are_texts(kind, kind2) {
         let a = text_of(area, kind, x);
         let b = text_of(area2, kind2, y);
-        if equal::same_bytes(area, a.from, a.size, area2, b.from, b.size) {
-            return SAME;
-        }
-        return DIFFERENT;
+        equal::same_bytes(area, a.from, a.size, area2, b.from, b.size)
+    } else {
+        kind.number() == kind2.number()
     }
-    if kind == kind2 {
-        return SAME;
-    }
-    DIFFERENT
 }
 
 // The case of the records at two offsets.
-pub fn case_of(store: &[u8], area: &[u8], at: usize, store2: &[u8], area2: &[u8], at2: usize) -> u8
-    requires { Orderly (entry_at store.now at) × Orderly (entry_at store2.now at2) }
-    ensures { result ≡ case_of area.now area2.now (entry_at store.now at) (entry_at store2.now at2) }
+pub fn case_of(here: Side<'_>, at: usize, there: Side<'_>, at2: usize) -> Case
+    requires { Orderly (entry_at here.store.now at) × Orderly (entry_at there.store.now at2) }
+    ensures { result ≡ case_of here.entry.area.now there.entry.area.now (entry_at here.entry.store.now at) (entry_at there.entry.store.now at2) }
 {
-    let Some(
-        Entry {
-            kind,
-            fields,
-            next: _,
-        },
-    ) = entries::read_record(store, at)
-    else {
-        return DIFFERENT;
+    let Some(old) = entries::read_record(here.store, at) else {
+        return Case::Different;
     };
-    let Some(
-        Entry {
-            kind: kind2,
-            fields: fields2,
-            next: _,
-        },
-    ) = entries::read_record(store2, at2)
-    else {
-        return DIFFERENT;
+    let Some(new) = entries::read_record(there.store, at2) else {
+        return Case::Different;
     };
-    let k = kind.number();
-    let j = kind2.number();
-    if are_numbers(k, j) {
-        return number_cases::numbers_case(k, j, fields.parts, fields2.parts);
+    if are_numbers(old.kind, new.kind) {
+        let (k, j) = (old.kind.number(), new.kind.number());
+        return number_cases::numbers_case(k, j, old.fields.parts, new.fields.parts);
     }
-    let x = steps::name_at(store, area, at);
-    let y = steps::name_at(store2, area2, at2);
-    others_case(area, k, x, area2, j, y)
+    let x = steps::name_at(here.store, here.area, at);
+    let y = steps::name_at(there.store, there.area, at2);
+    if do_agree(here.area, old.kind, x, there.area, new.kind, y) {
+        Case::Same
+    } else {
+        Case::Different
+    }
 }

@@ -1,11 +1,11 @@
 -- Laws of the values of a store: what stands at a spot, and where that leads; and that each value takes 17 bytes of the store or more. Assumes nothing.
 use Prim.Native.Nat.{ℕ, zero, suc, ◌+◌, ◌-◌, ◌*◌, ◌/◌, ◌%◌, ◌≤◌, ◌<◌}
-use mathlib.Core.Path.{◌≡◌, refl, sym, ap, ◌∙◌}
+use mathlib.Core.Path.{◌≡◌, refl, sym, ap, ap₂, ◌∙◌}
 use mathlib.Core.Bool.{Bool, true, false, cond, ◌&&◌, true≢false}
 use mathlib.Core.List.{List, [], ◌∷◌}
 use native.Mathlib.Omega.{arith}
 use native.Mathlib.Numerals.{add-one}
-use native.Mathlib.Nat.{zero-mod, mod-zero, mod_self, mod-lt, mod-eq_of_lt, mod-add-mod, div-zero}
+use native.Mathlib.Nat.{zero-mod, mod-zero, mod_self, mod-lt, mod-eq_of_lt, mod-add-mod}
 use borrow.Author.Tests.{leb-true, leb-false, eqb-true, ne_eqb}
 use lib.Dec.{eqb, leb}
 use lib.ListN.{length, drop}
@@ -15,7 +15,8 @@ use Rattle.kinds.specs.declared.Kind.{Kind}
 use Rattle.kinds.specs.declared.Kind.TheVariants.{NoKind, Block, FrameOpen, FrameClose, Tag, Loop, LoopTag}
 use Rattle.kinds.specs.declared.Kind.TheVariants.{LoopEnd, Inapplicable, Unknown, Bare, SingleQuoted}
 use Rattle.kinds.specs.declared.Kind.TheVariants.{DoubleQuoted, Multiline, Number, Uncertain, Quoted}
-use Rattle.kinds.specs.Kinds.{number_of, shape_of, shape_length}
+use Rattle.kinds.specs.Kinds.{kind_of, number_of, shape_of, shape_length}
+use Rattle.kinds.proofs.Numbering.{kind-number}
 use Rattle.entries.specs.declared.Fields.{Fields}
 use Rattle.entries.specs.declared.Entry.{Entry}
 use Rattle.entries.specs.Entries.{entry_at, whole}
@@ -24,9 +25,8 @@ use Rattle.entries.proofs.Walking.{rest, rest_all, rest_over, rest-none, next-at
 use Rattle.kinds.specs.Kinds.{is_value_kind}
 use Rattle.cells.specs.declared.Here.{Here}
 use Rattle.cells.specs.declared.Found.{Found}
-use Rattle.cells.specs.declared.Leap.TheVariants.{Over, Nowhere}
-use Rattle.cells.specs.declared.Step.{Step}
-use Rattle.cells.specs.declared.Step.TheVariants.{Met, End}
+use Rattle.cells.specs.declared.Leap.{Leap}
+use Rattle.cells.specs.declared.Met.{Met}
 use Rattle.cells.specs.Cells.{Cell, Under, outset, under, cell, cells_from, cells}
 use Rattle.cells.specs.Walk.{entries_at, IsAt, under_of, cells_at, first, Placed, opened, closed, tagged, looped, counted, passed, here_after, cell_of, Lies, Finds, listed, Kept, Ahead, leap_of, count_of}
 use Rattle.cells.proofs.Offsets.{entries-rest, at_first, at_next, at-behind}
@@ -57,13 +57,6 @@ value-long Multiline e = omega arith
 value-long Number e = omega arith
 value-long Uncertain e = omega arith
 value-long Quoted e = omega arith
-
--- column and row where an item has no tags
-pub column-none : (c t : ℕ) → t ≡ 0 → c ≡ c % t
-column-none c t e = rw (e, mod-zero c)
-
-pub row-none : (c t : ℕ) → t ≡ 0 → ◌≡◌ {A = ℕ} 0 (c / t)
-row-none c t e = rw (e, div-zero c)
 
 -- the next column: the first one again behind the last
 column-next : (c t : ℕ) → (c % t + 1 ≡ t → ⊥) → (c + 1) % t ≡ c % t + 1
@@ -213,21 +206,21 @@ pub record Meets (st : List ℕ) (h : Here) (x : Found) (after : Here) : Type 0 
   pub lies : Lies st x
   pub placed : Placed st after
 
-pub met : (st : List ℕ) (h : Here) (r : Step) (x : Found) (after : Here) → Ahead st h r → r ≡ Met x after → Meets st h x after
+pub met : (st : List ℕ) (h : Here) (r : Option Met) (m : Met) → Ahead st h r → r ≡ Some m → Meets st h m.value m.after
 unfolding listed Kept
-met st h r x after a e =
-    let k : Kept st (Met x after) = rw e at a.kept in
+met st h r m a e =
+    let k : Kept st (Some m) = rw e at a.kept in
     record { values = a.values ∙ rw e; lies = k.0; placed = k.1 }
 
-pub ended : (st : List ℕ) (h : Here) (r : Step) → Ahead st h r → r ≡ End → cells_at st h ≡ []
+pub ended : (st : List ℕ) (h : Here) (r : Option Met) → Ahead st h r → r ≡ None → cells_at st h ≡ []
 unfolding listed
 ended st h r a e = a.values ∙ rw e
 
-pub ahead-end : (st : List ℕ) (h : Here) → cells_at st h ≡ [] → Ahead st h End
+pub ahead-end : (st : List ℕ) (h : Here) → cells_at st h ≡ [] → Ahead st h None
 unfolding listed Kept
 ahead-end st h e = record { values = e; kept = tt }
 
-pub ahead-met : (st : List ℕ) (h : Here) (x : Found) (after : Here) → cells_at st h ≡ cell_of x ∷ cells_at st after → Lies st x → Placed st after → Ahead st h (Met x after)
+pub ahead-met : (st : List ℕ) (h : Here) (x : Found) (after : Here) → cells_at st h ≡ cell_of x ∷ cells_at st after → Lies st x → Placed st after → Ahead st h (Some (record { value = x; after = after }))
 unfolding listed Kept
 ahead-met st h x after e l p = record { values = e; kept = (l, p) }
 
@@ -286,10 +279,10 @@ pub record Comes (st : List ℕ) (from h : Here) (at : ℕ) : Type 0 where
   pub values : cells_at st from ≡ cells_at st h
 
 module _ (st : List ℕ) (from h : Here) (at : ℕ) (w : Comes st from h at) where
-  pub come-over : length st ≤ at → Ahead st from End
+  pub come-over : length st ≤ at → Ahead st from None
   come-over l = ahead-end st from (w.values ∙ cells_over st h (rw w.stands l))
 
-  pub come-none : at < length st → entry_at st at ≡ None → Ahead st from End
+  pub come-none : at < length st → entry_at st at ≡ None → Ahead st from None
   come-none l e = ahead-end st from (w.values ∙ cells-none st h (rw w.stands l) (rw w.stands e))
 
   -- no more records than bytes
@@ -308,7 +301,7 @@ module _ (st : List ℕ) (from h : Here) (at : ℕ) (w : Comes st from h at) whe
 
     pub come-value :
         is_value_kind (number_of k) ≡ true → (x : Found) → Finds st h x → (name : ℕ) → entries_at st name ≡ drop ((h.count + 1) % h.tags) (entries_at st h.from) →
-        Ahead st from (Met x (counted next name h))
+        Ahead st from (Some (record { value = x; after = counted next name h }))
     come-value q x f' name n =
         ahead-met st from x (counted next name h) (w.values ∙ cells-value st h k f next inside here name q ∙ ap (λ (c : Cell). c ∷ cells_at st (counted next name h)) (sym f'.value)) f'.lies
         (placed-value st h k f next inside here name n w.placed)
@@ -322,28 +315,26 @@ module _ (st : List ℕ) (from h : Here) (at : ℕ) (w : Comes st from h at) whe
         }
 
 -- what a leap tells of the record
-pub record Leapt (e : Option Entry) (n next : ℕ) : Type 0 where
-  pub kind : Kind
+pub record Leapt (e : Option Entry) (l : Leap) : Type 0 where
   pub fields : Fields
-  pub is : e ≡ whole kind fields next
-  pub number : number_of kind ≡ n
+  pub is : e ≡ whole l.kind fields l.next
 
-pub leapt : (e : Option Entry) (n next : ℕ) → leap_of e ≡ Over n next → Leapt e n next
+pub leapt : (e : Option Entry) (l : Leap) → leap_of e ≡ Some l → Leapt e l
 unfolding leap_of
-leapt (Some e) n next q =
-    let a : number_of e.kind ≡ n = cc in
-    let b : e.next ≡ next = cc in
-    record { kind = e.kind; fields = e.fields; is = ap (λ (z : ℕ). whole e.kind e.fields z) b; number = a }
-leapt None n next q =
-    let z : ◌≡◌ {A = ℕ} 0 1 = cc in
-    absurd (omega arith)
+leapt (Some e) l q =
+    let a : e.kind ≡ l.kind = cc in
+    let b : e.next ≡ l.next = cc in
+    record { fields = e.fields; is = ap₂ (λ (k : Kind) (n : ℕ). whole k e.fields n) a b }
+leapt None l q = cc
 
-pub leapt-none : (e : Option Entry) → leap_of e ≡ Nowhere → e ≡ None
+pub leapt-none : (e : Option Entry) → leap_of e ≡ None → e ≡ None
 unfolding leap_of
-leapt-none (Some e) q =
-    let z : ◌≡◌ {A = ℕ} 0 1 = cc in
-    absurd (omega arith)
+leapt-none (Some e) q = cc
 leapt-none None q = refl
+
+-- kinds that are not the same have other numbers
+pub other-number : (k j : Kind) → (k ≡ j → ⊥) → eqb (number_of k) (number_of j) ≡ false
+other-number k j d = ne_eqb (number_of k) (number_of j) (λ e. d (sym (kind-number k) ∙ ap kind_of e ∙ kind-number j))
 
 -- tags count for loops alone
 counts-loop : (k n next : ℕ) (h : Here) → here_after k (cond (eqb k 5) n 0) next h ≡ here_after k n next h
@@ -357,6 +348,6 @@ counts-loop k n next h = by (eqb k 5)
     by true = refl
     by false = refl
 
-pub after-leap : (e : Option Entry) (n next : ℕ) (l : Leapt e n next) (h : Here) → here_after n (cond (eqb n 5) (count_of e) 0) next h ≡ here_after (number_of l.kind) l.fields.number next h
+pub after-leap : (e : Option Entry) (l : Leap) (t : Leapt e l) (h : Here) → here_after (number_of l.kind) (cond (eqb (number_of l.kind) 5) (count_of e) 0) l.next h ≡ here_after (number_of l.kind) t.fields.number l.next h
 unfolding count_of
-after-leap e n next l h = counts-loop n (count_of e) next h ∙ rw (l.is, ← l.number)
+after-leap e l t h = counts-loop (number_of l.kind) (count_of e) l.next h ∙ rw t.is

@@ -1,14 +1,11 @@
 -- How the values of a store are walked: a spot and a value found have numbers of records and, beside each, the offset where that record stands. Assumes nothing.
 use Rattle.std.specs.Prelude.{ℕ, ◌+◌, ◌%◌, ◌≤◌, ◌≡◌, cond, List, [], ◌∷◌, eqb, drop, Option, Some, None}
-use Rattle.kinds.specs.Kinds.{number_of}
 use Rattle.entries.specs.declared.Entry.{Entry}
 use Rattle.entries.specs.Walk.{entries_from, entries}
 use Rattle.cells.specs.declared.Here.{Here}
 use Rattle.cells.specs.declared.Found.{Found}
 use Rattle.cells.specs.declared.Leap.{Leap}
-use Rattle.cells.specs.declared.Leap.TheVariants.{Over, Nowhere}
-use Rattle.cells.specs.declared.Step.{Step}
-use Rattle.cells.specs.declared.Step.TheVariants.{Met, End}
+use Rattle.cells.specs.declared.Met.{Met}
 use Rattle.cells.specs.Cells.{Cell, Under, cell, cells_from}
 
 -- the entries from an offset on
@@ -81,23 +78,23 @@ pub record Finds (st : List ℕ) (h : Here) (x : Found) : Type 0 where
   pub lies : Lies st x
 
 -- the values that a step tells: the one met and those behind it, or none
-unfoldable pub listed : List ℕ → Step → List Cell
-listed st (Met x after) = cell_of x ∷ cells_at st after
-listed st End = []
+unfoldable pub listed : List ℕ → Option Met → List Cell
+listed st (Some m) = cell_of m.value ∷ cells_at st m.after
+listed st None = []
 
-unfoldable pub Kept : List ℕ → Step → Type 0
-Kept st (Met x after) = Lies st x × Placed st after
-Kept st End = Unit
+unfoldable pub Kept : List ℕ → Option Met → Type 0
+Kept st (Some m) = Lies st m.value × Placed st m.after
+Kept st None = Unit
 
 -- a step from a spot to the next value
-pub record Ahead (st : List ℕ) (h : Here) (r : Step) : Type 0 where
+pub record Ahead (st : List ℕ) (h : Here) (r : Option Met) : Type 0 where
   pub values : cells_at st h ≡ listed st r
   pub kept : Kept st r
 
 -- what is read of a record that is passed over
-unfoldable pub leap_of : Option Entry → Leap
-leap_of (Some e) = Over (number_of e.kind) e.next
-leap_of None = Nowhere
+unfoldable pub leap_of : Option Entry → Option Leap
+leap_of (Some e) = Some (record { kind = e.kind; next = e.next })
+leap_of None = None
 
 -- how many tags a record counts, if it is a loop's
 unfoldable pub count_of : Option Entry → ℕ

@@ -2,11 +2,18 @@
 #![tactic(auto)]
 
 ghost use Rattle.std.specs.Prelude.{◌≡◌, cond, ◌+◌, ◌/◌, ◌%◌, ◌<◌, ◌^◌, eqb, drop};
+ghost use Rattle.kinds.specs.Kinds.{number_of};
 ghost use Rattle.entries.specs.Entries.{entry_at};
 ghost use Rattle.cells.specs.Walk.{entries_at, Placed, Finds, Ahead, here_after, first, leap_of, count_of};
 
-use entries::Entry;
 use kinds::Kind;
+
+// A store with its area.
+#[derive(Clone, Copy)]
+pub struct Side<'a> {
+    pub store: &'a [u8],
+    pub area: &'a [u8],
+}
 
 // Where a walk stands: a record, the frame it stands in, the first tag of its item, each by number and offset; how many
 // tags that has, how many of its values stand before, and the offset of the tag that the next one has.
@@ -35,18 +42,18 @@ pub struct Found {
     pub row: usize,
 }
 
-// A step of the walk: the next value, and the spot behind it.
+// The value that a walk comes to, and the spot behind it.
 #[derive(Clone, Copy)]
-pub enum Step {
-    Met { value: Found, after: Here },
-    End,
+pub struct Met {
+    pub value: Found,
+    pub after: Here,
 }
 
-// A record that is passed over.
+// A record that is passed over: its kind, and where the next one starts.
 #[derive(Clone, Copy)]
-enum Leap {
-    Over { kind: u8, next: usize },
-    Nowhere,
+struct Leap {
+    kind: Kind,
+    next: usize,
 }
 
 // The spot of the first record.
@@ -70,74 +77,56 @@ pub fn start() -> Here
 fn column_of(count: usize, tags: usize) -> usize
     ensures { result ≡ count % tags }
 {
-    if tags == 0 {
-        return count;
-    }
-    count % tags
+    count.checked_rem(tags).unwrap_or(count)
 }
 
 // Its row.
 fn row_of(count: usize, tags: usize) -> usize
     ensures { result ≡ count / tags }
 {
-    if tags == 0 {
-        return 0;
-    }
-    count / tags
+    count.checked_div(tags).unwrap_or(0)
 }
 
-// The record at an offset: its kind, and where the next one starts. Its fields are not read, as most are passed over.
-fn leap_from(store: &[u8], at: usize) -> Leap
+// The leap over the record at an offset. Its fields are not read, as most are passed over.
+fn leap_from(store: &[u8], at: usize) -> Option<Leap>
     ensures { result ≡ leap_of (entry_at store.now at) }
 {
-    if store.len() <= at {
-        return Leap::Nowhere;
-    }
-    let kind = Kind::of(store[at]);
-    let number = kind.number();
-    if number == 0 {
-        return Leap::Nowhere;
+    let kind = Kind::of(*store.get(at)?);
+    if kind.number() == 0 {
+        return None;
     }
     let body = at + 1;
-    let shape = kind.shape();
-    let length = shape.length();
+    let length = kind.shape().length();
     if store.len() - body < length {
-        return Leap::Nowhere;
+        return None;
     }
-    Leap::Over {
-        kind: number,
+    Some(Leap {
+        kind,
         next: body + length,
-    }
+    })
 }
 
 // The offset of the record behind the one at an offset; the store's end where there is none.
 fn record_behind(store: &[u8], at: usize) -> usize
     ensures { entries_at store.now result ≡ drop 1 (entries_at store.now at) }
 {
-    let Leap::Over { kind: _, next } = leap_from(store, at) else {
-        return store.len();
-    };
-    next
+    match leap_from(store, at) {
+        Some(leap) => leap.next,
+        None => store.len(),
+    }
 }
 
 // How many tags the record at an offset counts, where it is a loop's; any other counts none.
-fn tags_at(store: &[u8], at: usize, kind: u8) -> usize
-    ensures { result ≡ cond (eqb kind 5) (count_of (entry_at store.now at)) 0 }
+fn tags_at(store: &[u8], at: usize, kind: Kind) -> usize
+    ensures { result ≡ cond (eqb (number_of kind) 5) (count_of (entry_at store.now at)) 0 }
 {
-    if kind != Kind::LOOP {
-        return 0;
-    }
-    let Some(
-        Entry {
-            kind: _,
-            fields,
-            next: _,
-        },
-    ) = entries::read_record(store, at)
-    else {
+    let Kind::Loop = kind else {
         return 0;
     };
-    fields.number as usize
+    match entries::read_record(store, at) {
+        Some(entry) => entry.fields.number as usize,
+        None => 0,
+    }
 }
 
 // The value at a spot.
@@ -170,64 +159,69 @@ fn tag_behind(store: &[u8], here: Here) -> usize
 }
 
 // The spot behind a record that is no value.
-fn behind(here: Here, kind: u8, tags: usize, next: usize) -> Here
+fn behind(here: Here, kind: Kind, tags: usize, next: usize) -> Here
     requires { here.number + 1 < 2 ^ 64 }
-    ensures { result ≡ here_after kind tags next here }
+    ensures { result ≡ here_after (number_of kind) tags next here }
 {
-    let mut after = here;
-    after.at = next;
-    after.number = here.number + 1;
-    if kind == Kind::FRAME_OPEN {
-        after.frame = here.number;
-        after.outer = here.at;
-        return after;
+    let passed = Here {
+        at: next,
+        number: here.number + 1,
+        ..here
+    };
+    match kind {
+        Kind::FrameOpen => Here {
+            frame: here.number,
+            outer: here.at,
+            ..passed
+        },
+        Kind::FrameClose => Here {
+            frame: 0,
+            outer: 0,
+            ..passed
+        },
+        Kind::Tag => Here {
+            header: here.number,
+            from: here.at,
+            tags: 1,
+            count: 0,
+            name: here.at,
+            ..passed
+        },
+        Kind::Loop => Here {
+            header: here.number + 1,
+            from: next,
+            tags,
+            count: 0,
+            name: next,
+            ..passed
+        },
+        _ => passed,
     }
-    if kind == Kind::FRAME_CLOSE {
-        after.frame = 0;
-        after.outer = 0;
-        return after;
-    }
-    if kind == Kind::TAG {
-        after.header = here.number;
-        after.from = here.at;
-        after.tags = 1;
-        after.count = 0;
-        after.name = here.at;
-        return after;
-    }
-    if kind == Kind::LOOP {
-        after.header = here.number + 1;
-        after.from = next;
-        after.tags = tags;
-        after.count = 0;
-        after.name = next;
-        return after;
-    }
-    after
 }
 
 // The next value at or behind a spot.
-pub fn next_value(store: &[u8], here: Here) -> Step
+pub fn next_value(store: &[u8], here: Here) -> Option<Met>
     requires { Placed store.now here }
     ensures { Ahead store.now here result }
 {
     let mut spot = here;
     let mut at = here.at;
     while at < store.len() {
-        let Leap::Over { kind, next } = leap_from(store, at) else {
-            return Step::End;
-        };
-        if nesting::is_value(kind) {
-            let value = value_at(store, spot);
-            let mut after = spot;
-            after.at = next;
-            after.number = spot.number + 1;
-            after.count = spot.count + 1;
-            after.name = tag_behind(store, spot);
-            return Step::Met { value, after };
+        let Leap { kind, next } = leap_from(store, at)?;
+        if nesting::is_value(kind.number()) {
+            return Some(Met {
+                value: value_at(store, spot),
+                after: Here {
+                    at: next,
+                    number: spot.number + 1,
+                    count: spot.count + 1,
+                    name: tag_behind(store, spot),
+                    ..spot
+                },
+            });
         }
         spot = behind(spot, kind, tags_at(store, at, kind), next);
         at = next;
     }
-    Step::End
+    None
 }

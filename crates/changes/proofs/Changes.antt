@@ -1,13 +1,12 @@
 -- Laws of the list of changes: one entry at most for each value, so that its bytes are no more than the store's; entry by entry, counted and written. Assumes nothing.
-use Prim.Native.Nat.{ℕ, suc, ◌+◌, ◌*◌, ◌≤◌}
+use Prim.Native.Nat.{ℕ, zero, suc, ◌+◌, ◌*◌, ◌%◌, ◌≤◌, ◌<◌}
 use mathlib.Core.Path.{◌≡◌, refl, sym, ap, ◌∙◌}
 use mathlib.Core.Bool.{Bool, true, false, cond}
 use mathlib.Core.List.{List, [], ◌∷◌, ◌++◌, append_assoc, append-nil}
 use mathlib.Core.Option.{Option, none, some}
 use native.Mathlib.Omega.{arith}
-use borrow.Author.Tests.{eq-eqb, ne_eqb}
 use lib.Dec.{eqb}
-use lib.ListN.{length, length-append, take-append-drop}
+use lib.ListN.{length, set, get_or, length-append, take-append-drop}
 use Rattle.records.specs.Bytes.{le64}
 use Rattle.records.specs.Put.{front, put}
 use Rattle.records.proofs.Forms.{length-long}
@@ -19,21 +18,28 @@ use Rattle.entries.specs.Entries.{entry_at, whole}
 use Rattle.entries.specs.Walk.{entries}
 use Rattle.cells.specs.declared.Here.{Here}
 use Rattle.cells.specs.declared.Found.{Found}
-use Rattle.cells.specs.declared.Step.{Step}
-use Rattle.cells.specs.declared.Step.TheVariants.{End}
+use Rattle.cells.specs.declared.Met.{Met}
 use Rattle.cells.specs.Cells.{Cell, cells}
-use Rattle.cells.specs.Walk.{IsAt, cells_at, first, Placed, cell_of, Lies, Ahead}
+use Rattle.cells.specs.Walk.{IsAt, cells_at, first, cell_of, Lies, Ahead}
 use Rattle.cells.proofs.Offsets.{entries-rest}
 use Rattle.cells.proofs.Cells.{cells-first, placed_first, Meets, ended, cells-size}
 use Rattle.stores.specs.Content.{nth}
 use Rattle.stores.proofs.Numbered.{nth-at}
 use Rattle.cases.specs.Cases.{case_of}
-use Rattle.partners.specs.declared.Partner.{Partner}
-use Rattle.partners.specs.declared.Partner.TheVariants.{Is, Missing}
+use Rattle.number_cases.specs.declared.Case.{Case}
+use Rattle.number_cases.specs.declared.Case.TheVariants.{Same, OnlyOld, OnlyNew, Different, OldLarger, NewLarger, Uncertainty, Rewritten}
+use Rattle.number_cases.specs.Numbers.{case_number}
+use Rattle.matching.specs.declared.Sought.{Sought}
+use Rattle.matching.specs.declared.Slot.{Slot}
+use Rattle.matching.specs.Matching.{blank, Asks, Finds}
+use Rattle.matching.proofs.Matching.{remembers-first, remembers-next}
 use Rattle.partners.specs.Partners.{partner, Matched}
 use Rattle.changes.specs.declared.Change.{Change}
+use Rattle.changes.specs.declared.Walk.{Walk}
+use Rattle.changes.specs.Steps.{Comparable, bytes_at, outset, Walks, Stepped}
 use Rattle.changes.specs.Changes.{change, listed, of_old, of_new, of_side, of_all, side_of, change_bytes, changes_bytes}
 use Rattle.std.specs.Prelude.{Option as Maybe, Some, None}
+use Rattle.std.proofs.lemmas.List.{length-replicate, length-set}
 
 -- nothing put over a list leaves it as it is
 pub put-none : (at : ℕ) (l : List ℕ) → put at [] l ≡ l
@@ -41,13 +47,13 @@ unfolding put front
 put-none at l = take-append-drop at l
 
 -- an entry's bytes, field by field
-pub entry-put : (at : ℕ) (c : Change) (l : List ℕ) → at + 17 ≤ length l → put (at + 9) (le64 c.new) (put (at + 1) (le64 c.old) (put at (c.case ∷ []) l)) ≡ put at (change_bytes c) l
+pub entry-put : (at : ℕ) (c : Change) (l : List ℕ) → at + 17 ≤ length l → put (at + 9) (le64 c.new) (put (at + 1) (le64 c.old) (put at (case_number c.case ∷ []) l)) ≡ put at (change_bytes c) l
 unfolding change_bytes
 entry-put at c l h =
-    let nine : at + 9 ≡ at + length (c.case ∷ le64 c.old) = omega (arith, length-long c.old) in
-    ap (put (at + 9) (le64 c.new)) (put-more at (c.case ∷ []) (le64 c.old) l (omega arith))
-    ∙ ap (λ (n : ℕ). put n (le64 c.new) (put at (c.case ∷ le64 c.old) l)) nine
-    ∙ put-more at (c.case ∷ le64 c.old) (le64 c.new) l (omega arith)
+    let nine : at + 9 ≡ at + length (case_number c.case ∷ le64 c.old) = omega (arith, length-long c.old) in
+    ap (put (at + 9) (le64 c.new)) (put-more at (case_number c.case ∷ []) (le64 c.old) l (omega arith))
+    ∙ ap (λ (n : ℕ). put n (le64 c.new) (put at (case_number c.case ∷ le64 c.old) l)) nine
+    ∙ put-more at (case_number c.case ∷ le64 c.old) (le64 c.new) l (omega arith)
 
 -- LENGTHS
 bytes-long : (c : Change) → length (change_bytes c) ≡ 17
@@ -67,9 +73,9 @@ bytes-length (c ∷ cs) =
     let both = length-append (change_bytes c) (changes_bytes cs) in
     omega (arith, bytes-long c)
 
-change-few : (n i j : ℕ) → length (change n i j) ≤ 1
+change-few : (n : Case) (i j : ℕ) → length (change n i j) ≤ 1
 unfolding change
-change-few n i j = by (eqb n 0)
+change-few n i j = by (eqb (case_number n) 0)
   where
     one : Change
     one = record { case = n; old = i; new = j }
@@ -78,19 +84,24 @@ change-few n i j = by (eqb n 0)
     by true = omega arith
     by false = omega arith
 
-pub change-none : (c : Change) → c.case ≡ 0 → changes_bytes (listed c) ≡ []
-unfolding change changes_bytes
-change-none c e = rw (eq-eqb c.case 0 e)
+-- whatever stands for what is missing, where nothing is
+get-any : (l : List Slot) (i : ℕ) (d e : Slot) → i < length l → get_or l i d ≡ get_or l i e
+get-any [] i d e h = absurd (omega arith)
+get-any (x ∷ l) zero d e h = refl
+get-any (x ∷ l) (suc i) d e h = get-any l i d e (omega arith)
 
-pub change-one : (c : Change) → (c.case ≡ 0 → ⊥) → changes_bytes (listed c) ≡ change_bytes c
-unfolding change changes_bytes
-change-one c d = rw (ne_eqb c.case 0 d) (append-nil (change_bytes c))
-
-pub size_none : (c : Change) → c.case ≡ 0 → 0 ≡ length (changes_bytes (listed c))
-size_none c e = sym (ap length (change-none c e))
-
-pub size-one : (c : Change) → (c.case ≡ 0 → ⊥) → 17 ≡ length (changes_bytes (listed c))
-size-one c d = sym (ap length (change-one c d) ∙ bytes-long c)
+-- what a search for the partner of the next value asks
+pub asks-next :
+    (st ar st' ar' : List ℕ) → Comparable st ar st' ar' → (w : Walk) → Walks st ar st' ar' w → (x : Found) (after : Here) → Meets st w.here x after → (d : Slot) →
+    Asks st ar st' ar' x (get_or w.slots (x.tag % 128) d) w.last
+asks-next st ar st' ar' c w k x after m d =
+    let b : x.tag % 128 < length w.slots = omega (arith, k.sized) in
+    record {
+      lies = m.lies;
+      singular = c.singular;
+      claim = rw (get-any w.slots (x.tag % 128) d blank b) (k.remembers.claims (x.tag % 128));
+      reached = k.remembers.reached;
+    }
 
 module _ (old : Bool) (st ar st' ar' : List ℕ) where
   side-few : (x : Cell) → length (of_side old st ar st' ar' x) ≤ 1
@@ -98,9 +109,9 @@ module _ (old : Bool) (st ar st' ar' : List ℕ) where
   side-few x = by old (partner st ar st' ar' x) refl
     where
       by : (b : Bool) (o : Option Cell) → partner st ar st' ar' x ≡ o → length (of_side b st ar st' ar' x) ≤ 1
-      by true none q = rw q (change-few 1 x.number 0)
+      by true none q = rw q (change-few OnlyOld x.number 0)
       by true (some y) q = rw q (change-few _ _ _)
-      by false none q = rw q (change-few 2 0 x.number)
+      by false none q = rw q (change-few OnlyNew 0 x.number)
       by false (some y) q = rw q (omega arith)
 
   all-few : (xs : List Cell) → length (of_all old st ar st' ar' xs) ≤ length xs
@@ -118,111 +129,150 @@ module _ (old : Bool) (st ar st' ar' : List ℕ) where
   side-fits = omega (arith, bytes-length (of_all old st ar st' ar' (cells st)), all-few (cells st), cells-size st)
 
   -- ENTRY BY ENTRY: the bytes of the values from a spot on
-  unfoldable pub bytes_at : Here → List ℕ
-  bytes_at h = changes_bytes (of_all old st ar st' ar' (cells_at st h))
+  abbrev pub all : List ℕ
+  all = changes_bytes (side_of old st ar st' ar')
 
-  bytes-first : (h : Here) → h ≡ first → bytes_at h ≡ changes_bytes (side_of old st ar st' ar')
+  abbrev pub rest : Here → List ℕ
+  rest = bytes_at old st ar st' ar'
+
+  rest-first : rest first ≡ all
   unfolding side_of bytes_at
-  bytes-first h e = rw (e, cells-first st)
+  rest-first = rw (cells-first st)
 
-  bytes-end : (h : Here) (r : Step) → Ahead st h r → r ≡ End → bytes_at h ≡ []
+  pub rest-end : (h : Here) (r : Maybe Met) → Ahead st h r → r ≡ None → rest h ≡ []
   unfolding bytes_at of_all changes_bytes
-  bytes-end h r a e = rw (ended st h r a e)
+  rest-end h r a e = rw (ended st h r a e)
 
-  bytes_next : (h : Here) (x : Found) (after : Here) → Meets st h x after → (c : Change) → listed c ≡ of_side old st ar st' ar' (cell_of x) → bytes_at h ≡ changes_bytes (listed c) ++ bytes_at after
+  rest_next : (h : Here) (x : Found) (after : Here) → Meets st h x after → (c : Maybe Change) → listed c ≡ of_side old st ar st' ar' (cell_of x) → rest h ≡ changes_bytes (listed c) ++ rest after
   unfolding bytes_at of_all
-  bytes_next h x after m c e = rw (m.values, e) (bytes-append (of_side old st ar st' ar' (cell_of x)) (of_all old st ar st' ar' (cells_at st after)))
+  rest_next h x after m c e = rw (m.values, e) (bytes-append (of_side old st ar st' ar' (cell_of x)) (of_all old st ar st' ar' (cells_at st after)))
+
+  -- the walk's start, and behind a value
+  pub walks-first : Walks st ar st' ar' outset
+  walks-first = record { placed = placed_first st; remembers = remembers-first st ar st' ar' 128 blank first refl refl; sized = length-replicate 128 blank }
+
+  module _ (w : Walk) (k : Walks st ar st' ar' w) (x : Found) (after : Here) (m : Meets st w.here x after) (i : ℕ) (r : Sought) (f : Finds st ar st' ar' (cell_of x) r) where
+    pub walks-next : Walks st ar st' ar' (record { here = after; last = r.last; slots = set w.slots i r.slot })
+    walks-next = record { placed = m.placed; remembers = remembers-next st ar st' ar' w.slots w.last i (cell_of x) r k.remembers f; sized = length-set w.slots i r.slot ∙ k.sized }
+
+    pub rest-same : listed None ≡ of_side old st ar st' ar' (cell_of x) → rest w.here ≡ rest after
+    unfolding listed changes_bytes
+    rest-same e = rest_next w.here x after m None e
+
+    pub step-some : (from : Walk) → rest from.here ≡ rest w.here → (c : Change) → listed (Some c) ≡ of_side old st ar st' ar' (cell_of x) → Stepped old st ar st' ar' from (Some c) (record { here = after; last = r.last; slots = set w.slots i r.slot })
+    unfolding Stepped listed changes_bytes
+    step-some from q c e = (walks-next, q ∙ rest_next w.here x after m (Some c) e ∙ ap (λ (l : List ℕ). l ++ rest after) (append-nil (change_bytes c)))
+
+  pub step-none : (from w w' : Walk) → rest from.here ≡ rest w.here → (r : Maybe Met) → Ahead st w.here r → r ≡ None → Stepped old st ar st' ar' from None w'
+  unfolding Stepped
+  step-none from w w' q r a e = q ∙ rest-end w.here r a e
 
   -- counted so far, with what is left, is all
-  pub record Counts (h : Here) (total : ℕ) : Type 0 where
-    pub placed : Placed st h
-    pub sum : total + length (bytes_at h) ≡ length (changes_bytes (side_of old st ar st' ar'))
+  pub record Counts (w : Walk) (total : ℕ) : Type 0 where
+    pub walks : Walks st ar st' ar' w
+    pub sum : total + length (rest w.here) ≡ length all
 
-  pub count-first : (h : Here) → h ≡ first → Counts h 0
-  count-first h e = record { placed = rw e (placed_first st); sum = omega (arith, ap length (bytes-first h e)) }
+  pub count-first : Counts outset 0
+  count-first = record { walks = walks-first; sum = omega (arith, ap length rest-first) }
 
-  pub count-end : (h : Here) (total : ℕ) (r : Step) → Counts h total → Ahead st h r → r ≡ End → total ≡ length (changes_bytes (side_of old st ar st' ar'))
-  count-end h total r k a e = omega (arith, k.sum, ap length (bytes-end h r a e))
+  pub count-end : (w w' : Walk) (total : ℕ) (r : Maybe Change) → Counts w total → Stepped old st ar st' ar' w r w' → r ≡ None → total ≡ length all
+  unfolding Stepped
+  count-end w w' total r k s e = let z : rest w.here ≡ [] = rw e at s in omega (arith, k.sum, ap length z)
 
-  module _ (h : Here) (x : Found) (after : Here) (m : Meets st h x after) (c : Change) (e : listed c ≡ of_side old st ar st' ar' (cell_of x)) where
-    parted : length (bytes_at h) ≡ length (changes_bytes (listed c)) + length (bytes_at after)
-    parted = ap length (bytes_next h x after m c e) ∙ length-append (changes_bytes (listed c)) (bytes_at after)
+  module _ (w w' : Walk) (c : Change) (s : Stepped old st ar st' ar' w (Some c) w') where
+    -- an entry takes its 17 bytes of what is left
+    pub stepped-less : length (rest w.here) ≡ 17 + length (rest w'.here)
+    unfolding Stepped
+    stepped-less = ap length s.1 ∙ length-append (change_bytes c) (rest w'.here) ∙ ap (λ (n : ℕ). n + length (rest w'.here)) (bytes-long c)
 
-    pub count-within : (total n : ℕ) → Counts h total → n ≡ length (changes_bytes (listed c)) → total + n ≤ length st
-    count-within total n k q = omega (arith, k.sum, parted, side-fits)
+    stepped-walks : Walks st ar st' ar' w'
+    unfolding Stepped
+    stepped-walks = s.0
 
-    pub count_next : (total n : ℕ) → Counts h total → n ≡ length (changes_bytes (listed c)) → Counts after (total + n)
-    count_next total n k q = record { placed = m.placed; sum = omega (arith, k.sum, parted) }
+    stepped-rest : rest w.here ≡ change_bytes c ++ rest w'.here
+    unfolding Stepped
+    stepped-rest = s.1
+
+    pub count-within : (total : ℕ) → Counts w total → total + 17 ≤ length st
+    count-within total k = omega (arith, k.sum, stepped-less, side-fits)
+
+    pub count_next : (total : ℕ) → Counts w total → Counts w' (total + 17)
+    count_next total k = record { walks = stepped-walks; sum = omega (arith, k.sum, stepped-less) }
 
   -- written so far, with what is left, is all
-  pub record Writes (from : ℕ) (l₀ l : List ℕ) (h : Here) (at : ℕ) : Type 0 where
-    pub placed : Placed st h
+  pub record Writes (from : ℕ) (l₀ l : List ℕ) (w : Walk) (at : ℕ) : Type 0 where
+    pub walks : Walks st ar st' ar' w
     pub done : List ℕ
     pub stands : at ≡ from + length done
     pub holds : l ≡ put from done l₀
-    pub whole : done ++ bytes_at h ≡ changes_bytes (side_of old st ar st' ar')
-    pub room : from + length (changes_bytes (side_of old st ar st' ar')) ≤ length l₀
+    pub whole : done ++ rest w.here ≡ all
+    pub room : from + length all ≤ length l₀
 
-  pub write-first : (from : ℕ) (l : List ℕ) (h : Here) → h ≡ first → from + length (changes_bytes (side_of old st ar st' ar')) ≤ length l → Writes from l l h from
-  write-first from l h e r = record { placed = rw e (placed_first st); done = []; stands = omega arith; holds = sym (put-none from l); whole = bytes-first h e; room = r }
+  pub write-first : (from : ℕ) (l : List ℕ) → from + length all ≤ length l → Writes from l l outset from
+  write-first from l r = record { walks = walks-first; done = []; stands = omega arith; holds = sym (put-none from l); whole = rest-first; room = r }
 
-  pub write-length : (from : ℕ) (l₀ l : List ℕ) (h : Here) (at : ℕ) → Writes from l₀ l h at → length l ≡ length l₀
-  write-length from l₀ l h at w = ap length w.holds ∙ length-put from w.done l₀ (omega (arith, length-append w.done (bytes_at h), ap length w.whole, w.room))
+  pub write-length : (from : ℕ) (l₀ l : List ℕ) (w : Walk) (at : ℕ) → Writes from l₀ l w at → length l ≡ length l₀
+  write-length from l₀ l w at k = ap length k.holds ∙ length-put from k.done l₀ (omega (arith, length-append k.done (rest w.here), ap length k.whole, k.room))
 
-  pub write-end : (from : ℕ) (l₀ l : List ℕ) (h : Here) (at : ℕ) (r : Step) → Writes from l₀ l h at → Ahead st h r → r ≡ End → l ≡ put from (changes_bytes (side_of old st ar st' ar')) l₀
-  write-end from l₀ l h at r w a e = w.holds ∙ ap (λ (d : List ℕ). put from d l₀) (sym (append-nil w.done) ∙ ap (λ (b : List ℕ). w.done ++ b) (sym (bytes-end h r a e)) ∙ w.whole)
+  pub write-end : (from : ℕ) (l₀ l : List ℕ) (w w' : Walk) (at : ℕ) (r : Maybe Change) → Writes from l₀ l w at → Stepped old st ar st' ar' w r w' → r ≡ None → l ≡ put from all l₀
+  unfolding Stepped
+  write-end from l₀ l w w' at r k s e =
+      let z : rest w.here ≡ [] = rw e at s in
+      k.holds ∙ ap (λ (d : List ℕ). put from d l₀) (sym (append-nil k.done) ∙ ap (λ (b : List ℕ). k.done ++ b) (sym z) ∙ k.whole)
 
-  module _ (from : ℕ) (l₀ l : List ℕ) (h : Here) (at : ℕ) (w : Writes from l₀ l h at) (x : Found) (after : Here) (m : Meets st h x after) (c : Change) (e : listed c ≡ of_side old st ar st' ar' (cell_of x)) where
-    so_far : length w.done + (length (changes_bytes (listed c)) + length (bytes_at after)) ≡ length (changes_bytes (side_of old st ar st' ar'))
-    so_far = ap (λ (n : ℕ). length w.done + n) (sym (parted h x after m c e)) ∙ sym (length-append w.done (bytes_at h)) ∙ ap length w.whole
+  module _ (from : ℕ) (l₀ l : List ℕ) (w : Walk) (at : ℕ) (k : Writes from l₀ l w at) (w' : Walk) (c : Change) (s : Stepped old st ar st' ar' w (Some c) w') where
+    so_far : length k.done + (17 + length (rest w'.here)) ≡ length all
+    so_far = ap (λ (n : ℕ). length k.done + n) (sym (stepped-less w w' c s)) ∙ sym (length-append k.done (rest w.here)) ∙ ap length k.whole
 
-    -- as long as it was
-    kept : length l ≡ length l₀
-    kept = ap length w.holds ∙ length-put from w.done l₀ (omega (arith, so_far, w.room))
+    pub write-room : at + 17 ≤ length l
+    write-room = omega (arith, so_far, k.room, k.stands, write-length from l₀ l w at k)
 
-    pub write-within : (n : ℕ) → n ≡ length (changes_bytes (listed c)) → at + n ≤ length l₀
-    write-within n q = omega (arith, so_far, w.room, w.stands)
-
-    pub write-room : at + length (changes_bytes (listed c)) ≤ length l
-    write-room = omega (arith, so_far, w.room, w.stands, kept)
-
-    pub write-next : (l' : List ℕ) (n : ℕ) → l' ≡ put at (changes_bytes (listed c)) l → n ≡ length (changes_bytes (listed c)) → Writes from l₀ l' after (at + n)
-    write-next l' n p q =
+    pub write-next : (l' : List ℕ) → l' ≡ put at (change_bytes c) l → Writes from l₀ l' w' (at + 17)
+    write-next l' p =
         record {
-          placed = m.placed;
-          done = w.done ++ changes_bytes (listed c);
-          stands = omega (arith, w.stands, length-append w.done (changes_bytes (listed c)));
-          holds =
-              p ∙ ap (λ (i : ℕ). put i (changes_bytes (listed c)) l) w.stands ∙ ap (put (from + length w.done) (changes_bytes (listed c))) w.holds
-              ∙ put-more from w.done (changes_bytes (listed c)) l₀ (omega (arith, so_far, w.room));
-          whole = append_assoc w.done (changes_bytes (listed c)) (bytes_at after) ∙ ap (λ (b : List ℕ). w.done ++ b) (sym (bytes_next h x after m c e)) ∙ w.whole;
-          room = w.room;
+          walks = stepped-walks w w' c s;
+          done = k.done ++ change_bytes c;
+          stands = omega (arith, k.stands, length-append k.done (change_bytes c), bytes-long c);
+          holds = p ∙ ap (λ (i : ℕ). put i (change_bytes c) l) k.stands ∙ ap (put (from + length k.done) (change_bytes c)) k.holds ∙ put-more from k.done (change_bytes c) l₀ (omega (arith, so_far, k.room, bytes-long c));
+          whole = append_assoc k.done (change_bytes c) (rest w'.here) ∙ ap (λ (b : List ℕ). k.done ++ b) (sym (stepped-rest w w' c s)) ∙ k.whole;
+          room = k.room;
         }
 
 -- ONE VALUE
-module _ (st ar st' ar' : List ℕ) (x : Found) (r : Partner) (o : Matched st' r (partner st ar st' ar' (cell_of x))) where
-  pub old-missing : r ≡ Missing → listed (record { case = 1; old = x.number; new = 0 }) ≡ of_side true st ar st' ar' (cell_of x)
-  unfolding of_side of_old Matched
+other-same : (c : Case) → (c ≡ Same → ⊥) → eqb (case_number c) 0 ≡ false
+unfolding case_number
+other-same Same d = absurd (d refl)
+other-same OnlyOld d = refl
+other-same OnlyNew d = refl
+other-same Different d = refl
+other-same OldLarger d = refl
+other-same NewLarger d = refl
+other-same Uncertainty d = refl
+other-same Rewritten d = refl
+
+module _ (st ar st' ar' : List ℕ) (x : Found) (r : Maybe Found) (o : Matched st' r (partner st ar st' ar' (cell_of x))) where
+  pub old-missing : r ≡ None → listed (Some (record { case = OnlyOld; old = x.number; new = 0 })) ≡ of_side true st ar st' ar' (cell_of x)
+  unfolding of_side of_old Matched listed change case_number
   old-missing e =
-      let n : Matched st' Missing (partner st ar st' ar' (cell_of x)) = rw e at o in
+      let n : Matched st' None (partner st ar st' ar' (cell_of x)) = rw e at o in
       rw n
 
-  pub new-missing : r ≡ Missing → listed (record { case = 2; old = 0; new = x.number }) ≡ of_side false st ar st' ar' (cell_of x)
-  unfolding of_side of_new Matched
+  pub new-missing : r ≡ None → listed (Some (record { case = OnlyNew; old = 0; new = x.number })) ≡ of_side false st ar st' ar' (cell_of x)
+  unfolding of_side of_new Matched listed change case_number
   new-missing e =
-      let n : Matched st' Missing (partner st ar st' ar' (cell_of x)) = rw e at o in
+      let n : Matched st' None (partner st ar st' ar' (cell_of x)) = rw e at o in
       rw n
 
-  module _ (y : Found) (e : r ≡ Is y) where
-    is-partner : Matched st' (Is y) (partner st ar st' ar' (cell_of x))
+  module _ (y : Found) (e : r ≡ Some y) where
+    is-partner : Matched st' (Some y) (partner st ar st' ar' (cell_of x))
     is-partner = rw e at o
 
     pub partner-lies : Lies st' y
     unfolding Matched
     partner-lies = is-partner.1
 
-    pub new_is : listed (record { case = 0; old = 0; new = 0 }) ≡ of_side false st ar st' ar' (cell_of x)
-    unfolding of_side of_new Matched change
+    pub new_is : listed None ≡ of_side false st ar st' ar' (cell_of x)
+    unfolding of_side of_new Matched listed
     new_is = rw is-partner.0
 
     any-end : (u v : List ℕ) (e' : Maybe Entry) (k : Kind) (f : Fields) (n m : ℕ) → case_of u v (whole k f n) e' ≡ case_of u v (whole k f m) e'
@@ -241,6 +291,14 @@ module _ (st ar st' ar' : List ℕ) (x : Found) (r : Partner) (o : Matched st' r
         nth-at (λ (z : Maybe Entry). case_of ar ar' z (entry_at st' y.at)) (any-end ar ar' (entry_at st' y.at)) st x.at x.number (sym (entries-rest st x.at) ∙ l.here)
         ∙ nth-at (case_of ar ar' (nth (entries st) x.number)) (any-other ar ar' (nth (entries st) x.number)) st' y.at y.number (sym (entries-rest st' y.at) ∙ partner-lies.here)
 
-    pub old-is : (c : ℕ) → Lies st x → c ≡ case_of ar ar' (entry_at st x.at) (entry_at st' y.at) → listed (record { case = c; old = x.number; new = y.number }) ≡ of_side true st ar st' ar' (cell_of x)
+    old-by : (c : Case) → Lies st x → c ≡ case_of ar ar' (entry_at st x.at) (entry_at st' y.at) → change c x.number y.number ≡ of_side true st ar st' ar' (cell_of x)
     unfolding of_side of_old Matched
-    old-is c l q = rw is-partner.0 (ap (λ (n : ℕ). change n x.number y.number) (q ∙ case-by l))
+    old-by c l q = rw is-partner.0 (ap (λ (n : Case). change n x.number y.number) (q ∙ case-by l))
+
+    pub old-same : (c : Case) → c ≡ Same → Lies st x → c ≡ case_of ar ar' (entry_at st x.at) (entry_at st' y.at) → listed None ≡ of_side true st ar st' ar' (cell_of x)
+    unfolding listed change case_number
+    old-same c d l q = old-by Same l (sym d ∙ q)
+
+    pub old-is : (c : Case) → (c ≡ Same → ⊥) → Lies st x → c ≡ case_of ar ar' (entry_at st x.at) (entry_at st' y.at) → listed (Some (record { case = c; old = x.number; new = y.number })) ≡ of_side true st ar st' ar' (cell_of x)
+    unfolding listed change
+    old-is c d l q = sym (rw (other-same c d)) ∙ old-by c l q

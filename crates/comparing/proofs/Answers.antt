@@ -2,10 +2,10 @@
 use Prim.Native.Nat.{ℕ, ◌+◌, ◌≤◌, ◌<◌}
 use mathlib.Core.Path.{◌≡◌, refl, sym, ap, ap₂, ◌∙◌}
 use mathlib.Core.Bool.{Bool, true, false, cond, ◌&&◌}
-use mathlib.Core.List.{List, [], ◌++◌}
+use mathlib.Core.List.{List, ◌++◌}
 use native.Mathlib.Omega.{arith}
 use borrow.Author.Tests.{le-leb, lt-leb}
-use lib.Dec.{leb, ltb}
+use lib.Dec.{ltb}
 use lib.ListN.{length, length-append}
 use Rattle.text.proofs.Bools.{and_l, and_r}
 use Rattle.rules.specs.declared.Reading.{Reading}
@@ -20,9 +20,11 @@ use Rattle.frames.specs.Frames.{frames, earlier, first_twice, is_single}
 use Rattle.soles.specs.Singular.{Singular}
 use Rattle.soles.proofs.Singular.{singular}
 use Rattle.changes.specs.Changes.{changes, side_of, changes_bytes}
+use Rattle.changes.specs.Steps.{Comparable}
 use Rattle.changes.proofs.Changes.{bytes-append, side-fits}
-use Rattle.comparing.specs.declared.Comparing.{Comparing}
-use Rattle.comparing.specs.declared.Comparing.TheVariants.{Compared, Unsound, Twice, NoRoom}
+use Rattle.std.specs.Prelude.{Result, Ok, Err}
+use Rattle.comparing.specs.declared.CompareError.{CompareError}
+use Rattle.comparing.specs.declared.CompareError.TheVariants.{NotSound as Unsound, Repeated as Twice, NoRoom}
 use Rattle.comparing.specs.Comparing.{bytes_of, judged, refusal_of, fitted, answered, comparing, list_after, Compares}
 use Rattle.comparing.specs.Steps.{earlier_of, Writes}
 
@@ -128,11 +130,11 @@ module _ (st ar st' ar' : List ℕ) where
     pub needs-within : a + b ≤ length st + length st'
     needs-within = omega (arith, side-fits true st ar st' ar', side-fits false st' ar' st ar)
 
-    pub lacks-room : (l : List ℕ) → length l < a + b → Writes st ar st' ar' l (NoRoom (a + b)) l
+    pub lacks-room : (l : List ℕ) → length l < a + b → Writes st ar st' ar' l (Err (NoRoom (a + b))) l
     unfolding fitted list_after
     lacks-room l h = record { answers = rw (← needs, lt-leb (a + b) (length l) h); list = refl }
 
-    pub has_room : (l l' l'' : List ℕ) → a + b ≤ length l → l' ≡ put 0 (changes_bytes (side_of true st ar st' ar')) l → l'' ≡ put a (changes_bytes (side_of false st' ar' st ar)) l' → Writes st ar st' ar' l (Compared (a + b)) l''
+    pub has_room : (l l' l'' : List ℕ) → a + b ≤ length l → l' ≡ put 0 (changes_bytes (side_of true st ar st' ar')) l → l'' ≡ put a (changes_bytes (side_of false st' ar' st ar)) l' → Writes st ar st' ar' l (Ok (a + b)) l''
     unfolding fitted list_after
     has_room l l' l'' h e f =
         record {
@@ -150,22 +152,24 @@ module _ (st ar st' ar' : List ℕ) where
 
 -- THE ANSWER
 module _ (r : Reading) (st ar st' ar' l : List ℕ) (n : Naming) (e : n ≡ refusal_of (judged r st ar) (judged r st' ar')) where
-  pub compared-unsound : n ≡ NotSound → Compares r st ar st' ar' l Unsound l
+  pub compared-unsound : n ≡ NotSound → Compares r st ar st' ar' l (Err Unsound) l
   unfolding comparing answered list_after
   compared-unsound q = record { answers = rw (← e, q); list = refl }
 
-  pub compared-twice : (i j : ℕ) → n ≡ Repeated i j → Compares r st ar st' ar' l (Twice i j) l
+  pub compared-twice : (i j : ℕ) → n ≡ Repeated i j → Compares r st ar st' ar' l (Err (Twice i j)) l
   unfolding comparing answered list_after
   compared-twice i j q = record { answers = rw (← e, q); list = refl }
 
-  pub compared-list : (c : Comparing) (l' : List ℕ) → n ≡ Distinct → Writes st ar st' ar' l c l' → Compares r st ar st' ar' l c l'
+  pub compared-list : (c : Result ℕ CompareError) (l' : List ℕ) → n ≡ Distinct → Writes st ar st' ar' l c l' → Compares r st ar st' ar' l c l'
   unfolding comparing answered
   compared-list c l' q w = record { answers = w.answers ∙ rw (← e, q); list = w.list }
 
   both-distinct : n ≡ Distinct → (judged r st ar ≡ Distinct) × (judged r st' ar' ≡ Distinct)
   both-distinct q = refusal-none (judged r st ar) (judged r st' ar') (sym e ∙ q)
 
-  pub both-ready : n ≡ Distinct → (sound r st ar ≡ true) × (sound r st' ar' ≡ true) × Singular st ar × Singular st' ar'
+  pub both-ready : n ≡ Distinct → Comparable st ar st' ar' × Comparable st' ar' st ar
   both-ready q =
       let d = both-distinct q in
-      (judged-sound r st ar d.0, judged-sound r st' ar' d.1, judged-singular r st ar d.0, judged-singular r st' ar' d.1)
+      let s = judged-sound r st ar d.0 in
+      let s' = judged-sound r st' ar' d.1 in
+      (record { reading = r; here = s; there = s'; singular = judged-singular r st' ar' d.1 }, record { reading = r; here = s'; there = s; singular = judged-singular r st ar d.0 })

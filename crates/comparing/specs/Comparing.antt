@@ -1,10 +1,10 @@
 -- COMPARE (document 02, Four), over two sound stores with one block each. Refusals: 12 for either store, and for more blocks; then 13, for frame names too, which gives the
 -- earliest record that repeats a tag of its scope or a frame's name; the old first in both; 10 if the list lacks room, with the length needed. A refusal writes nothing;
 -- success changes only the bytes counted. Assumes nothing.
-use Rattle.std.specs.Prelude.{ℕ, ◌≡◌, Bool, cond, ◌&&◌, List, [], leb, length}
+use Rattle.std.specs.Prelude.{ℕ, ◌≡◌, cond, ◌&&◌, List, leb, length, Result, Ok, Err}
 use Rattle.rules.specs.declared.Reading.{Reading}
 use Rattle.places.specs.declared.Report.{Report}
-use Rattle.places.specs.Reports.{success, refused_bare, no_room}
+use Rattle.places.specs.Reports.{success, refused_bare, of_records, no_room}
 use Rattle.records.specs.Put.{front}
 use Rattle.stores.specs.Soundness.{sound}
 use Rattle.naming.specs.declared.Naming.{Naming}
@@ -12,8 +12,8 @@ use Rattle.naming.specs.declared.Naming.TheVariants.{Distinct, NotSound, Repeate
 use Rattle.naming.specs.Names.{naming_of}
 use Rattle.frames.specs.Frames.{first_twice, is_single}
 use Rattle.changes.specs.Changes.{changes, changes_bytes}
-use Rattle.comparing.specs.declared.Comparing.{Comparing}
-use Rattle.comparing.specs.declared.Comparing.TheVariants.{Compared, Unsound, Twice, NoRoom}
+use Rattle.comparing.specs.declared.CompareError.{CompareError}
+use Rattle.comparing.specs.declared.CompareError.TheVariants.{NotSound as Unsound, Repeated as Twice, NoRoom}
 
 -- the bytes of the list
 unfoldable pub bytes_of : List ℕ → List ℕ → List ℕ → List ℕ → List ℕ
@@ -32,31 +32,29 @@ refusal_of (Repeated i j) Distinct = Repeated i j
 refusal_of (Repeated i j) (Repeated k l) = Repeated i j
 
 -- the list, where it fits
-unfoldable pub fitted : ℕ → ℕ → Comparing
-fitted needed room = cond (leb needed room) (Compared needed) (NoRoom needed)
+unfoldable pub fitted : ℕ → ℕ → Result ℕ CompareError
+fitted needed room = cond (leb needed room) (Ok needed) (Err (NoRoom needed))
 
-unfoldable pub answered : Naming → Comparing → Comparing
+unfoldable pub answered : Naming → Result ℕ CompareError → Result ℕ CompareError
 answered Distinct c = c
-answered NotSound c = Unsound
-answered (Repeated i j) c = Twice i j
+answered NotSound c = Err Unsound
+answered (Repeated i j) c = Err (Twice i j)
 
-unfoldable pub comparing : Reading → List ℕ → List ℕ → List ℕ → List ℕ → ℕ → Comparing
+unfoldable pub comparing : Reading → List ℕ → List ℕ → List ℕ → List ℕ → ℕ → Result ℕ CompareError
 comparing r st ar st' ar' room = answered (refusal_of (judged r st ar) (judged r st' ar')) (fitted (length (bytes_of st ar st' ar')) room)
 
 -- the lent list afterwards
-unfoldable pub list_after : Comparing → List ℕ → List ℕ → List ℕ
-list_after (Compared n) bytes l = front bytes l
-list_after Unsound bytes l = l
-list_after (Twice i j) bytes l = l
-list_after (NoRoom n) bytes l = l
+unfoldable pub list_after : Result ℕ CompareError → List ℕ → List ℕ → List ℕ
+list_after (Ok n) bytes l = front bytes l
+list_after (Err e) bytes l = l
 
-unfoldable pub comparing_report : Comparing → Report
-comparing_report (Compared n) = success n 0
-comparing_report Unsound = refused_bare 12
-comparing_report (Twice i j) = record { number = 13; offset = i; line = j; column = 0; detail = 0; first = 0; second = 0 }
-comparing_report (NoRoom n) = no_room 10 n 0
+unfoldable pub comparing_report : Result ℕ CompareError → Report
+comparing_report (Ok n) = success n 0
+comparing_report (Err Unsound) = refused_bare 12
+comparing_report (Err (Twice i j)) = of_records 13 i j
+comparing_report (Err (NoRoom n)) = no_room 10 n 0
 
 -- what a call promises: its answer, and the list
-pub record Compares (r : Reading) (st ar st' ar' l : List ℕ) (answer : Comparing) (l' : List ℕ) : Type 0 where
+pub record Compares (r : Reading) (st ar st' ar' l : List ℕ) (answer : Result ℕ CompareError) (l' : List ℕ) : Type 0 where
   pub answers : answer ≡ comparing r st ar st' ar' (length l)
   pub list : l' ≡ list_after answer (bytes_of st ar st' ar') l

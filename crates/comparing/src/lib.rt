@@ -1,73 +1,36 @@
 // Compare: what changed from one store to another.
 #![tactic(auto)]
 
-ghost use Rattle.std.specs.Prelude.{◌≡◌, true};
-ghost use Rattle.stores.specs.Soundness.{sound};
-ghost use Rattle.soles.specs.Singular.{Singular};
+ghost use Rattle.std.specs.Prelude.{◌≡◌};
+ghost use Rattle.cells.specs.Sides.{between};
+ghost use Rattle.changes.specs.Steps.{Comparable};
 ghost use Rattle.comparing.specs.Comparing.{judged, refusal_of, comparing_report, Compares};
-ghost use Rattle.comparing.specs.Steps.{reported, earlier_of, Writes};
+ghost use Rattle.comparing.specs.Steps.{earlier_of, Writes};
 
+use cells::Side;
 use naming::Naming;
 use places::Report;
 use rules::Reading;
 
-// Compare's answer: the length written; 12; 13 with two record numbers; 10 with the length needed.
+// Why there is no list: 12; 13 with two record numbers; 10 with the length needed.
 #[derive(Clone, Copy)]
-pub enum Comparing {
-    Compared(usize),
-    Unsound,
-    Twice { first: usize, again: usize },
-    NoRoom(usize),
+pub enum CompareError {
+    NotSound,
+    Repeated { first: usize, again: usize },
+    NoRoom { needed: usize },
 }
 
-impl Comparing {
-    // The answer in document 01's numbers.
-    pub fn report(self) -> Report
-        ensures { result ≡ comparing_report self }
-    {
-        match self {
-            Comparing::Compared(length) => numbered(0, 0, 0, length),
-            Comparing::Unsound => numbered(12, 0, 0, 0),
-            Comparing::Twice { first, again } => numbered(13, first, again, 0),
-            Comparing::NoRoom(length) => numbered(10, 0, 0, length),
-        }
-    }
-}
-
-// A report of a number, two record numbers and a length.
-fn numbered(number: usize, first: usize, again: usize, length: usize) -> Report
-    ensures { result ≡ reported number first again length }
+// The answer in document 01's numbers.
+pub fn report(answer: Result<usize, CompareError>) -> Report
+    ensures { result ≡ comparing_report answer }
 {
-    Report {
-        number,
-        offset: first,
-        line: again,
-        column: 0,
-        detail: 0,
-        first: length,
-        second: 0,
-    }
-}
-
-// The earlier of a tag that stands twice and what a search of the frames found.
-fn earlier_than(first: usize, again: usize, frames: Naming) -> Naming
-    ensures { result ≡ earlier_of (Naming.Repeated first again) frames }
-{
-    match frames {
-        Naming::NotSound => Naming::NotSound,
-        Naming::Distinct => Naming::Repeated { first, again },
-        Naming::Repeated {
-            first: other,
-            again: then,
-        } => {
-            if then < again {
-                return Naming::Repeated {
-                    first: other,
-                    again: then,
-                };
-            }
-            Naming::Repeated { first, again }
-        }
+    match answer {
+        Ok(length) => Report::lengths(0, length, 0),
+        Err(error) => match error {
+            CompareError::NotSound => Report::bare(12),
+            CompareError::Repeated { first, again } => Report::records(13, first, again),
+            CompareError::NoRoom { needed } => Report::lengths(10, needed, 0),
+        },
     }
 }
 
@@ -76,9 +39,13 @@ fn earlier_of(tags: Naming, frames: Naming) -> Naming
     ensures { result ≡ earlier_of tags frames }
 {
     match tags {
-        Naming::NotSound => Naming::NotSound,
+        Naming::NotSound => tags,
         Naming::Distinct => frames,
-        Naming::Repeated { first, again } => earlier_than(first, again, frames),
+        Naming::Repeated { again, .. } => match frames {
+            Naming::NotSound => frames,
+            Naming::Distinct => tags,
+            Naming::Repeated { again: then, .. } => { if then < again { frames } else { tags } }
+        },
     }
 }
 
@@ -93,49 +60,34 @@ fn judge(reading: Reading, store: &[u8], area: &[u8]) -> Naming
     earlier_of(tags, frames::check_frames(store, area))
 }
 
-// What the new store says where the old one has a name twice: only 12 comes first.
-fn refusal_behind(first: usize, again: usize, new: Naming) -> Naming
-    ensures { result ≡ refusal_of (Naming.Repeated first again) new }
-{
-    match new {
-        Naming::NotSound => Naming::NotSound,
-        Naming::Distinct => Naming::Repeated { first, again },
-        Naming::Repeated { first: _, again: _ } => Naming::Repeated { first, again },
-    }
-}
-
 // What both say: 12 of either before 13 of either.
 fn refusal(old: Naming, new: Naming) -> Naming
     ensures { result ≡ refusal_of old new }
 {
     match old {
-        Naming::NotSound => Naming::NotSound,
+        Naming::NotSound => old,
         Naming::Distinct => new,
-        Naming::Repeated { first, again } => refusal_behind(first, again, new),
+        Naming::Repeated { .. } => match new {
+            Naming::NotSound => new,
+            Naming::Distinct | Naming::Repeated { .. } => old,
+        },
     }
 }
 
 // The list, where it has room.
-fn write_list(
-    reading: Reading,
-    store: &[u8],
-    area: &[u8],
-    store2: &[u8],
-    area2: &[u8],
-    list: &mut [u8],
-) -> Comparing
-    requires { (sound reading store.now area.now ≡ true) × (sound reading store2.now area2.now ≡ true) × Singular store.now area.now × Singular store2.now area2.now }
-    ensures { Writes store.now area.now store2.now area2.now list.old result list.new }
+fn write_list(old: Side<'_>, new: Side<'_>, list: &mut [u8]) -> Result<usize, CompareError>
+    requires { between Comparable old new × between Comparable new old }
+    ensures { between Writes old.entry new.entry list.old result list.new }
 {
-    let first = changes::count_side(reading, true, store, area, store2, area2);
-    let second = changes::count_side(reading, false, store2, area2, store, area);
+    let first = changes::count_side(true, old, new);
+    let second = changes::count_side(false, new, old);
     let needed = first + second;
     if list.len() < needed {
-        return Comparing::NoRoom(needed);
+        return Err(CompareError::NoRoom { needed });
     }
-    changes::write_side(reading, true, store, area, store2, area2, list, 0);
-    changes::write_side(reading, false, store2, area2, store, area, list, first);
-    Comparing::Compared(needed)
+    changes::write_side(true, old, new, list, 0);
+    changes::write_side(false, new, old, list, first);
+    Ok(needed)
 }
 
 // COMPARE: 12, 13, 10. The list is lent; a refusal writes nothing.
@@ -146,14 +98,22 @@ pub fn compare(
     store2: &[u8],
     area2: &[u8],
     list: &mut [u8],
-) -> Comparing
+) -> Result<usize, CompareError>
     ensures { Compares reading store.now area.now store2.now area2.now list.old result list.new }
 {
     let old = judge(reading, store, area);
-    let refused = refusal(old, judge(reading, store2, area2));
-    match refused {
-        Naming::NotSound => Comparing::Unsound,
-        Naming::Repeated { first, again } => Comparing::Twice { first, again },
-        Naming::Distinct => write_list(reading, store, area, store2, area2, list),
+    match refusal(old, judge(reading, store2, area2)) {
+        Naming::NotSound => Err(CompareError::NotSound),
+        Naming::Repeated { first, again } => Err(CompareError::Repeated { first, again }),
+        Naming::Distinct => {
+            let (old, new) = (
+                Side { store, area },
+                Side {
+                    store: store2,
+                    area: area2,
+                },
+            );
+            write_list(old, new, list)
+        }
     }
 }

@@ -12,7 +12,7 @@ use records::Token;
 
 // Decimal parts as they are stored: the sign byte, the fraction digits and the exponent's two's complement are not
 // judged.
-#[derive(Clone, Copy, Default)]
+#[derive(Clone, Copy, Default, PartialEq, Eq)]
 pub struct Parts {
     pub sign: u8,
     pub integer: u32,

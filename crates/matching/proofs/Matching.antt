@@ -1,31 +1,28 @@
 -- Laws of what is remembered: it stays true, whatever a search finds. Assumes nothing.
-use Prim.Native.Nat.{ℕ, zero, suc, ◌≤◌, ◌<◌}
+use Prim.Native.Nat.{ℕ, zero, suc, ◌<◌}
 use mathlib.Core.Path.{◌≡◌, refl, sym, ap, subst, ◌∙◌}
-use mathlib.Core.Bool.{Bool, true, false, cond, ◌&&◌, true≢false}
+use mathlib.Core.Bool.{true, false}
 use mathlib.Core.List.{List, [], ◌∷◌, ◌++◌, append_assoc}
-use mathlib.Core.Option.{Option, none, some}
+use mathlib.Core.Option.{none}
+use Rattle.std.specs.Prelude.{Option as Maybe, Some, None}
 use native.Mathlib.Omega.{arith}
 use borrow.Author.Tests.{eqb-true, ltb-true}
-use lib.Dec.{eqb, ltb}
+use lib.Dec.{eqb}
 use lib.ListN.{get_or, set, replicate}
 use Rattle.text.proofs.Bools.{and_l, and_r}
 use Rattle.cells.specs.declared.Here.{Here}
 use Rattle.cells.specs.declared.Found.{Found}
-use Rattle.cells.specs.declared.Step.{Step}
-use Rattle.cells.specs.declared.Step.TheVariants.{Met, End}
+use Rattle.cells.specs.declared.Met.{Met}
 use Rattle.cells.specs.Cells.{Cell, cells}
-use Rattle.cells.specs.Walk.{cells_at, first, Placed, cell_of, Lies, Ahead}
-use Rattle.cells.proofs.Cells.{cells-first, placed_first, Meets, met, ended}
-use Rattle.partners.specs.declared.Partner.TheVariants.{Is, Missing}
+use Rattle.cells.specs.Walk.{cells_at, first, Placed, cell_of, Ahead}
+use Rattle.cells.proofs.Cells.{cells-first, placed_first, Meets, ended}
 use Rattle.partners.specs.Partners.{meets, partner_in, partner, Matched}
 use Rattle.soles.specs.Members.{In}
 use Rattle.soles.specs.Singular.{Singular}
-use Rattle.soles.proofs.Columns.{in-mid, partner-past, met-partner, later-behind, none-later}
+use Rattle.soles.proofs.Columns.{in-mid, met-partner, later-behind, none-later}
 use Rattle.matching.specs.declared.Slot.{Slot}
 use Rattle.matching.specs.declared.Sought.{Sought}
-use Rattle.matching.specs.declared.Seen.{Seen}
-use Rattle.matching.specs.declared.Seen.TheVariants.{At, Nowhere}
-use Rattle.matching.specs.Matching.{Reached, is_for, Claim, blank, Behind, Searched, told_of, Finds, Remembers}
+use Rattle.matching.specs.Matching.{Reached, is_for, partner_from, ReachedIf, Claim, blank, Asks, Behind, Searched, told_of, Finds, Remembers}
 
 -- a slot is of the column, and of an earlier row
 record For (s : Slot) (x : Cell) : Type 0 where
@@ -49,7 +46,7 @@ reached-first st = record { placed = placed_first st; before = []; values = cell
 
 -- nothing is claimed where nothing is remembered
 pub claim-blank : (st ar st' ar' : List ℕ) → Claim st ar st' ar' blank
-unfolding partner
+unfolding partner partner_from ReachedIf
 claim-blank st ar st' ar' = record { reached = reached-first st'; later = λ x e. ap (λ (ys : List Cell). partner_in st ar st' ar' ys x) (cells-first st') }
 
 module _ (st : List ℕ) (h : Here) (r : Reached st h) (y : Found) (after : Here) (before : List Cell) (e : cells_at st h ≡ before ++ (cell_of y ∷ cells_at st after)) where
@@ -71,33 +68,33 @@ module _ (st : List ℕ) (h : Here) (r : Reached st h) (y : Found) (after : Here
 
 module _ (st ar st' ar' : List ℕ) (x : Found) (g : Singular st' ar') where
   -- a search that found a value, from any spot that is reached
-  pub finds-at : (from last : Here) (y : Found) (after : Here) → Reached st' from → Behind st ar st' ar' (cell_of x) from y after → Finds st ar st' ar' (cell_of x) (told_of x last (At y after))
-  unfolding told_of Matched
-  finds-at from last y after r b =
-      let ends = reached-after st' from r y after b.before b.values b.placed in
+  pub finds-at : (from last : Here) (m : Met) → Reached st' from → Behind st ar st' ar' (cell_of x) from m.value m.after → Finds st ar st' ar' (cell_of x) (told_of x last (Some m))
+  unfolding told_of Matched partner_from ReachedIf
+  finds-at from last m r b =
+      let ends = reached-after st' from r m.value m.after b.before b.values b.placed in
       record {
-        partner = (met-partner st ar st' ar' g (cell_of x) (cell_of y) (among st' from r y after b.before b.values) b.meet, b.lies);
+        partner = (met-partner st ar st' ar' g (cell_of x) (cell_of m.value) (among st' from r m.value m.after b.before b.values) b.meet, b.lies);
         claim =
             record {
               reached = ends;
               later = λ z e.
-                  let f = for (record { tag = x.tag; frame = x.frame; row = x.row; gone = false; spot = after }) z e in
-                  later-behind st ar st' ar' g (cell_of x) z (sym f.tag) (sym f.frame) (cell_of y) (r.before ++ b.before) (cells_at st' after) (all-values st' from r y after b.before b.values) b.meet f.row;
+                  let f = for (record { tag = x.tag; frame = x.frame; row = x.row; spot = Some m.after }) z e in
+                  later-behind st ar st' ar' g (cell_of x) z (sym f.tag) (sym f.frame) (cell_of m.value) (r.before ++ b.before) (cells_at st' m.after) (all-values st' from r m.value m.after b.before b.values) b.meet f.row;
             };
         last = ends;
       }
 
   -- there is none
-  pub finds-none : (last : Here) → Reached st' last → partner st ar st' ar' (cell_of x) ≡ none → Finds st ar st' ar' (cell_of x) (told_of x last Nowhere)
-  unfolding told_of Matched
+  pub finds-none : (last : Here) → Reached st' last → partner st ar st' ar' (cell_of x) ≡ none → Finds st ar st' ar' (cell_of x) (told_of x last None)
+  unfolding told_of Matched partner_from ReachedIf
   finds-none last l e =
       record {
         partner = e;
         claim =
             record {
-              reached = reached-first st';
+              reached = tt;
               later = λ z q.
-                  let f = for (record { tag = x.tag; frame = x.frame; row = x.row; gone = true; spot = first }) z q in
+                  let f = for (record { tag = x.tag; frame = x.frame; row = x.row; spot = None }) z q in
                   none-later st ar st' ar' g (cell_of x) z (sym f.tag) (sym f.frame) (omega (arith, f.row)) e;
             };
         last = l;
@@ -105,37 +102,39 @@ module _ (st ar st' ar' : List ℕ) (x : Found) (g : Singular st' ar') where
 
   -- what a search from the slot's spot, or from the first record, tells
   seen-finds : (from last : Here) → Reached st' from → Reached st' last → partner st ar st' ar' (cell_of x) ≡ partner_in st ar st' ar' (cells_at st' from) (cell_of x) →
-      (s : Seen) → Searched st ar st' ar' (cell_of x) from s → Finds st ar st' ar' (cell_of x) (told_of x last s)
+      (s : Maybe Met) → Searched st ar st' ar' (cell_of x) from s → Finds st ar st' ar' (cell_of x) (told_of x last s)
   unfolding Searched
-  seen-finds from last r l e (At y after) b = finds-at from last y after r b
-  seen-finds from last r l e Nowhere n = finds-none last l (e ∙ n)
+  seen-finds from last r l e (Some m) b = finds-at from last m r b
+  seen-finds from last r l e None n = finds-none last l (e ∙ n)
 
-  pub finds-behind :
-      (slot : Slot) (last : Here) → Claim st ar st' ar' slot → Reached st' last → is_for slot (cell_of x) ≡ true → slot.gone ≡ false → (s : Seen) →
-      Searched st ar st' ar' (cell_of x) slot.spot s → Finds st ar st' ar' (cell_of x) (told_of x last s)
-  finds-behind slot last c l e q s h = seen-finds slot.spot last c.reached l (c.later (cell_of x) e ∙ rw q) s h
-
-  pub finds-gone :
-      (slot : Slot) (last : Here) → Claim st ar st' ar' slot → Reached st' last → is_for slot (cell_of x) ≡ true → slot.gone ≡ true →
-      Finds st ar st' ar' (cell_of x) (record { partner = Missing; slot = slot; last = last })
-  unfolding Matched
-  finds-gone slot last c l e q = record { partner = c.later (cell_of x) e ∙ rw q; claim = c; last = l }
-
-  pub finds-first : (last : Here) → Reached st' last → (h : Here) → h ≡ first → (s : Seen) → Searched st ar st' ar' (cell_of x) h s → Finds st ar st' ar' (cell_of x) (told_of x last s)
+  pub finds-first : (last : Here) → Reached st' last → (h : Here) → h ≡ first → (s : Maybe Met) → Searched st ar st' ar' (cell_of x) h s → Finds st ar st' ar' (cell_of x) (told_of x last s)
   unfolding partner
   finds-first last l h e s q =
       seen-finds first last (reached-first st') l (ap (λ (ys : List Cell). partner_in st ar st' ar' ys (cell_of x)) (cells-first st')) s (subst (λ (z : Here). Searched st ar st' ar' (cell_of x) z s) e q)
 
+module _ (st ar st' ar' : List ℕ) (x : Found) (slot : Slot) (last : Here) (a : Asks st ar st' ar' x slot last) where
+  -- the slot's spot is one that a walk comes to
+  pub spot-reached : (h : Here) → slot.spot ≡ Some h → Reached st' h
+  unfolding ReachedIf
+  spot-reached h q = rw q at a.claim.reached
+
+  -- what the slot claims of later rows it claims of this one
+  pub finds-behind : is_for slot (cell_of x) ≡ true → (h : Here) → slot.spot ≡ Some h → (s : Maybe Met) → Searched st ar st' ar' (cell_of x) h s → Finds st ar st' ar' (cell_of x) (told_of x last s)
+  unfolding partner_from
+  finds-behind e h q s b = seen-finds st ar st' ar' x a.singular h last (spot-reached h q) a.reached (a.claim.later (cell_of x) e ∙ rw q) s b
+
+  pub finds-gone : is_for slot (cell_of x) ≡ true → slot.spot ≡ None → Finds st ar st' ar' (cell_of x) (record { partner = None; slot = slot; last = last })
+  unfolding Matched partner_from
+  finds-gone e q = record { partner = a.claim.later (cell_of x) e ∙ rw q; claim = a.claim; last = a.reached }
+
   -- the value directly behind the last one
-  pub finds-next :
-      (slot : Slot) (last : Here) (y : Found) (after : Here) → Claim st ar st' ar' slot → Reached st' last → Meets st' last y after → meets st ar st' ar' (cell_of x) (cell_of y) ≡ true →
-      Finds st ar st' ar' (cell_of x) (record { partner = Is y; slot = slot; last = after })
+  pub finds-next : (m : Met) → Meets st' last m.value m.after → meets st ar st' ar' (cell_of x) (cell_of m.value) ≡ true → Finds st ar st' ar' (cell_of x) (record { partner = Some m.value; slot = slot; last = m.after })
   unfolding Matched
-  finds-next slot last y after c l m e =
+  finds-next m k e =
       record {
-        partner = (met-partner st ar st' ar' g (cell_of x) (cell_of y) (among st' last l y after [] m.values) e, m.lies);
-        claim = c;
-        last = reached-after st' last l y after [] m.values m.placed;
+        partner = (met-partner st ar st' ar' a.singular (cell_of x) (cell_of m.value) (among st' last a.reached m.value m.after [] k.values) e, k.lies);
+        claim = a.claim;
+        last = reached-after st' last a.reached m.value m.after [] k.values k.placed;
       }
 
 -- a search, value by value: none of those that were passed over is met
@@ -150,30 +149,29 @@ module _ (st ar st' ar' : List ℕ) (x : Cell) (from : Here) where
   seek-first p = record { placed = p; before = []; values = refl; left = refl }
 
   module _ (h : Here) (s : Seeks h) where
-    pub seek-end : (r : Step) → Ahead st' h r → r ≡ End → Searched st ar st' ar' x from Nowhere
+    pub seek-end : (r : Maybe Met) → Ahead st' h r → r ≡ None → Searched st ar st' ar' x from None
     unfolding partner_in Searched
     seek-end r a e = s.left ∙ rw (ended st' h r a e)
 
-    module _ (y : Found) (after : Here) (m : Meets st' h y after) where
-      pub seek_hit : meets st ar st' ar' x (cell_of y) ≡ true → Searched st ar st' ar' x from (At y after)
+    module _ (n : Met) (m : Meets st' h n.value n.after) where
+      pub seek_hit : meets st ar st' ar' x (cell_of n.value) ≡ true → Searched st ar st' ar' x from (Some n)
       unfolding Searched
       seek_hit q = record { before = s.before; values = s.values ∙ ap (λ (l : List Cell). s.before ++ l) m.values; meet = q; lies = m.lies; placed = m.placed }
 
-      pub seek-miss : meets st ar st' ar' x (cell_of y) ≡ false → Seeks after
+      pub seek-miss : meets st ar st' ar' x (cell_of n.value) ≡ false → Seeks n.after
       unfolding partner_in
       seek-miss q =
           record {
             placed = m.placed;
-            before = s.before ++ (cell_of y ∷ []);
-            values = s.values ∙ ap (λ (l : List Cell). s.before ++ l) m.values ∙ sym (append_assoc s.before (cell_of y ∷ []) (cells_at st' after));
+            before = s.before ++ (cell_of n.value ∷ []);
+            values = s.values ∙ ap (λ (l : List Cell). s.before ++ l) m.values ∙ sym (append_assoc s.before (cell_of n.value ∷ []) (cells_at st' n.after));
             left = s.left ∙ rw (m.values, q);
           }
 
 -- where a search found a value
-pub searched-at :
-    (st ar st' ar' : List ℕ) (x : Cell) (from : Here) (s : Seen) (y : Found) (after : Here) → Searched st ar st' ar' x from s → s ≡ At y after → Behind st ar st' ar' x from y after
+pub searched-at : (st ar st' ar' : List ℕ) (x : Cell) (from : Here) (s : Maybe Met) (m : Met) → Searched st ar st' ar' x from s → s ≡ Some m → Behind st ar st' ar' x from m.value m.after
 unfolding Searched
-searched-at st ar st' ar' x from s y after h e = rw e at h
+searched-at st ar st' ar' x from s m h e = rw e at h
 
 -- slots: what holds of each holds where one is stored, and of as many as there are of one
 set-each : (P : Slot → Type 0) (l : List Slot) (i : ℕ) (v : Slot) → ((j : ℕ) → P (get_or l j blank)) → P v → (j : ℕ) → P (get_or (set l i v) j blank)

@@ -1,30 +1,16 @@
 -- Laws of the cases of two numbers. Assumes nothing.
 use Prim.Native.Nat.{ℕ}
-use mathlib.Core.Path.{◌≡◌, refl, sym, ap, ◌∙◌}
-use mathlib.Core.Bool.{Bool, true, false, cond, ◌&&◌}
-use mathlib.Core.List.{[], ◌∷◌}
-use mathlib.Core.Logic.{◌⊎◌, inl, inr}
-use types.Run.{OneOf}
-use denote.Enum.Declared.{tag_of}
-use native.Mathlib.Omega.{arith}
+use mathlib.Core.Path.{◌≡◌, sym, ap, ◌∙◌}
+use mathlib.Core.Bool.{true, ◌&&◌}
 use borrow.Author.Tests.{eqb-true}
 use lib.Dec.{eqb}
 use Rattle.text.proofs.Bools.{and_l, and_r}
 use Rattle.entries.specs.declared.Parts.{Parts}
-use Rattle.orders.specs.declared.Order.{Order}
-use Rattle.orders.specs.declared.Order.TheVariants.{Less, Same, More}
-use Rattle.orders.specs.contracts.Order.{the_type as order-type}
+use Rattle.std.specs.declared.cmp.Ordering.TheVariants.{Equal}
+use Rattle.number_cases.specs.declared.Case.TheVariants.{Same}
 use Rattle.amounts.specs.Exact.{value_order, uncertainty_order}
 use Rattle.amounts.proofs.Laws.{value_same, doubt-same}
 use Rattle.number_cases.specs.Numbers.{same_parts, numbers_case, number_case, equal_case}
-
--- uncertainties that are not the same
-pub order_other : (o : Order) (s : Bool) → OneOf (0 ∷ 2 ∷ []) (tag_of order-type o) → ◌≡◌ {A = ℕ} 6 (equal_case o s)
-unfolding equal_case
-order_other Less s h = refl
-order_other Same s (inl h) = absurd (omega arith)
-order_other Same s (inr h) = absurd (omega arith)
-order_other More s h = refl
 
 -- numbers of equal kind and parts
 pub parts-equal : (p q : Parts) → same_parts p q ≡ true → p ≡ q
@@ -42,10 +28,10 @@ parts-equal p q e =
     let u = eqb-true p.uncertainty q.uncertainty (and_r (eqb p.exponent q.exponent) _ e4) in
     λ i. record { sign = a i; integer = b i; fraction = c i; places = d i; exponent = x i; uncertainty = u i }
 
-pub same_none : (k j : ℕ) (p q : Parts) → (eqb k j && same_parts p q) ≡ true → ◌≡◌ {A = ℕ} 0 (numbers_case k j p q)
+pub same_none : (k j : ℕ) (p q : Parts) → (eqb k j && same_parts p q) ≡ true → Same ≡ numbers_case k j p q
 unfolding numbers_case number_case equal_case
 same_none k j p q e =
     let o : p ≡ q = parts-equal p q (and_r (eqb k j) (same_parts p q) e) in
-    let v : value_order p q ≡ Same = ap (λ (r : Parts). value_order p r) (sym o) ∙ value_same p in
-    let w : uncertainty_order p q ≡ Same = ap (λ (r : Parts). uncertainty_order p r) (sym o) ∙ doubt-same p in
+    let v : value_order p q ≡ Equal = ap (λ (r : Parts). value_order p r) (sym o) ∙ value_same p in
+    let w : uncertainty_order p q ≡ Equal = ap (λ (r : Parts). uncertainty_order p r) (sym o) ∙ doubt-same p in
     rw (v, w, e)

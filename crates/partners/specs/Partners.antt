@@ -3,11 +3,11 @@
 -- with A to Z taken as a to z. Assumes nothing.
 use Rattle.std.specs.Prelude.{ℕ, ◌≡◌, Bool, false, cond, ◌&&◌, List, [], ◌∷◌, eqb}
 use Rattle.std.proofs.Math.Option.{Option, none, some}
+use Rattle.std.specs.Prelude.{Option as Maybe, Some, None}
+use Rattle.cells.specs.declared.Found.{Found}
 use Rattle.folding.specs.Folding.{same_name}
 use Rattle.cells.specs.Cells.{Cell, cells, name_of}
 use Rattle.cells.specs.Walk.{cell_of, Lies}
-use Rattle.partners.specs.declared.Partner.{Partner}
-use Rattle.partners.specs.declared.Partner.TheVariants.{Is, Missing}
 
 -- of a store and its area, and of another: the block's own scope (0) is the other block's, and frames are the same by their names
 unfoldable pub same_frame : List ℕ → List ℕ → List ℕ → List ℕ → ℕ → ℕ → Bool
@@ -26,6 +26,6 @@ unfoldable pub partner : List ℕ → List ℕ → List ℕ → List ℕ → Cel
 partner st ar st' ar' x = partner_in st ar st' ar' (cells st') x
 
 -- a search's answer
-unfoldable pub Matched : List ℕ → Partner → Option Cell → Type 0
-Matched st' (Is y) o = (o ≡ some (cell_of y)) × Lies st' y
-Matched st' Missing o = o ≡ none
+unfoldable pub Matched : List ℕ → Maybe Found → Option Cell → Type 0
+Matched st' (Some y) o = (o ≡ some (cell_of y)) × Lies st' y
+Matched st' None o = o ≡ none

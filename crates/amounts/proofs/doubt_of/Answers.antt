@@ -9,4 +9,4 @@ overflow_add-result c = let b = raised_below c.args.parts.exponent in omega arit
 
 pub returns : goal.returns
 unfolding doubt_of
-returns c = rw (c.wide.ensures, c.raised.ensures, c.wide_byte.ensures)
+returns c = rw (c.from.ensures, c.raised.ensures, c.from-2.ensures)

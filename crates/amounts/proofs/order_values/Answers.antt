@@ -1,6 +1,6 @@
 -- `amounts::order_values`. Assumes nothing.
 use mathlib.Core.Path.{ap, ◌∙◌}
-use Rattle.orders.specs.Order.{flipped}
+use Rattle.std.specs.Ordering.{ordering_reverse}
 use Rattle.amounts.proofs.Laws.{size_fits, both-above, both_below, below-above, above-below}
 use Rattle.amounts.proofs.order_values.Goals as goal
 
@@ -9,31 +9,28 @@ order_sizes-requires c =
     let p = c.requires in
     (rw c.size_of-y.ensures (size_fits _ p.1), rw c.size_of-x.ensures (size_fits _ p.0))
 
-pub returns-then-b-eq1 : goal.returns-then-b-eq1
-returns-then-b-eq1 c =
-    let a = c.args in
-    let p = c.requires in
-    c.order_sizes.ensures ∙ rw (c.size_of-x.ensures, c.size_of-y.ensures) (both_below a.a a.b p.0 p.1 c.if-a-eq1.true c.if-b-eq1.true)
-
-pub returns-then-a-eq1 : goal.returns-then-a-eq1
-returns-then-a-eq1 c =
-    let a = c.args in
-    let p = c.requires in
-    c.order_apart.ensures ∙ rw (c.size_of-x.ensures, c.size_of-y.ensures) (below-above a.a a.b p.0 p.1 c.if-a-eq1.true c.if-b-eq1.false)
-
-pub returns-then-b-eq1-2 : goal.returns-then-b-eq1-2
-returns-then-b-eq1-2 c =
-    let a = c.args in
-    let p = c.requires in
-    c.flip.ensures ∙ ap flipped c.order_apart-then-b-eq1-2.ensures ∙ rw (c.size_of-x.ensures, c.size_of-y.ensures) (above-below a.a a.b p.0 p.1 c.if-a-eq1.false c.if-b-eq1-2.true)
-
-pub order_sizes-requires-2 : goal.order_sizes-requires-2
-order_sizes-requires-2 c =
+pub order_sizes-requires-in-false-false : goal.order_sizes-requires-in-false-false
+order_sizes-requires-in-false-false c =
     let p = c.requires in
     (rw c.size_of-x.ensures (size_fits _ p.0), rw c.size_of-y.ensures (size_fits _ p.1))
 
-pub returns : goal.returns
-returns c =
-    let a = c.args in
+pub returns-in-true-true : goal.returns-in-true-true
+returns-in-true-true c =
     let p = c.requires in
-    c.order_sizes-2.ensures ∙ rw (c.size_of-x.ensures, c.size_of-y.ensures) (both-above a.a a.b p.0 p.1 c.if-a-eq1.false c.if-b-eq1-2.false)
+    c.order_sizes.ensures ∙ rw (c.size_of-x.ensures, c.size_of-y.ensures) (both_below _ _ p.0 p.1 c.in-true-true.is-0 c.in-true-true.is-1)
+
+pub returns-in-true-false : goal.returns-in-true-false
+returns-in-true-false c =
+    let p = c.requires in
+    c.order_apart.ensures ∙ rw (c.size_of-x.ensures, c.size_of-y.ensures) (below-above _ _ p.0 p.1 c.in-true-false.is-0 c.in-true-false.is-1)
+
+pub returns-in-false-true : goal.returns-in-false-true
+returns-in-false-true c =
+    let p = c.requires in
+    c.reverse.ensures ∙ ap ordering_reverse c.order_apart-in-false-true.ensures
+    ∙ rw (c.size_of-x.ensures, c.size_of-y.ensures) (above-below _ _ p.0 p.1 c.in-false-true.is-0 c.in-false-true.is-1)
+
+pub returns-in-false-false : goal.returns-in-false-false
+returns-in-false-false c =
+    let p = c.requires in
+    c.order_sizes-in-false-false.ensures ∙ rw (c.size_of-x.ensures, c.size_of-y.ensures) (both-above _ _ p.0 p.1 c.in-false-false.is-0 c.in-false-false.is-1)

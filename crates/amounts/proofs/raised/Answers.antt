@@ -4,4 +4,4 @@ use Rattle.amounts.proofs.raised.Goals as goal
 
 pub returns : goal.returns
 unfolding raised
-returns c = rw c.wide.ensures
+returns c = rw c.from.ensures

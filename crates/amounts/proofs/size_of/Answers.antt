@@ -12,4 +12,4 @@ overflow_mul-result c =
 
 pub returns : goal.returns
 unfolding size_of
-returns c = rw (c.wide.ensures, c.ten_to.ensures, c.raised.ensures)
+returns c = rw (c.from.ensures, c.ten_to.ensures, c.raised.ensures)

@@ -1,12 +1,16 @@
 -- `cases::is_number`. Assumes nothing.
-use borrow.Author.Tests.{eq-eqb, ne_eqb}
+use mathlib.Core.Logic.{inl, inr}
+use Rattle.kinds.specs.declared.Kind.TheVariants.{Number, Uncertain}
+use Rattle.cells.proofs.Cells.{other-number}
 use Rattle.cases.specs.Cases.{is_number}
 use Rattle.cases.proofs.is_number.Goals as goal
 
-pub returns-then-kind-eq-NUMBER : goal.returns-then-kind-eq-NUMBER
+pub returns-in-Number : goal.returns-in-Number
 unfolding is_number
-returns-then-kind-eq-NUMBER c = rw (eq-eqb _ 14 c.if-kind-eq-NUMBER.true)
+returns-in-Number c = elim c.in-Number.is [ inl e ↦ rw e | inr e ↦ rw e ]
 
-pub returns : goal.returns
+pub returns-in_default : goal.returns-in_default
 unfolding is_number
-returns c = rw (ne_eqb _ 14 c.if-kind-eq-NUMBER.false)
+returns-in_default c =
+    let k = c.in_default in
+    rw (other-number _ Number k.not-Number, other-number _ Uncertain k.not-Uncertain)

@@ -1,24 +1,27 @@
--- `cells::behind`: each `return` goes by the tests that led there. Assumes nothing.
-use borrow.Author.Tests.{eq-eqb, ne_eqb}
+-- `cells::behind`: by the kind. Assumes nothing.
+use Rattle.kinds.specs.declared.Kind.TheVariants.{FrameOpen, FrameClose, Tag, Loop}
 use Rattle.cells.specs.Walk.{here_after}
+use Rattle.cells.proofs.Cells.{other-number}
 use Rattle.cells.proofs.behind.Goals as goal
 
-pub returns-then-kind-eq-FRAME_OPEN : goal.returns-then-kind-eq-FRAME_OPEN
+pub returns-in-FrameOpen : goal.returns-in-FrameOpen
 unfolding here_after
-returns-then-kind-eq-FRAME_OPEN c = rw (eq-eqb _ 2 c.if-kind-eq-FRAME_OPEN.true)
+returns-in-FrameOpen c = rw c.in-FrameOpen.is
 
-pub returns-then-kind-eq-FRAME_CLOSE : goal.returns-then-kind-eq-FRAME_CLOSE
+pub returns-in-FrameClose : goal.returns-in-FrameClose
 unfolding here_after
-returns-then-kind-eq-FRAME_CLOSE c = rw (ne_eqb _ 2 c.if-kind-eq-FRAME_OPEN.false, eq-eqb _ 3 c.if-kind-eq-FRAME_CLOSE.true)
+returns-in-FrameClose c = rw c.in-FrameClose.is
 
-pub returns-then-kind-eq-TAG : goal.returns-then-kind-eq-TAG
+pub returns-in-Tag : goal.returns-in-Tag
 unfolding here_after
-returns-then-kind-eq-TAG c = rw (ne_eqb _ 2 c.if-kind-eq-FRAME_OPEN.false, ne_eqb _ 3 c.if-kind-eq-FRAME_CLOSE.false, eq-eqb _ 4 c.if-kind-eq-TAG.true)
+returns-in-Tag c = rw c.in-Tag.is
 
-pub returns-then-kind-eq-LOOP : goal.returns-then-kind-eq-LOOP
+pub returns-in-Loop : goal.returns-in-Loop
 unfolding here_after
-returns-then-kind-eq-LOOP c = rw (ne_eqb _ 2 c.if-kind-eq-FRAME_OPEN.false, ne_eqb _ 3 c.if-kind-eq-FRAME_CLOSE.false, ne_eqb _ 4 c.if-kind-eq-TAG.false, eq-eqb _ 5 c.if-kind-eq-LOOP.true)
+returns-in-Loop c = rw c.in-Loop.is
 
-pub returns : goal.returns
+pub returns-in_default : goal.returns-in_default
 unfolding here_after
-returns c = rw (ne_eqb _ 2 c.if-kind-eq-FRAME_OPEN.false, ne_eqb _ 3 c.if-kind-eq-FRAME_CLOSE.false, ne_eqb _ 4 c.if-kind-eq-TAG.false, ne_eqb _ 5 c.if-kind-eq-LOOP.false)
+returns-in_default c =
+    let k = c.in_default in
+    rw (other-number _ FrameOpen k.not-FrameOpen, other-number _ FrameClose k.not-FrameClose, other-number _ Tag k.not-Tag, other-number _ Loop k.not-Loop)

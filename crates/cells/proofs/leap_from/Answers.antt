@@ -8,29 +8,34 @@ use Rattle.entries.proofs.Entering.{entry-over, entry-none, entry-short, entry_w
 use Rattle.cells.specs.Walk.{leap_of}
 use Rattle.cells.proofs.leap_from.Goals as goal
 
-pub returns-then-store-at : goal.returns-then-store-at
+pub returns-in_err-get : goal.returns-in_err-get
 unfolding leap_of
-returns-then-store-at c = rw (entry-over _ c.args.at c.if-store-at.true)
+returns-in_err-get c = let l = rw c.in_err-get.was at c.get.ensures.lookup in c.from_residual.ensures ∙ rw (entry-over c.args.store.now c.args.at (omega (arith, l)))
 
 pub returns-then-number-eq0 : goal.returns-then-number-eq0
 unfolding leap_of
 returns-then-number-eq0 c =
-    let e : number_of (kind_of (get_or c.args.store.now c.args.at 0)) ≡ 0 = rw (← c.of-kind.ensures) (sym c.number-number.ensures ∙ c.if-number-eq0.true) in
-    rw (entry-none c.args.store.now c.args.at c.if-store-at.false e)
+    let s = c.args.store.now in
+    let at = c.args.at in
+    let l = rw c.in_ok-get.was at c.get.ensures.lookup in
+    let e : number_of (kind_of (get_or s at 0)) ≡ 0 = rw (← l.3.1 0, ← c.of-kind.ensures) (sym c.number.ensures ∙ c.if-number-eq0.true) in
+    rw (entry-none s at l.3.0 e)
 
 pub returns-then-store-body : goal.returns-then-store-body
 unfolding body_length leap_of
 returns-then-store-body c =
     let s = c.args.store.now in
     let at = c.args.at in
-    let e : length s - (at + 1) < body_length (get_or s at 0) = rw (← c.of-kind.ensures, ← c.shape-shape.ensures, ← c.length-length.ensures) c.if-store-body.true in
-    rw (entry-short s at (omega arith) e)
+    let l = rw c.in_ok-get.was at c.get.ensures.lookup in
+    let e : length s - (at + 1) < body_length (get_or s at 0) = rw (← l.3.1 0, ← c.of-kind.ensures, ← c.shape.ensures, ← c.length-length.ensures) c.if-store-body.true in
+    rw (entry-short s at l.3.0 e)
 
 pub returns : goal.returns
 unfolding body_length leap_of
 returns c =
     let s = c.args.store.now in
     let at = c.args.at in
-    let known : 0 < number_of (kind_of (get_or s at 0)) = rw (← c.of-kind.ensures, ← c.number-number.ensures) (omega arith) in
-    let fits : body_length (get_or s at 0) ≤ length s - (at + 1) = rw (← c.of-kind.ensures, ← c.shape-shape.ensures, ← c.length-length.ensures) (omega arith) in
-    rw (entry_whole s at (omega arith) known fits, c.length-length.ensures, c.shape-shape.ensures, c.number-number.ensures, c.of-kind.ensures)
+    let l = rw c.in_ok-get.was at c.get.ensures.lookup in
+    let known : 0 < number_of (kind_of (get_or s at 0)) = rw (← l.3.1 0, ← c.of-kind.ensures, ← c.number.ensures) (omega arith) in
+    let fits : body_length (get_or s at 0) ≤ length s - (at + 1) = rw (← l.3.1 0, ← c.of-kind.ensures, ← c.shape.ensures, ← c.length-length.ensures) (omega arith) in
+    rw (entry_whole s at l.3.0 known fits, c.length-length.ensures, c.shape.ensures, c.of-kind.ensures, l.3.1 0)

@@ -1,41 +1,23 @@
 -- `changes::count_side`: what is counted and what is left make all. Assumes nothing.
 use native.Mathlib.Omega.{arith}
-use Rattle.cells.proofs.Cells.{met, meets-less}
-use Rattle.matching.proofs.Matching.{remembers-first, remembers-next}
-use Rattle.changes.proofs.Changes.{count-first, count-end, count-within, count_next}
+use Rattle.changes.proofs.Changes.{count-first, count-end, count-within, count_next, stepped-less}
 use Rattle.changes.proofs.count_side.Goals as goal
 
-pub loop-value-init : goal.loop-value-init
-loop-value-init c = (count-first _ _ _ _ _ _ c.start-here.ensures, remembers-first _ _ _ _ 128 _ _ c.empty-slots.ensures c.start-last.ensures)
-
-pub next_value-requires : goal.next_value-requires
-next_value-requires c = c.loop-value.invariant.0.placed
-
-pub returns-in_default : goal.returns-in_default
-returns-in_default c = count-end _ _ _ _ _ _ _ _ c.loop-value.invariant.0 c.next_value.ensures c.in_default.is
-
-pub find-sought-requires : goal.find-sought-requires
-find-sought-requires c =
-    let inv = c.loop-value.invariant in
-    ((met _ _ _ _ _ c.next_value.ensures c.in-Met.is).lies, c.requires.2, inv.1.claims _, inv.1.reached)
-
-pub of_side-change-requires : goal.of_side-change-requires
-of_side-change-requires c =
-    let pre = c.requires in
-    (pre.0, pre.1, (met _ _ _ _ _ c.next_value.ensures c.in-Met.is).lies, c.find-sought.ensures.partner)
+pub loop-total-init : goal.loop-total-init
+loop-total-init c = rw c.start-walk.ensures (count-first _ _ _ _ _)
 
 pub overflow_add-total : goal.overflow_add-total
 overflow_add-total c =
-    let m = met _ _ _ _ _ c.next_value.ensures c.in-Met.is in
-    omega (arith, count-within _ _ _ _ _ _ _ _ m _ c.of_side-change.ensures _ _ c.loop-value.invariant.0 c.size_of-total.ensures, c.well_formed)
+    let s = rw c.in-Some.is at c.next.ensures in
+    omega (arith, count-within _ _ _ _ _ _ _ _ s _ c.loop-total.invariant, c.ranges.here)
 
-pub loop-value-smaller : goal.loop-value-smaller
-loop-value-smaller c = meets-less _ _ _ _ (met _ _ _ _ _ c.next_value.ensures c.in-Met.is)
+pub loop-total-smaller : goal.loop-total-smaller
+loop-total-smaller c =
+    let s = rw c.in-Some.is at c.next.ensures in
+    omega (arith, stepped-less _ _ _ _ _ _ _ _ s)
 
-pub loop-value-preserved : goal.loop-value-preserved
-loop-value-preserved c =
-    let m = met _ _ _ _ _ c.next_value.ensures c.in-Met.is in
-    let inv = c.loop-value.invariant in (
-      count_next _ _ _ _ _ _ _ _ m _ c.of_side-change.ensures _ _ inv.0 c.size_of-total.ensures,
-      remembers-next _ _ _ _ _ _ _ _ _ inv.1 c.find-sought.ensures,
-    )
+pub loop-total-preserved : goal.loop-total-preserved
+loop-total-preserved c = count_next _ _ _ _ _ _ _ _ (rw c.in-Some.is at c.next.ensures) _ c.loop-total.invariant
+
+pub returns : goal.returns
+returns c = count-end _ _ _ _ _ _ _ _ _ c.loop-total.invariant c.next.ensures c.in_default.is

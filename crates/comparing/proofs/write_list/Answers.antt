@@ -3,31 +3,15 @@ use native.Mathlib.Omega.{arith}
 use Rattle.comparing.proofs.Answers.{needs-within, lacks-room, has_room, second-room}
 use Rattle.comparing.proofs.write_list.Goals as goal
 
-pub count_side-first-requires : goal.count_side-first-requires
-count_side-first-requires c =
-    let pre = c.requires in
-    (pre.0, pre.1, pre.3)
-
-pub count_side-second-requires : goal.count_side-second-requires
-count_side-second-requires c =
-    let pre = c.requires in
-    (pre.1, pre.0, pre.2)
-
 pub overflow_add-needed : goal.overflow_add-needed
-overflow_add-needed c = omega (arith, needs-within _ _ _ _ _ _ c.count_side-first.ensures c.count_side-second.ensures, c.well_formed)
+overflow_add-needed c = omega (arith, needs-within _ _ _ _ _ _ c.count_side-first.ensures c.count_side-second.ensures, c.ranges.old, c.ranges.new)
 
 pub returns-then-list-needed : goal.returns-then-list-needed
 returns-then-list-needed c = lacks-room _ _ _ _ _ _ c.count_side-first.ensures c.count_side-second.ensures _ c.if-list-needed.true
 
-pub write_side-requires : goal.write_side-requires
-write_side-requires c =
-    let pre = c.requires in
-    (pre.0, pre.1, pre.3, omega (arith, c.count_side-first.ensures, c.if-list-needed.false))
-
 pub write_side-requires-2 : goal.write_side-requires-2
 write_side-requires-2 c =
-    let pre = c.requires in
-    (pre.1, pre.0, pre.2, second-room _ _ _ _ _ _ c.count_side-first.ensures c.count_side-second.ensures _ _ c.if-list-needed.false c.write_side.ensures)
+    (c.requires.1, second-room _ _ _ _ _ _ c.count_side-first.ensures c.count_side-second.ensures _ _ c.if-list-needed.false c.write_side.ensures)
 
 pub returns : goal.returns
 returns c = has_room _ _ _ _ _ _ c.count_side-first.ensures c.count_side-second.ensures _ _ _ c.if-list-needed.false c.write_side.ensures c.write_side-2.ensures

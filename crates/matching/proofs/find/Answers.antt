@@ -5,9 +5,7 @@ use Rattle.matching.proofs.Matching.{finds-next}
 use Rattle.matching.proofs.find.Goals as goal
 
 pub do_meet-requires : goal.do_meet-requires
-do_meet-requires c = (c.requires.0, (met _ _ _ _ _ c.next_value.ensures c.in-Met.is).lies)
+do_meet-requires c = (c.requires.lies, (met _ _ _ _ c.next_value.ensures c.in-Some.is).lies)
 
-pub returns : goal.returns
-returns c =
-    let p = c.requires in
-    finds-next _ _ _ _ c.args.x p.1 _ _ _ _ p.2 p.3 (met _ _ _ _ _ c.next_value.ensures c.in-Met.is) (sym c.do_meet.ensures ∙ c.if-not-do_meet.false)
+pub returns-in-Some : goal.returns-in-Some
+returns-in-Some c = finds-next _ _ _ _ c.args.x _ _ c.requires _ (met _ _ _ _ c.next_value.ensures c.in-Some.is) (sym c.do_meet.ensures ∙ c.if-do_meet.true)

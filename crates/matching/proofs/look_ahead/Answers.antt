@@ -3,15 +3,15 @@ use Rattle.cells.proofs.Cells.{placed_first}
 use Rattle.matching.proofs.Matching.{finds-at, finds-first, searched-at}
 use Rattle.matching.proofs.look_ahead.Goals as goal
 
-pub search-requires-in_default : goal.search-requires-in_default
-search-requires-in_default c = (c.requires.0, rw c.start.ensures (placed_first _))
+pub search-requires-in-None : goal.search-requires-in-None
+search-requires-in-None c = (c.requires.0, rw c.start.ensures (placed_first _))
 
-pub returns-in_default : goal.returns-in_default
-returns-in_default c =
+pub returns-in-Some : goal.returns-in-Some
+returns-in-Some c =
     let p = c.requires in
-    rw c.told.ensures (finds-first _ _ _ _ _ p.1 _ p.2 _ c.start.ensures _ c.search-in_default.ensures)
+    rw c.told.ensures (finds-at _ _ _ _ _ p.1 _ _ _ p.2 (searched-at _ _ _ _ _ _ _ _ c.search.ensures c.in-Some.is))
 
-pub returns : goal.returns
-returns c =
+pub returns-in-None : goal.returns-in-None
+returns-in-None c =
     let p = c.requires in
-    rw c.told_at.ensures (finds-at _ _ _ _ _ p.1 _ _ _ _ p.2 (searched-at _ _ _ _ _ _ _ _ _ c.search.ensures c.in-At.is))
+    rw c.told-in-None.ensures (finds-first _ _ _ _ _ p.1 _ p.2 _ c.start.ensures _ c.search-in-None.ensures)

@@ -4,8 +4,8 @@ use Rattle.cells.specs.Walk.{cells_at, cell_of}
 use Rattle.matching.proofs.Matching.{Seeks}
 use Rattle.matching.proofs.search.Given as goal
 
-abbrev pub invariant-loop-value : goal.invariant-loop-value
-invariant-loop-value l = Seeks l.store l.area l.store2 l.area2 (cell_of l.x) l.initial.here l.here
+abbrev pub invariant-loop-met : goal.invariant-loop-met
+invariant-loop-met l = Seeks l.here.store.now l.here.area.now l.there.store.now l.there.area.now (cell_of l.x) l.initial.spot l.spot
 
-abbrev pub decreases-loop-value : goal.decreases-loop-value
-decreases-loop-value l = length (cells_at l.store2 l.here)
+abbrev pub decreases-loop-met : goal.decreases-loop-met
+decreases-loop-met l = length (cells_at l.there.store.now l.spot)

@@ -2,10 +2,10 @@
 use Rattle.matching.specs.Matching.{told_of}
 use Rattle.matching.proofs.told.Goals as goal
 
-pub returns-in-At : goal.returns-in-At
+pub returns-in-Some : goal.returns-in-Some
 unfolding told_of
-returns-in-At c = rw c.in-At.is c.told_at.ensures
+returns-in-Some c = rw c.in-Some.is
 
-pub returns-in-Nowhere : goal.returns-in-Nowhere
+pub returns-in-None : goal.returns-in-None
 unfolding told_of
-returns-in-Nowhere c = rw (c.in-Nowhere.is, c.start.ensures)
+returns-in-None c = rw c.in-None.is

@@ -1,12 +1,12 @@
 -- `number_cases::equal_case`. Assumes nothing.
-use borrow.Enum.Refused.{opened}
+use mathlib.Core.Logic.{inl, inr}
 use Rattle.number_cases.specs.Numbers.{equal_case}
-use Rattle.number_cases.proofs.Cases.{order_other}
 use Rattle.number_cases.proofs.equal_case.Goals as goal
 
-pub returns-in_default : goal.returns-in_default
-returns-in_default c = order_other _ _ (opened c.in_default.in_default-own.keys2)
-
-pub returns : goal.returns
+pub returns-in-Equal : goal.returns-in-Equal
 unfolding equal_case
-returns c = rw c.in-Same.is
+returns-in-Equal c = rw c.in-Equal.is
+
+pub returns-in-Less : goal.returns-in-Less
+unfolding equal_case
+returns-in-Less c = elim c.in-Less.is [ inl e ↦ rw e | inr e ↦ rw e ]

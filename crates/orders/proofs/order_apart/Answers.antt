@@ -1,15 +1,15 @@
 -- `orders::order_apart`. Assumes nothing.
 use Rattle.orders.specs.Sizes.{apart}
 use Rattle.orders.proofs.order_apart.Goals as goal
+use Rattle.orders.proofs.order_apart.Goals.{else-is_none-via-then-is_none+else-is_none-2, else-is_none-via-else-is_none}
 
-pub returns-then-not-is_none : goal.returns-then-not-is_none
+pub returns-then-is_none-2 : goal.returns-then-is_none-2
 unfolding apart
-returns-then-not-is_none c = rw (← c.is_none.ensures, c.if-not-is_none.true)
+returns-then-is_none-2 c = rw (← c.is_none.ensures, ← c.is_none-then-is_none.ensures, c.if-is_none.true, c.if-is_none-2.true)
 
-pub returns-then-not-is_none-2 : goal.returns-then-not-is_none-2
+pub returns-else-is_none : goal.returns-else-is_none
 unfolding apart
-returns-then-not-is_none-2 c = rw (← c.is_none.ensures, ← c.is_none-2.ensures, c.if-not-is_none.false, c.if-not-is_none-2.true)
-
-pub returns : goal.returns
-unfolding apart
-returns c = rw (← c.is_none.ensures, ← c.is_none-2.ensures, c.if-not-is_none.false, c.if-not-is_none-2.false)
+returns-else-is_none c = elim c.else-is_none.branch [
+  | else-is_none-via-then-is_none+else-is_none-2 w ↦ rw (← c.is_none.ensures, ← w.is_none-then-is_none.ensures, w.if-is_none.true, w.if-is_none-2.false)
+  | else-is_none-via-else-is_none w ↦ rw (← c.is_none.ensures, w.if-is_none.false)
+]

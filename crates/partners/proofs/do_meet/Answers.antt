@@ -1,22 +1,17 @@
--- `partners::do_meet`: each `return` goes by the tests that led there. Assumes nothing.
-use mathlib.Core.Path.{sym, ◌∙◌}
-use Rattle.partners.proofs.Partners.{meet-row, meet-name, meet-frame}
+-- `partners::do_meet`. Assumes nothing.
+use mathlib.Core.Path.{◌∙◌}
+use borrow.Author.Tests.{eq-eqb, ne_eqb}
+use Rattle.partners.proofs.Partners.{meet-both, meet-other}
 use Rattle.partners.proofs.do_meet.Goals as goal
+use Rattle.partners.proofs.do_meet.Goals.{then-x-y, else-x-y}
 
-pub returns-then-x-y : goal.returns-then-x-y
-returns-then-x-y c =
+pub returns-then-same_names : goal.returns-then-same_names
+returns-then-same_names c =
     let pre = c.requires in
-    meet-row _ _ _ _ _ _ pre.0 pre.1 c.if-x-y.true
+    c.same_frame.ensures
+    ∙ meet-both _ _ _ _ _ _ pre.0 pre.1 _ (elim c.if-x-y.branch [ then-x-y w ↦ w.value-is ∙ rw (eq-eqb _ _ w.if-x-y.true) w.same_names.ensures | else-x-y w ↦ w.value-is ∙ rw (ne_eqb _ _ w.if-x-y.false) ]) c.if-same_names.true
 
-pub returns-then-not-same_names : goal.returns-then-not-same_names
-returns-then-not-same_names c =
+pub returns-else-same_names : goal.returns-else-same_names
+returns-else-same_names c =
     let pre = c.requires in
-    meet-name _ _ _ _ _ _ pre.0 pre.1 c.if-x-y.false (sym c.same_names.ensures ∙ c.if-not-same_names.true)
-
-pub same_frame-requires : goal.same_frame-requires
-same_frame-requires c = c.requires
-
-pub returns : goal.returns
-returns c =
-    let pre = c.requires in
-    c.same_frame.ensures ∙ meet-frame _ _ _ _ _ _ pre.0 pre.1 c.if-x-y.false (sym c.same_names.ensures ∙ c.if-not-same_names.false)
+    meet-other _ _ _ _ _ _ pre.0 pre.1 _ (elim c.if-x-y.branch [ then-x-y w ↦ w.value-is ∙ rw (eq-eqb _ _ w.if-x-y.true) w.same_names.ensures | else-x-y w ↦ w.value-is ∙ rw (ne_eqb _ _ w.if-x-y.false) ]) c.if-same_names.false
