@@ -28,7 +28,7 @@ pub fn same_both(area: &[u8], x: Named, y: Named) -> bool
     if x.scope != y.scope {
         return false;
     }
-    folding::same_name(area, x.from, x.size, area, y.from, y.size)
+    folding::same_name(text::part(area, x.from, x.size), text::part(area, y.from, y.size))
 }
 
 // Whether one part of the area comes before another: the shorter first, then by their bytes, folded. Parts that are the same name stand alike to any other.

@@ -56,6 +56,15 @@ pub fn is_clear(b: u8, least: u8, mark: u8) -> bool
     (least <= b) & (b != mark)
 }
 
+// So many bytes from an offset on.
+#[tactic(auto, unfolding(crate::specs::Parts::part))]
+pub fn part(s: &[u8], from: usize, size: usize) -> &[u8]
+    requires { from + size ≤ length s.now }
+    ensures { result.now ≡ part s.now from size }
+{
+    &s[from..from + size]
+}
+
 // Where the run of bytes that pass a test ends, from an offset on.
 pub fn run_end<P: Fn(u8) -> bool>(s: &[u8], from: usize, passes: P) -> usize
     requires { P.IsAlwaysCallable passes }
