@@ -1,7 +1,7 @@
 // Bytes: their classes, and runs of bytes of one class.
 #![tactic(auto)]
 
-ghost use Rattle.std.specs.Prelude.{◌≡◌, ℕ, Bool, true, ◌+◌, ◌-◌, ◌≤◌, ◌<◌, length, MatchOption};
+ghost use Rattle.std.specs.Prelude.{◌≡◌, ℕ, Bool, true, ◌+◌, ◌-◌, ◌≤◌, ◌<◌, length, drop, MatchOption};
 ghost use Rattle.text.specs.Bytes.{is, is_ascii, is_digit, is_eol, is_space, ends_word};
 ghost use Rattle.text.specs.Runs.{span, span_end, runs, Tells, Within};
 ghost use Rattle.text.specs.Blocks.{clear};
@@ -56,6 +56,13 @@ pub fn is_clear(b: u8, least: u8, mark: u8) -> bool
     (least <= b) & (b != mark)
 }
 
+// What stands from an offset on; behind the end nothing.
+pub fn rest(s: &[u8], from: usize) -> &[u8]
+    ensures { result.now ≡ drop from s.now }
+{
+    &s[from.min(s.len())..]
+}
+
 // So many bytes from an offset on.
 #[tactic(auto, unfolding(crate::specs::Parts::part))]
 pub fn part(s: &[u8], from: usize, size: usize) -> &[u8]
@@ -63,6 +70,14 @@ pub fn part(s: &[u8], from: usize, size: usize) -> &[u8]
     ensures { result.now ≡ part s.now from size }
 {
     &s[from..from + size]
+}
+
+// The same, if so many stand there.
+#[tactic(auto, unfolding(crate::specs::Parts::part))]
+pub fn part_at(s: &[u8], from: usize, size: usize) -> Option<&[u8]>
+    ensures { MatchOption result (length s.now < from + size) (λ b. (from + size ≤ length s.now) × (b.now ≡ part s.now from size)) }
+{
+    s.get(from..)?.get(..size)
 }
 
 // Where the run of bytes that pass a test ends, from an offset on.
@@ -77,14 +92,6 @@ pub fn run_end<P: Fn(u8) -> bool>(s: &[u8], from: usize, passes: P) -> usize
     at
 }
 
-// So many bytes from an offset on, if so many stand there.
-#[tactic(auto, unfolding(crate::specs::Parts::part))]
-fn block(s: &[u8], at: usize, width: usize) -> Option<&[u8]>
-    ensures { MatchOption result (length s.now < at + width) (λ b. (at + width ≤ length s.now) × (b.now ≡ part s.now at width)) }
-{
-    s.get(at..)?.get(..width)
-}
-
 // Whether a block of bytes that all pass a test stands at an offset. Every byte is looked at, so that they are compared
 // many at once.
 pub fn is_block<const N: usize, P: Fn(u8) -> bool>(s: &[u8], at: usize, passes: &P) -> bool
@@ -93,7 +100,7 @@ pub fn is_block<const N: usize, P: Fn(u8) -> bool>(s: &[u8], at: usize, passes: 
     ensures fits { result ≡ true → at + N ≤ length s.now }
     ensures passed { (p : ℕ → Bool) → Tells (P.post passes.now) p → result ≡ runs p N s.now at }
 {
-    let Some(block) = block(s, at, N) else {
+    let Some(block) = part_at(s, at, N) else {
         return false;
     };
     let mut all = true;
