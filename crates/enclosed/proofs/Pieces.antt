@@ -9,7 +9,7 @@ use Rattle.rules.specs.declared.Reading.{Reading}
 use Rattle.quotes.specs.Quotes.{quoted_by, field}
 use Rattle.quotes.specs.Answers.{quote_end, field_end}
 use Rattle.std.specs.Prelude.{Option as Maybe, Some, None}
-use Rattle.quotes.proofs.Quotes.{Ends, quote-behind, quote-nothing, field-behind, field-nothing, field-ends}
+use Rattle.quotes.proofs.Quotes.{quote-behind, quote-nothing, field-behind, field-nothing, field-ends}
 use Rattle.quotes.proofs.Strict.{quoted-ends}
 use Rattle.found.specs.declared.Found.{Found}
 use Rattle.found.specs.declared.Found.TheVariants.{Value, Missing}
