@@ -1,6 +1,6 @@
 -- Laws of bytes that are one value alone: a content between its marks is one just where it keeps the rule of its kind (no mark and no line end in quotes, in the strict
 -- reading no mark before space; a line end at its end, and no `;` behind one before, in a text field); a bare value by the answer there. Assumes nothing.
-use Prim.Native.Nat.{ℕ, suc, ◌+◌, ◌-◌, ◌≤◌, ◌<◌}
+use Prim.Native.Nat.{ℕ, suc, ◌-◌, ◌≤◌, ◌<◌}
 use mathlib.Core.Path.{◌≡◌, refl, sym, ap, ap₂, ◌∙◌}
 use mathlib.Core.Bool.{true, false, ◌&&◌, and-false, true≢false, false≢true}
 use mathlib.Core.List.{List, [], ◌∷◌, ◌++◌}
@@ -17,7 +17,7 @@ use Rattle.columns.specs.Before.{byte_before}
 use Rattle.columns.proofs.Before.{before-start}
 use Rattle.words.specs.Words.{word}
 use Rattle.keywords.proofs.Keywords.{reserved-low}
-use Rattle.std.specs.Prelude.{Option as Maybe, Some, None}
+use Rattle.std.specs.Prelude.{Some, None}
 use Rattle.quotes.specs.Quotes.{quoted, strict_quoted, field}
 use Rattle.quotes.specs.Answers.{field_end}
 use Rattle.quotes.specs.Content.{plain, strict_plain, last_eol, ends_at, is_none}
