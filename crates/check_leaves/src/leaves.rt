@@ -7,7 +7,6 @@ use harness::say;
 use kinds::{Kind, Shape};
 use numbers::{Decimal, Number};
 use places::Place;
-use quotes::Closing;
 use records::Token;
 use rules::Reading;
 use std::io;
@@ -43,10 +42,10 @@ pub fn moved<W: Write>(out: &mut W, s: &[u8]) -> io::Result<()> {
     place(out, gaps::trim_comments_and_whitespace(s, start))
 }
 
-pub fn closing<W: Write>(out: &mut W, c: Closing) -> io::Result<()> {
-    match c {
-        Closing::Behind(end) => say::size(out, end),
-        Closing::Nothing => say::bytes(out, b" nothing"),
+pub fn closing<W: Write>(out: &mut W, end: Option<usize>) -> io::Result<()> {
+    match end {
+        Some(end) => say::size(out, end),
+        None => say::bytes(out, b" nothing"),
     }
 }
 

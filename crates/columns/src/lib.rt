@@ -12,10 +12,7 @@ pub fn byte_before(s: &[u8], at: usize) -> u8
     requires { at ≤ length s.now }
     ensures { result ≡ byte_before s.now at }
 {
-    if at < 1 {
-        return b'\n';
-    }
-    s[at - 1]
+    if at < 1 { b'\n' } else { s[at - 1] }
 }
 
 // Whether space parts what stands at an offset from what stands before; only the strict reading asks.

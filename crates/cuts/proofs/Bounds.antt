@@ -24,6 +24,10 @@ byte-within w i b h e = by (dec_lt i (length w))
     by (yes l) = l
     by (no l) = absurd (omega (arith, past_end w i (omega arith)))
 
+-- so it does where it is known to be above 0
+pub inside : (w : List ℕ) (i : ℕ) → 0 < get_or w i 0 → i < length w
+inside w i h = byte-within w i (get_or w i 0) h refl
+
 pub after-within : (x y : ℕ) (w : List ℕ) (i : ℕ) → 0 < x → 0 < y → i ≤ length w → after x y w i ≤ length w
 unfolding after is
 after-within x y w i hx hy h = by (dec_lt i (length w))

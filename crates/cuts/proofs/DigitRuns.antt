@@ -8,7 +8,7 @@ use native.Mathlib.Nat.{add-zero, pow-suc, pow-le-pow_right, lt_of_lt_of_le}
 use native.Mathlib.Omega.{arith}
 use lib.Dec.{leb, lit<}
 use lib.ListN.{length, drop, get_or, length-take, length-drop}
-use lib.Seq.{take-suc, take-add, drop-cons, drop-drop, get_or-drop}
+use lib.Seq.{take-suc, take-add, drop-cons, drop-drop, get_or-drop, get_or-take}
 use borrow.Author.Tests.{leb-true}
 use Rattle.text.specs.Bytes.{is_digit}
 use Rattle.text.proofs.Bools.{and_l, and_r}
@@ -29,6 +29,10 @@ piece-none w i = piece-over w i i (omega arith)
 pub piece-length : (w : List ℕ) (i j : ℕ) → j ≤ length w → length (piece w i j) ≡ j - i
 unfolding piece
 piece-length w i j h = omega (arith, length-take (j - i) (drop i w), length-drop i w)
+
+pub piece-at : (w : List ℕ) (i j k : ℕ) → k < j - i → get_or (piece w i j) k 0 ≡ get_or w (i + k) 0
+unfolding piece
+piece-at w i j k h = rw (get_or-take, get_or-drop)
 
 -- pieces that follow each other are one; the first byte of a piece, and the last
 pub piece-join : (w : List ℕ) (i j k : ℕ) → i ≤ j → j ≤ k → piece w i k ≡ piece w i j ++ piece w j k

@@ -6,7 +6,7 @@ ghost use Rattle.cuts.specs.Digits.{value, piece, after, digits_end, digits_at, 
 ghost use Rattle.cuts.specs.Cuts.{nowhere as nowhere_of, starts_exponent, exponent_at, bracket_at, cuts_of};
 
 // Where an optional part lies: its sign starts at `sign`, its digits at `digits` and end at `end`, and what follows it
-// starts at `next`.
+// starts at `next`. No Option: an absent part has offsets too, at which the next part starts.
 #[derive(Clone, Copy)]
 pub struct Extent {
     pub here: bool,
@@ -38,40 +38,24 @@ pub struct Cuts {
 pub fn byte_at(w: &[u8], at: usize) -> u8
     ensures { result ≡ get_or w.now at 0 }
 {
-    if at < w.len() {
-        return w[at];
-    }
-    0
+    w.get(at).copied().unwrap_or(0)
 }
 
 // Behind the byte at an offset, if it is one of two.
+#[tactic(auto, using(crate::proofs::Bounds::inside), unfolding(crate::specs::Digits::after, text::specs::Bytes::is))]
 pub fn after_one(w: &[u8], at: usize, x: u8, y: u8) -> usize
     requires { (0 < x) × (0 < y) }
     ensures { result ≡ after x y w.now at }
 {
-    if at < w.len() {
-        if w[at] == x {
-            return at + 1;
-        }
-        if w[at] == y {
-            return at + 1;
-        }
-    }
-    at
+    let b = byte_at(w, at);
+    if b == x || b == y { at + 1 } else { at }
 }
 
 // Behind the digits at an offset.
 pub fn digits_end(w: &[u8], from: usize) -> usize
     ensures { result ≡ digits_end w.now from }
 {
-    let mut at = from;
-    while at < w.len() {
-        if !text::is_digit(w[at]) {
-            return at;
-        }
-        at += 1;
-    }
-    at
+    text::run_end(w, from, text::is_digit)
 }
 
 // A part that is absent at an offset.
@@ -88,19 +72,11 @@ fn nowhere(at: usize) -> Extent
 }
 
 // Whether an `e` or `E` that isn't the word's last byte stands at an offset.
+#[tactic(auto, using(crate::proofs::Bounds::inside), unfolding(crate::specs::Cuts::starts_exponent, text::specs::Bytes::is))]
 fn starts_exponent(w: &[u8], at: usize) -> bool
     ensures { result ≡ starts_exponent w.now at }
 {
-    if w.len() <= at {
-        return false;
-    }
-    if w.len() <= at + 1 {
-        return false;
-    }
-    if w[at] == b'e' {
-        return true;
-    }
-    w[at] == b'E'
+    matches!(byte_at(w, at), b'e' | b'E') && at + 1 < w.len()
 }
 
 // The exponent at an offset.
@@ -164,23 +140,14 @@ pub fn cut(w: &[u8]) -> Cuts
     }
 }
 
-// A byte as a number.
-fn wide(x: u8) -> u64
-    ensures { result ≡ x }
-{
-    x as u64
-}
-
 // The number that the digits from one offset to another write.
 pub fn digits_value(w: &[u8], from: usize, to: usize) -> u64
     requires { Run w.now from to × (to - from ≤ 18) }
     ensures { result ≡ value (piece w.now from to) }
 {
-    let mut v: u64 = 0;
-    let mut at = from;
-    while at < to {
-        v = v * 10 + wide(w[at] - b'0');
-        at += 1;
+    let mut v = 0;
+    for b in &w[from..to] {
+        v = v * 10 + u64::from(*b - b'0');
     }
     v
 }
@@ -193,19 +160,16 @@ pub fn small_value(w: &[u8], from: usize, to: usize) -> u32
     digits_value(w, from, to) as u32
 }
 
-// The digits at an offset, in one pass.
+// The digits at an offset, in one pass: `digits_end` and then `digits_value` would read each twice.
 pub fn digits_at(w: &[u8], from: usize) -> Digits
     requires { digits_end w.now from - from ≤ 18 }
     ensures { result ≡ digits_at w.now from }
 {
-    let mut v: u64 = 0;
-    let mut at = from;
-    while at < w.len() {
-        if !text::is_digit(w[at]) {
-            return Digits { end: at, value: v };
-        }
-        v = v * 10 + wide(w[at] - b'0');
-        at += 1;
+    let mut value = 0;
+    let mut end = from;
+    while end < w.len() && text::is_digit(w[end]) {
+        value = value * 10 + u64::from(w[end] - b'0');
+        end += 1;
     }
-    Digits { end: at, value: v }
+    Digits { end, value }
 }

@@ -24,23 +24,21 @@ pub fn decimal_of(w: &[u8]) -> Decimal
     let part = cuts::digits_at(w, point);
     let behind = part.end;
     let places = behind - point;
+    let plain = Decimal {
+        minus,
+        integer,
+        fraction: part.value,
+        places,
+        lowers: false,
+        exponent: 0,
+        uncertain: false,
+        uncertainty: 0,
+    };
     if w.len() <= behind {
-        return Decimal {
-            minus,
-            integer,
-            fraction: part.value,
-            places,
-            lowers: false,
-            exponent: 0,
-            uncertain: false,
-            uncertainty: 0,
-        };
-    }
-    if w[behind] != b'(' {
-        return numbers::decimal_by_cuts(w);
+        return plain;
     }
     // A bracket that isn't closed may have digits without limit.
-    if 11 < w.len() - behind {
+    if w[behind] != b'(' || 11 < w.len() - behind {
         return numbers::decimal_by_cuts(w);
     }
     let inner = cuts::digits_at(w, behind + 1);
@@ -48,25 +46,18 @@ pub fn decimal_of(w: &[u8]) -> Decimal
         return numbers::decimal_by_cuts(w);
     }
     Decimal {
-        minus,
-        integer,
-        fraction: part.value,
-        places,
-        lowers: false,
-        exponent: 0,
         uncertain: true,
         uncertainty: inner.value as u32,
+        ..plain
     }
 }
 
 // Whether a word ends at an offset of a text.
+#[tactic(auto, unfolding(crate::specs::Plain::word_stops))]
 fn word_stops(s: &[u8], at: usize) -> bool
     ensures { result ≡ word_stops s.now at }
 {
-    if s.len() <= at {
-        return true;
-    }
-    text::ends_word(s[at])
+    s.len() <= at || text::ends_word(s[at])
 }
 
 // The digits that a bracket has at least: `1()` is a number of the first reading alone.
@@ -80,6 +71,7 @@ fn least_digits(reading: Reading) -> usize
 }
 
 // Behind the bracket at an offset, if it is closed, has digits enough and keeps its limit; else the offset.
+#[tactic(auto, using(cuts::proofs::Bounds::inside, cuts::proofs::DigitRuns::digits_from), unfolding(crate::specs::Plain::bracket_end, text::specs::Bytes::is))]
 fn bracket_end(reading: Reading, s: &[u8], at: usize) -> usize
     ensures { result ≡ bracket_end reading s.now at }
 {
@@ -88,21 +80,19 @@ fn bracket_end(reading: Reading, s: &[u8], at: usize) -> usize
     }
     let digits = at + 1;
     let end = cuts::digits_end(s, digits);
-    if end - digits < least_digits(reading) {
-        return at;
+    let count = end - digits;
+    let holds = least_digits(reading) <= count && count <= 9;
+    if holds && cuts::byte_at(s, end) == b')' {
+        end + 1
+    } else {
+        at
     }
-    if 9 < end - digits {
-        return at;
-    }
-    if cuts::byte_at(s, end) != b')' {
-        return at;
-    }
-    end + 1
 }
 
 // Where the number that starts at an offset of a text ends, if it has no exponent, keeps the limits and is the whole
 // word; else the offset. It makes no decimal: most values are such numbers, and most readers want their kind and length
 // alone.
+#[tactic(auto, using(cuts::proofs::DigitRuns::digits_from), unfolding(crate::specs::Plain::decimal_end))]
 pub fn decimal_end(reading: Reading, s: &[u8], from: usize) -> usize
     ensures { result ≡ decimal_end reading s.now from }
 {
@@ -113,15 +103,9 @@ pub fn decimal_end(reading: Reading, s: &[u8], from: usize) -> usize
     }
     let point = cuts::after_one(s, integer, b'.', b'.');
     let fraction = cuts::digits_end(s, point);
-    if 18 < fraction - point {
-        return from;
-    }
-    if integer - sign + (fraction - point) < 1 {
+    if 18 < fraction - point || integer - sign + (fraction - point) < 1 {
         return from;
     }
     let end = bracket_end(reading, s, fraction);
-    if !word_stops(s, end) {
-        return from;
-    }
-    end
+    if word_stops(s, end) { end } else { from }
 }

@@ -8,9 +8,8 @@ use lib.ListN.{length, drop, length-drop}
 use Rattle.rules.specs.declared.Reading.{Reading}
 use Rattle.quotes.specs.Quotes.{quoted_by, field}
 use Rattle.quotes.specs.Answers.{quote_end, field_end}
-use Rattle.quotes.specs.declared.Closing.{Closing}
-use Rattle.quotes.specs.declared.Closing.TheVariants.{Behind, Nothing}
-use Rattle.quotes.proofs.Quotes.{Ends, quote-behind, quote-nothing, field-behind, field-nothing, field-ends}
+use Rattle.std.specs.Prelude.{Option as Maybe, Some, None}
+use Rattle.quotes.proofs.Quotes.{quote-behind, quote-nothing, field-behind, field-nothing, field-ends}
 use Rattle.quotes.proofs.Strict.{quoted-ends}
 use Rattle.found.specs.declared.Found.{Found}
 use Rattle.found.specs.declared.Found.TheVariants.{Value, Missing}
@@ -35,24 +34,24 @@ module _ (k : ℕ) (w : Why) (s : List ℕ) (o e : ℕ) (x : Option ℕ) where
   unfolding between
   between_none f = rw f
 
-module _ (r : Reading) (m k : ℕ) (s : List ℕ) (o : ℕ) (c : Closing) (q : c ≡ quote_end r m s (o + 1)) where
-  pub quote-found : (e : ℕ) → c ≡ Behind e → o < length s → Closes s o e (quote_kind r k) (quote_at r m k s o)
+module _ (r : Reading) (m k : ℕ) (s : List ℕ) (o : ℕ) (c : Maybe ℕ) (q : c ≡ quote_end r m s (o + 1)) where
+  pub quote-found : (e : ℕ) → c ≡ Some e → o < length s → Closes s o e (quote_kind r k) (quote_at r m k s o)
   unfolding quote_at
   quote-found e p h =
       let b = quote-behind r m s (o + 1) e (sym q ∙ p) in
       between-found (quote_kind r k) OpenQuote s o e (quoted_by r m (drop (o + 1) s)) b (quoted-ends r m (drop (o + 1) s) (e - (o + 1)) b.1).fits h
 
-  pub quote-none : c ≡ Nothing → Missing OpenQuote ≡ quote_at r m k s o
+  pub quote-none : c ≡ None → Missing OpenQuote ≡ quote_at r m k s o
   unfolding quote_at
   quote-none p = between_none (quote_kind r k) OpenQuote s o 0 (quoted_by r m (drop (o + 1) s)) (quote-nothing r m s (o + 1) (sym q ∙ p))
 
-module _ (s : List ℕ) (o : ℕ) (c : Closing) (q : c ≡ field_end s (o + 1)) where
-  pub field_found : (e : ℕ) → c ≡ Behind e → o < length s → Closes s o e 13 (field_at s o)
+module _ (s : List ℕ) (o : ℕ) (c : Maybe ℕ) (q : c ≡ field_end s (o + 1)) where
+  pub field_found : (e : ℕ) → c ≡ Some e → o < length s → Closes s o e 13 (field_at s o)
   unfolding field_at
   field_found e p h =
       let b = field-behind s (o + 1) e (sym q ∙ p) in
       between-found 13 OpenField s o e (field (drop (o + 1) s)) b (field-ends (drop (o + 1) s) (e - (o + 1)) b.1).fits h
 
-  pub field-none : c ≡ Nothing → Missing OpenField ≡ field_at s o
+  pub field-none : c ≡ None → Missing OpenField ≡ field_at s o
   unfolding field_at
   field-none p = between_none 13 OpenField s o 0 (field (drop (o + 1) s)) (field-nothing s (o + 1) (sym q ∙ p))

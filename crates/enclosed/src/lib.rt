@@ -9,7 +9,6 @@ ghost use Rattle.enclosed.specs.Pieces.{quote_kind, quote_at, field_at, semicolo
 
 use found::Why;
 use kinds::Kind;
-use quotes::Closing;
 use rules::Reading;
 
 // The kind of a quoted value: that of its mark, or in the strict reading one for both.
@@ -27,7 +26,7 @@ pub fn pack_quote(reading: Reading, s: &[u8], at: usize, mark: u8, kind: u8) -> 
     requires { (length s.now < 2 ^ 32) × (at < length s.now) × (is_eol mark ≡ false) }
     ensures { result ≡ packed_of (quote_at reading mark kind s.now at) }
 {
-    let Closing::Behind(end) = quotes::parse_quoted(reading, s, at + 1, mark) else {
+    let Some(end) = quotes::parse_quoted(reading, s, at + 1, mark) else {
         return Why::OPEN_QUOTE;
     };
     found::packed(quote_kind(reading, kind), end - at)
@@ -38,7 +37,7 @@ fn pack_field(s: &[u8], at: usize) -> usize
     requires { (length s.now < 2 ^ 32) × (at < length s.now) }
     ensures { result ≡ packed_of (field_at s.now at) }
 {
-    let Closing::Behind(end) = quotes::parse_multiline_string(s, at + 1) else {
+    let Some(end) = quotes::parse_multiline_string(s, at + 1) else {
         return Why::OPEN_FIELD;
     };
     found::packed(Kind::MULTILINE, end - at)
@@ -50,9 +49,10 @@ fn pack_strict_semicolon(s: &[u8], at: usize) -> usize
     ensures { result ≡ packed_of (semicolon_at Strict s.now at) }
 {
     if text::is_eol(columns::byte_before(s, at)) {
-        return pack_field(s, at);
+        pack_field(s, at)
+    } else {
+        found::pack_bare(s, at)
     }
-    found::pack_bare(s, at)
 }
 
 // `;`, by the reading.

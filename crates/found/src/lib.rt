@@ -26,8 +26,8 @@ pub enum Found {
     Missing { why: Why },
 }
 
-// What is found is packed into one number, since one comes back from a call in a register, an enum through memory;
-// `Found::of` takes it apart. A value is its kind and its length times `KINDS`; what is no value has no length, and a
+// What is found is packed into one number, since one comes back from a call in a register, an enum through memory, which
+// was measured and is slower; `Found::of` takes it apart. A value is its kind and its length times `KINDS`; what is no value has no length, and a
 // number below `KINDS` says what it is: the reason's own, or `OVER`.
 const KINDS: usize = 32;
 
@@ -60,11 +60,12 @@ impl Why {
 }
 
 // A value, packed.
+#[tactic(auto, unfolding(crate::specs::Packing::pack))]
 pub fn packed(kind: u8, size: usize) -> usize
     requires { size < 2 ^ 32 }
     ensures { result ≡ pack kind size }
 {
-    kind as usize + size * KINDS
+    usize::from(kind) + size * KINDS
 }
 
 // A word that is no number.
@@ -77,44 +78,38 @@ pub fn pack_bare(s: &[u8], at: usize) -> usize
 }
 
 // Why no value stands, by its number.
+#[tactic(auto, unfolding(crate::specs::Packing::why_of_number))]
 fn why_of(token: usize) -> Why
     ensures { result ≡ why_of_number token }
 {
-    if token == Why::AT_END {
-        return Why::AtEnd;
+    match token {
+        Why::AT_END => Why::AtEnd,
+        Why::RESERVED => Why::Reserved,
+        Why::NO_START => Why::NoStart,
+        Why::OPEN_QUOTE => Why::OpenQuote,
+        Why::JOINED => Why::Joined,
+        _ => Why::OpenField,
     }
-    if token == Why::RESERVED {
-        return Why::Reserved;
-    }
-    if token == Why::NO_START {
-        return Why::NoStart;
-    }
-    if token == Why::OPEN_QUOTE {
-        return Why::OpenQuote;
-    }
-    if token == Why::JOINED {
-        return Why::Joined;
-    }
-    Why::OpenField
 }
 
 impl Found {
     pub const OVER: usize = 6;
 
     // What a packed number says.
+    #[tactic(auto, unfolding(crate::specs::Packing::unpacked_of))]
     pub fn of(token: usize) -> Found
         ensures { result ≡ unpacked_of token }
     {
         if KINDS <= token {
             let kind = token % KINDS;
-            return Found::Value {
+            Found::Value {
                 kind: kind as u8,
                 size: token / KINDS,
-            };
+            }
+        } else if token == Found::OVER {
+            Found::Over
+        } else {
+            Found::Missing { why: why_of(token) }
         }
-        if token == Found::OVER {
-            return Found::Over;
-        }
-        Found::Missing { why: why_of(token) }
     }
 }

@@ -13,35 +13,31 @@ use lib.Seq.{drop-cons}
 use Rattle.rules.specs.declared.Reading.{Reading}
 use Rattle.rules.specs.declared.Reading.TheVariants.{First, Strict}
 use Rattle.text.specs.Bytes.{bytes, is, ends_word}
-use Rattle.text.proofs.Bools.{and_l, and_r}
+use Rattle.text.proofs.Bools.{and_l, and_r, never_true}
 use Rattle.text.proofs.Ranges.{all_below, passes, fails}
 use Rattle.words.specs.Words.{in_word, word}
 use Rattle.words.proofs.Words.{word_next}
 use Rattle.folding.specs.Folding.{lower}
 use Rattle.keywords.specs.Keywords.{starts, starts_at, key_data, key_global, key_loop, key_save, key_stop, is_word, stands, reserved}
 
--- letter by letter: what is left to compare from letter i of k on and from offset o of s on
-unfoldable pub rest : List ℕ → List ℕ → ℕ → ℕ → Bool
-rest k s i o = starts (drop i k) (drop o s)
+-- letter by letter: what is left to compare from letter i on
+unfoldable pub rest : List ℕ → List ℕ → ℕ → Bool
+rest k s i = starts (drop i k) (drop i s)
 
-pub rest_all : (k s : List ℕ) (o : ℕ) → starts_at k s o ≡ rest k s 0 o
+pub rest_all : (k s : List ℕ) (o : ℕ) → starts_at k s o ≡ rest k (drop o s) 0
 unfolding rest starts_at
 rest_all k s o = refl
 
-module _ (k s : List ℕ) (i o : ℕ) where
-  pub rest-go : i < length k → o < length s → lower (get_or s o 0) ≡ get_or k i 0 → rest k s i o ≡ rest k s (i + 1) (o + 1)
+module _ (k s : List ℕ) (i : ℕ) where
+  pub rest-go : i < length k → i < length s → lower (get_or s i 0) ≡ get_or k i 0 → rest k s i ≡ rest k s (i + 1)
   unfolding rest starts is
-  rest-go hk hs e = rw (drop-cons k i 0, drop-cons s o 0, eq-eqb _ _ e, add-one i, add-one o)
+  rest-go hk hs e = rw (drop-cons k i 0, drop-cons s i 0, eq-eqb _ _ e, add-one i)
 
-  pub rest-no : i < length k → o < length s → (lower (get_or s o 0) ≡ get_or k i 0 → ⊥) → rest k s i o ≡ false
+  pub rest-no : i < length k → i < length s → (lower (get_or s i 0) ≡ get_or k i 0 → ⊥) → rest k s i ≡ false
   unfolding rest starts is
-  rest-no hk hs e = rw (drop-cons k i 0, drop-cons s o 0, ne_eqb _ _ e)
+  rest-no hk hs e = rw (drop-cons k i 0, drop-cons s i 0, ne_eqb _ _ e)
 
-  pub rest-short : i < length k → length s ≤ o → rest k s i o ≡ false
-  unfolding rest starts
-  rest-short hk hs = rw (drop-cons k i 0, drop_of_length-le s hs)
-
-  pub rest-done : length k ≤ i → rest k s i o ≡ true
+  pub rest-done : length k ≤ i → rest k s i ≡ true
   unfolding rest starts
   rest-done h = rw (drop_of_length-le k h)
 
@@ -53,6 +49,9 @@ starts-fits (c ∷ k) [] e = absurd (true≢false (sym e))
 starts-fits (c ∷ k) (b ∷ s) e =
     let h : length k ≤ length s = starts-fits k s (and_r (is c (lower b)) (starts k s) e) in
     omega arith
+
+pub starts-short : (k s : List ℕ) → length s < length k → starts k s ≡ false
+starts-short k s h = never_true _ (λ e. let f : length k ≤ length s = starts-fits k s e in omega arith)
 
 -- letter case does not tell the bytes of a word from others
 lower-in-word : (b : ℕ) → in_word (lower b) ≡ in_word b

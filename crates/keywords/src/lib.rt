@@ -6,21 +6,21 @@ ghost use Rattle.keywords.specs.Keywords.{starts_at, key_data, key_save, is_word
 
 use rules::Reading;
 
+// No reserved word starts with a byte below it.
+const LOWEST: u8 = b'D';
+
 // Whether a keyword, written in lower case, stands at an offset in any letter case.
 pub fn start_with(s: &[u8], at: usize, key: &[u8]) -> bool
     ensures { result ≡ starts_at key.now s.now at }
 {
-    let mut here = at;
-    let mut i = 0;
-    while i < key.len() {
-        if s.len() <= here {
+    let rest = text::rest(s, at);
+    if rest.len() < key.len() {
+        return false;
+    }
+    for (i, c) in key.iter().enumerate() {
+        if folding::to_lower(rest[i]) != *c {
             return false;
         }
-        if folding::to_lower(s[here]) != key[i] {
-            return false;
-        }
-        here += 1;
-        i += 1;
     }
     true
 }
@@ -40,13 +40,11 @@ pub fn at_save(s: &[u8], at: usize) -> bool
 }
 
 // Whether a keyword is the whole word at an offset, in any letter case.
+#[tactic(auto, unfolding(crate::specs::Keywords::is_word))]
 fn is_word(s: &[u8], at: usize, key: &[u8]) -> bool
     ensures { result ≡ is_word key.now (drop at s.now) }
 {
-    if !start_with(s, at, key) {
-        return false;
-    }
-    words::parse_identifier(s, at) - at == key.len()
+    start_with(s, at, key) && words::parse_identifier(s, at) - at == key.len()
 }
 
 // Whether a keyword stands at an offset: as a prefix, or in the strict reading as a whole word. Asked for `loop_`, `global_`
@@ -68,47 +66,23 @@ pub fn is_reserved(reading: Reading, s: &[u8], at: usize) -> bool
         return false;
     }
     let b = s[at];
-    if b < b'D' {
+    if b < LOWEST {
         return false;
     }
-    let first = folding::to_lower(b);
-    if first == b'd' {
-        return at_data(s, at);
+    match folding::to_lower(b) {
+        b'd' => at_data(s, at),
+        b'g' => stands_at(reading, s, at, b"global_"),
+        b'l' => stands_at(reading, s, at, b"loop_"),
+        b's' => at_save(s, at) || stands_at(reading, s, at, b"stop_"),
+        _ => false,
     }
-    if first == b'g' {
-        return stands_at(reading, s, at, b"global_");
-    }
-    if first == b'l' {
-        return stands_at(reading, s, at, b"loop_");
-    }
-    if first != b's' {
-        return false;
-    }
-    if at_save(s, at) {
-        return true;
-    }
-    stands_at(reading, s, at, b"stop_")
 }
 
 // Whether a byte is a letter that no reserved word starts with.
+#[tactic(auto, unfolding(crate::specs::Keywords::is_free_letter, text::specs::Bytes::is))]
 pub fn is_free_letter(b: u8) -> bool
     ensures { result ≡ is_free_letter b }
 {
     let letter = folding::to_lower(b);
-    if letter < b'a' {
-        return false;
-    }
-    if b'z' < letter {
-        return false;
-    }
-    if letter == b'd' {
-        return false;
-    }
-    if letter == b'g' {
-        return false;
-    }
-    if letter == b'l' {
-        return false;
-    }
-    letter != b's'
+    matches!(letter, b'a'..=b'z') && !matches!(letter, b'd' | b'g' | b'l' | b's')
 }

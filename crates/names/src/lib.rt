@@ -23,7 +23,7 @@ pub struct Named<'a> {
 pub fn same_both(x: Named<'_>, y: Named<'_>) -> bool
     ensures { result ≡ same_both (name_of x.entry) (name_of y.entry) }
 {
-    x.scope == y.scope && folding::same_name(x.bytes, 0, x.bytes.len(), y.bytes, 0, y.bytes.len())
+    x.scope == y.scope && folding::same_name(x.bytes, y.bytes)
 }
 
 // Whether one name comes before another: the shorter first, then by their bytes, folded. Names that are the same stand alike to any other.

@@ -5,7 +5,6 @@ use Prim.Native.Nat.{ℕ}
 use mathlib.Core.Path.{◌≡◌, refl, sym, ap, ◌∙◌, subst}
 use mathlib.Core.Bool.{Bool, true, false, not, ◌&&◌, true≢false, false≢true}
 use mathlib.Core.List.{List, [], ◌∷◌, ◌++◌, append_assoc, append-nil}
-use Rattle.text.specs.Bytes.{is}
 use Rattle.text.proofs.Bools.{and_l, and_r}
 use Rattle.numbers.specs.Parts.{digits, sign, point, Part, is_empty, exponent, bracket, parts, is_number, written, is_numeric}
 use Rattle.numbers.specs.Cif.{all_digits, Sign, Unsigned, exp, CifOptional, without, with-exp, CifNumber, integer, float-exp, float-frac, float-point, CifNumeric, exact, uncertain}

@@ -14,7 +14,7 @@ use Rattle.text.proofs.Bools.{and_l, and_r, or_l, or_r}
 use Rattle.numbers.specs.declared.Decimal.{Decimal}
 use Rattle.cuts.specs.declared.Cuts.{Cuts}
 use Rattle.numbers.specs.declared.Number.TheVariants.{Not, Is, Over}
-use Rattle.numbers.specs.Parts.{Parts, cut, digits, sign, point, is_empty, parts, is_number, written, is_numeric, counts_as, within, minus}
+use Rattle.numbers.specs.Parts.{Parts, cut, digits, sign, point, is_empty, parts, is_number, is_numeric, counts_as, within, minus}
 use Rattle.cuts.specs.Digits.{value, piece}
 use Rattle.numbers.specs.Meaning.{meaning, judged, number_of}
 use Rattle.cuts.specs.Cuts.{cuts_of, Sound}

@@ -6,20 +6,20 @@ use mathlib.Core.List.{List}
 use lib.Dec.{leb, ltb}
 use lib.ListN.{length}
 use borrow.Author.Tests.{leb-true}
-use Rattle.text.proofs.Bools.{and_l, and_r}
+use Rattle.text.proofs.Bools.{and_l, and_r, not-and}
 use Rattle.cuts.specs.declared.Cuts.{Cuts}
 use Rattle.cuts.specs.Cuts.{Sound}
 use Rattle.cuts.proofs.DigitRuns.{piece-length}
 use Rattle.numbers.specs.Parts.{is_number, written, within}
 use Rattle.numbers.specs.Pieces.{part_of, parts_of}
-use Rattle.numbers.proofs.Pieces.{piece-empty, rest-empty}
+use Rattle.numbers.proofs.Pieces.{piece-empty, rest_test}
 
 -- the word is a number, by its cuts
 pub number-cuts : (w : List ℕ) (k : Cuts) → Sound w k →
-    is_number (parts_of w k) ≡ (not (ltb k.bracket.next (length w)) && not (not (ltb k.sign k.integer) && not (ltb k.point k.fraction)))
+    is_number (parts_of w k) ≡ (leb (length w) k.bracket.next && (ltb k.sign k.integer || ltb k.point k.fraction))
 unfolding is_number parts_of part_of
 number-cuts w k s =
-    rw (rest-empty w k.bracket.next, piece-empty w k.sign k.integer s.integer.to, piece-empty w k.point k.fraction s.fraction.to)
+    rw (rest_test w k.bracket.next, piece-empty w k.sign k.integer s.integer.to, piece-empty w k.point k.fraction s.fraction.to, not-and, not-not, not-not)
 
 -- exponent and bracket have digits where they are there, by its cuts
 pub written-cuts : (w : List ℕ) (k : Cuts) → Sound w k →
@@ -41,6 +41,9 @@ within-cuts w k s =
       piece-length w k.exponent.digits k.exponent.end s.exponent.to,
       piece-length w k.bracket.digits k.bracket.end s.uncertainty.to,
     )
+
+-- what the code's tests of cuts go by
+pub ruleset cut_tests = (number-cuts, written-cuts, within-cuts)
 
 -- what the limits say of cuts
 pub record Limits (k : Cuts) : Type 0 where

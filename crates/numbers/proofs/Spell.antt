@@ -10,7 +10,7 @@ use Rattle.text.specs.Bytes.{is_digit, is}
 use Rattle.text.proofs.Bools.{and_l, and_r, or_cases}
 use Rattle.text.proofs.Ranges.{digit_not}
 use Rattle.numbers.specs.Parts.{cut, cons_got, digits, sign, point, Part, absent, signed_digits, is_empty, exponent, close, bracket, parts}
-use Rattle.numbers.specs.Cif.{all_digits, Sign, unsigned, plus, minus, exp}
+use Rattle.numbers.specs.Cif.{all_digits, Sign, unsigned, plus, minus}
 
 digit-no-sign : (c : ℕ) → is_digit c ≡ true → (is 43 c || is 45 c) ≡ false
 unfolding is

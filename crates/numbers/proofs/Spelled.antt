@@ -12,11 +12,11 @@ use Rattle.text.specs.Bytes.{is_digit, is}
 use Rattle.text.proofs.Bools.{and_r}
 use Rattle.numbers.specs.declared.Decimal.{Decimal}
 use Rattle.rules.specs.declared.Reading.TheVariants.{First}
-use Rattle.numbers.specs.Parts.{Part, absent, is_empty, exponent, Parts, parts, is_number, within, minus as is_minus, counts_as}
+use Rattle.numbers.specs.Parts.{Part, absent, is_empty, Parts, parts, is_number, within, minus as is_minus}
 use Rattle.cuts.specs.Digits.{value_from, value}
 use Rattle.numbers.specs.declared.Number.TheVariants.{Is}
 use Rattle.numbers.specs.Meaning.{meaning, judged, number_of}
-use Rattle.numbers.specs.Cif.{all_digits, Sign, unsigned, minus, exp, integer}
+use Rattle.numbers.specs.Cif.{all_digits, Sign, unsigned, minus}
 use Rattle.numbers.specs.Spelling.{padded, trim, plain, sign_bytes, unc_bytes, exp_bytes, frac_bytes, render_number, Kept}
 use Rattle.numbers.proofs.Spell.{Bracket, unbracketed, bracketed, Exponent, unscaled, scaled, Point, whole, pointed, parts-spell, not-empty}
 

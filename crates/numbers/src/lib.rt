@@ -12,7 +12,7 @@ use cuts::{Cuts, Extent};
 use rules::Reading;
 
 // What a number means: its sign, integer, fraction and how many digits that has, sign and size of the exponent, and
-// uncertainty.
+// uncertainty. Flags beside numbers, and no Option: so the record of the store keeps them.
 #[derive(Clone, Copy)]
 pub struct Decimal {
     pub minus: bool,
@@ -25,7 +25,8 @@ pub struct Decimal {
     pub uncertainty: u32,
 }
 
-// What a word says: it is no number, it is one, or it is one that breaks a digit limit.
+// What a word says: it is no number, it is one, or it is one that breaks a digit limit. Not an Option of a Result, which
+// would say no more: to be no number is no failure, and what breaks a limit is a number.
 #[derive(Clone, Copy)]
 pub enum Number {
     Not,
@@ -34,107 +35,75 @@ pub enum Number {
 }
 
 // Whether a number may start with a byte.
+#[tactic(auto, unfolding(crate::specs::Pieces::starts_number, text::specs::Bytes::is))]
 fn starts_number(b: u8) -> bool
     ensures { result ≡ starts_number b }
 {
-    if text::is_digit(b) {
-        return true;
-    }
-    if b == b'+' {
-        return true;
-    }
-    if b == b'-' {
-        return true;
-    }
-    b == b'.'
+    text::is_digit(b) || matches!(b, b'+' | b'-' | b'.')
 }
 
 // Whether the parts make a number: nothing is left over, and a digit stands before or after the point.
+#[tactic(auto, using(crate::proofs::Limits::cut_tests))]
 fn is_number(w: &[u8], k: Cuts) -> bool
     requires { Sound w.now k }
     ensures { result ≡ is_number (parts_of w.now k) }
 {
-    if k.bracket.next < w.len() {
-        return false;
-    }
-    if k.sign < k.integer {
-        return true;
-    }
-    k.point < k.fraction
+    w.len() <= k.bracket.next && (k.sign < k.integer || k.point < k.fraction)
 }
 
 // Whether a part, if it is there, has digits.
 fn is_written(x: Extent) -> bool
     ensures { result ≡ (not x.here || ltb x.digits x.end) }
 {
-    if !x.here {
-        return true;
-    }
-    x.digits < x.end
+    !x.here || x.digits < x.end
 }
 
 // Whether exponent and bracket do.
+#[tactic(auto, using(crate::proofs::Limits::cut_tests))]
 fn is_standard(w: &[u8], k: Cuts) -> bool
     requires { Sound w.now k }
     ensures { result ≡ (written (parts_of w.now k).exp && written (parts_of w.now k).unc) }
 {
-    let exponent = k.exponent;
-    if !is_written(exponent) {
-        return false;
-    }
-    let bracket = k.bracket;
-    is_written(bracket)
+    is_written(k.exponent) && is_written(k.bracket)
 }
 
 // Whether the parts make a number of the reading.
+#[tactic(auto, unfolding(crate::specs::Parts::is_numeric))]
 fn counts_as(reading: Reading, w: &[u8], k: Cuts) -> bool
     requires { Sound w.now k }
     ensures { result ≡ counts_as reading (parts_of w.now k) }
 {
-    if !is_number(w, k) {
-        return false;
-    }
     match reading {
-        Reading::First => true,
-        Reading::Strict => is_standard(w, k),
+        Reading::First => is_number(w, k),
+        Reading::Strict => is_number(w, k) && is_standard(w, k),
     }
 }
 
 // Whether the digits of each part keep their limit, counted with leading zeros.
+#[tactic(auto, using(crate::proofs::Limits::cut_tests))]
 fn in_limits(w: &[u8], k: Cuts) -> bool
     requires { Sound w.now k }
     ensures { result ≡ within (parts_of w.now k) }
 {
-    if 9 < k.integer - k.sign {
-        return false;
-    }
-    if 18 < k.fraction - k.point {
-        return false;
-    }
-    if 9 < k.exponent.end - k.exponent.digits {
-        return false;
-    }
-    k.bracket.end - k.bracket.digits <= 9
+    k.integer - k.sign <= 9
+        && k.fraction - k.point <= 18
+        && k.exponent.end - k.exponent.digits <= 9
+        && k.bracket.end - k.bracket.digits <= 9
 }
 
 // Whether a sign from one offset to another is a minus.
+#[tactic(auto, using(crate::proofs::Pieces::sign_test))]
 pub fn is_minus(w: &[u8], from: usize, to: usize) -> bool
     ensures { result ≡ minus (piece w.now from to) }
 {
-    if to <= from {
-        return false;
-    }
-    cuts::byte_at(w, from) == b'-'
+    from < to && cuts::byte_at(w, from) == b'-'
 }
 
 // Whether an exponent of a size has a minus: 0 has none.
 fn is_lowering(w: &[u8], from: usize, to: usize, size: u32) -> bool
     ensures { result ≡ minus (piece w.now from to) && not (eqb size 0) }
 {
-    if size == 0 {
-        return false;
-    }
-    is_minus(w, from, to)
+    size != 0 && is_minus(w, from, to)
 }
 
 // What the parts mean.

@@ -14,9 +14,9 @@ use cells::{Found, Side};
 fn same_names(here: Side<'_>, at: usize, there: Side<'_>, at2: usize) -> bool
     ensures { result ≡ same_name (held_at here.entry.store.now here.entry.area.now at) (held_at there.entry.store.now there.entry.area.now at2) }
 {
-    let x = steps::name_at(here.store, here.area, at);
-    let y = steps::name_at(there.store, there.area, at2);
-    folding::same_name(here.area, x.from, x.size, there.area, y.from, y.size)
+    let x = steps::bytes_at(here.store, here.area, at);
+    let y = steps::bytes_at(there.store, there.area, at2);
+    folding::same_name(x, y)
 }
 
 // Whether two values stand in the same scope.

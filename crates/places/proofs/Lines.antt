@@ -8,10 +8,10 @@ use borrow.Author.Tests.{not-true, ne_eqb}
 use lib.Dec.{eqb}
 use lib.ListN.{length, get_or}
 use Rattle.text.specs.Bytes.{is_eol}
-use Rattle.text.specs.Runs.{span_end, runs}
+use Rattle.text.specs.Runs.{span_end, Within}
 use Rattle.text.specs.Blocks.{clear}
 use Rattle.places.specs.Lines.{in_line, line_end}
-use Rattle.text.proofs.Blocks.{clear-least, block-keeps}
+use Rattle.text.proofs.Blocks.{clear-least}
 use Rattle.text.proofs.Runs.{span-go, span-over, span-from, span-within, span-all}
 
 pub in-line : (b : ℕ) → is_eol b ≡ false → in_line b ≡ true
@@ -34,8 +34,9 @@ high-in-line b h =
     let no : (k : ℕ) → k < 14 → eqb b k ≡ false = λ k l. ne_eqb b k (λ e. omega arith) in
     rw (no 10 (omega arith), no 13 (omega arith))
 
-pub line-block : (s : List ℕ) (o n : ℕ) → runs (clear 14 0) n s o ≡ true → span_end in_line s o ≡ span_end in_line s (o + n)
-line-block s o n e = block-keeps (span_end in_line s) (clear 14 0) s o (λ k l h t. span-go in_line s k h (high-in-line (get_or s k 0) (clear-least 14 0 (get_or s k 0) t))) n e
+pub clear-in-line : Within (clear 14 0) in_line
+unfolding Within
+clear-in-line b e = high-in-line b (clear-least 14 0 b e)
 
 -- it lies within the text
 pub line-from : (s : List ℕ) (o : ℕ) → o ≤ line_end s o

@@ -87,17 +87,12 @@ impl Report {
 pub fn line_end(s: &[u8], from: usize) -> usize
     ensures { result ≡ line_end s.now from }
 {
-    let mut at = from;
-    while text::is_clear(s, at, 16, text::ABOVE_LINE_ENDS, 0) {
-        at += 16;
-    }
-    while at < s.len() {
-        if text::is_eol(s[at]) {
-            return at;
-        }
-        at += 1;
-    }
-    at
+    text::long_run_end::<16, _, _>(
+        s,
+        from,
+        |b| text::is_clear(b, text::ABOVE_LINE_ENDS, 0),
+        |b| !text::is_eol(b),
+    )
 }
 
 // Line and column so far, and half: the last byte, where it is an LF or CR that began a line end, else 0.
@@ -109,47 +104,32 @@ pub struct Scan {
 }
 
 // Over one byte.
+#[tactic(auto, unfolding(crate::specs::Places::step, text::specs::Bytes::is_eol))]
 pub fn step(c: Scan, b: u8) -> Scan
     requires { (c.line < 2 ^ 63) × (c.column < 2 ^ 63) }
     ensures { result ≡ step_of c b }
 {
-    let half = c.half;
-    if b == b'\n' {
-        if half == b'\r' {
-            return Scan {
-                line: c.line,
-                column: 1,
-                half: 0,
-            };
-        }
-        return Scan {
+    match (b, c.half) {
+        (b'\n', b'\r') | (b'\r', b'\n') => Scan {
+            line: c.line,
+            column: 1,
+            half: 0,
+        },
+        (b'\n' | b'\r', _) => Scan {
             line: c.line + 1,
             column: 1,
-            half: b'\n',
-        };
-    }
-    if b == b'\r' {
-        if half == b'\n' {
-            return Scan {
-                line: c.line,
-                column: 1,
-                half: 0,
-            };
-        }
-        return Scan {
-            line: c.line + 1,
-            column: 1,
-            half: b'\r',
-        };
-    }
-    Scan {
-        line: c.line,
-        column: c.column + 1,
-        half: 0,
+            half: b,
+        },
+        _ => Scan {
+            line: c.line,
+            column: c.column + 1,
+            half: 0,
+        },
     }
 }
 
 // Over bytes that end no line.
+#[tactic(auto, unfolding(crate::specs::Places::along))]
 fn along(c: Scan, count: usize) -> Scan
     requires { c.column + count < 2 ^ 64 }
     ensures { result ≡ along_of c count }
@@ -191,13 +171,11 @@ fn advance_by_line(s: &[u8], p: Place, to: usize) -> Place
 }
 
 // 1 for LF, 0 for any other byte.
+#[tactic(auto, unfolding(crate::specs::Lines::feed))]
 fn feed(b: u8) -> u8
     ensures { result ≡ feed_of b }
 {
-    if b == b'\n' {
-        return 1;
-    }
-    0
+    u8::from(b == b'\n')
 }
 
 // The answer of a block that holds a CR.
@@ -210,17 +188,11 @@ fn feeds_in_block(s: &[u8], at: usize) -> u8
 {
     let mut carriage = false;
     let mut count: u8 = 0;
-    let mut seen = 0;
-    while seen < 32 {
-        let b = s[at + seen];
-        carriage = carriage | (b == b'\r');
-        count += feed(b);
-        seen += 1;
+    for b in text::part(s, at, 32) {
+        carriage |= *b == b'\r';
+        count += feed(*b);
     }
-    if carriage {
-        return HAS_RETURN;
-    }
-    count
+    if carriage { HAS_RETURN } else { count }
 }
 
 // How many bytes of a part are LF, or one more than it has bytes where one is CR.
@@ -254,14 +226,12 @@ fn last_start(s: &[u8], from: usize, to: usize) -> usize
     requires { (from ≤ to) × (to ≤ length s.now) }
     ensures { result ≡ last_start (to - from) s.now from }
 {
-    let mut at = to;
-    while from < at {
-        if s[at - 1] == b'\n' {
-            return at;
+    for i in (from..to).rev() {
+        if s[i] == b'\n' {
+            return i + 1;
         }
-        at -= 1;
     }
-    at
+    from
 }
 
 // The place of a later offset, from the place of an earlier one. Where no CR stands between, each LF is a line end by

@@ -1,48 +1,51 @@
 -- Laws of quotes and text fields. Assumes nothing.
 use Prim.Native.Nat.{ℕ, zero, suc, ◌+◌, ◌-◌, ◌≤◌, ◌<◌}
 use mathlib.Core.Path.{◌≡◌, refl, sym, ap, ◌∙◌}
-use mathlib.Core.Bool.{Bool, true, false, cond, ◌&&◌, and-false}
+use mathlib.Core.Bool.{Bool, true, false, cond, ◌&&◌, ◌||◌, and-false}
 use mathlib.Core.List.{List, [], ◌∷◌}
 use mathlib.Core.Option.{Option, none, some}
 use native.Mathlib.Numerals.{add-one}
 use native.Mathlib.Omega.{arith}
-use borrow.Author.Tests.{eqb-true, ne_eqb, lt-ltb, le-ltb, not-false}
+use borrow.Author.Tests.{eqb-true, eq-eqb, ne_eqb, lt-ltb, le-ltb, not-true, not-false}
 use lib.Dec.{ltb}
 use lib.ListN.{length, drop, get_or, drop_of_length-le}
 use lib.Seq.{drop-cons}
 use Rattle.text.specs.Bytes.{is, is_eol}
-use Rattle.text.specs.Runs.{span_end, runs}
-use Rattle.text.proofs.Bools.{and_r}
+use Rattle.text.specs.Runs.{span_end, Within}
+use Rattle.text.proofs.Bools.{and_r, or_l, or_r}
 use Rattle.text.proofs.Runs.{span-from, span-ends}
-use Rattle.quotes.specs.declared.Closing.{Closing}
-use Rattle.quotes.specs.declared.Closing.TheVariants.{Behind, Nothing}
+use Rattle.std.specs.Prelude.{Option as Maybe, Some, None}
 use Rattle.text.specs.Blocks.{clear}
 use Rattle.rules.specs.declared.Reading.{Reading}
+use Rattle.quotes.specs.Content.{in_quotes}
 use Rattle.quotes.specs.Quotes.{more, quoted, quoted_by, field_in, field}
 use Rattle.quotes.specs.Answers.{closing, mark_end, quote_end, field_end}
-use Rattle.text.proofs.Blocks.{clear-least, clear-other, clear-mark, block-keeps, span-keeps}
+use Rattle.text.proofs.Blocks.{clear-least, clear-other, clear-mark, span-keeps}
+
+or_right : (a b : Bool) → (a || b) ≡ true → a ≡ false → b ≡ true
+or_right a b e f = rw f at e
 
 -- byte by byte
 
 closing-more : (o : ℕ) (r : Option ℕ) → closing o (more r) ≡ closing (o + 1) r
 unfolding closing more
 closing-more o none = refl
-closing-more o (some n) = ap Behind (omega arith)
+closing-more o (some n) = ap Some (omega arith)
 
 module _ (m : ℕ) (s : List ℕ) (o : ℕ) where
   pub quote-go : o < length s → is m (get_or s o 0) ≡ false → is_eol (get_or s o 0) ≡ false → mark_end m s o ≡ mark_end m s (o + 1)
   unfolding mark_end quoted
   quote-go h e f = rw (drop-cons s o 0, e, f, closing-more, add-one)
 
-  pub quote-here : o < length s → is m (get_or s o 0) ≡ true → mark_end m s o ≡ Behind (o + 1)
+  pub quote-here : o < length s → is m (get_or s o 0) ≡ true → mark_end m s o ≡ Some (o + 1)
   unfolding mark_end quoted closing
   quote-here h e = rw (drop-cons s o 0, e)
 
-  pub quote-open : o < length s → is m (get_or s o 0) ≡ false → is_eol (get_or s o 0) ≡ true → mark_end m s o ≡ Nothing
+  pub quote-open : o < length s → is m (get_or s o 0) ≡ false → is_eol (get_or s o 0) ≡ true → mark_end m s o ≡ None
   unfolding mark_end quoted closing
   quote-open h e f = rw (drop-cons s o 0, e, f)
 
-  pub quote-over : length s ≤ o → mark_end m s o ≡ Nothing
+  pub quote-over : length s ≤ o → mark_end m s o ≡ None
   unfolding mark_end quoted closing
   quote-over h = rw (drop_of_length-le s h)
 
@@ -51,11 +54,34 @@ high-plain : (b : ℕ) → 14 ≤ b → is_eol b ≡ false
 unfolding is_eol
 high-plain b h = rw (ne_eqb b 10 (λ e. omega arith), ne_eqb b 13 (λ e. omega arith))
 
-pub quote-block : (m : ℕ) (s : List ℕ) (o n : ℕ) → runs (clear 14 m) n s o ≡ true → mark_end m s o ≡ mark_end m s (o + n)
-quote-block m s o n e = block-keeps (mark_end m s) (clear 14 m) s o (λ k l h t. quote-go m s k h (clear-other 14 m (get_or s k 0) t) (high-plain (get_or s k 0) (clear-least 14 m (get_or s k 0) t))) n e
+pub clear-in-quotes : (m : ℕ) → Within (clear 14 m) (in_quotes m)
+unfolding Within in_quotes
+clear-in-quotes m b t = rw (clear-other 14 m b t, high-plain b (clear-least 14 m b t))
+
+-- behind the bytes that may stand in quotes: the mark, or none on this line
+module _ (m : ℕ) (s : List ℕ) (o e : ℕ) (q : e ≡ span_end (in_quotes m) s o) where
+  mark-run : mark_end m s o ≡ mark_end m s e
+  unfolding in_quotes
+  mark-run = rw q (span-keeps (mark_end m s) (in_quotes m) s o (λ k l h t.
+      let n : (is m (get_or s k 0) || is_eol (get_or s k 0)) ≡ false = not-true _ t in
+      quote-go m s k h (or_l _ _ n) (or_r _ _ n)))
+
+  pub run-mark : e < length s → get_or s e 0 ≡ m → mark_end m s o ≡ Some (e + 1)
+  unfolding is
+  run-mark h i = mark-run ∙ quote-here m s e h (eq-eqb _ _ i)
+
+  pub run-other : e < length s → (get_or s e 0 ≡ m → ⊥) → mark_end m s o ≡ None
+  unfolding is in_quotes
+  run-other h i =
+      let p : in_quotes m (get_or s e 0) ≡ false = rw q (span-ends (in_quotes m) s o (rw q at h)) in
+      let n : is m (get_or s e 0) ≡ false = ne_eqb _ _ i in
+      mark-run ∙ quote-open m s e h n (or_right _ _ (not-false _ p) n)
+
+  pub run-over : length s ≤ e → mark_end m s o ≡ None
+  run-over h = mark-run ∙ quote-over m s e h
 
 -- the end of a text field from offset o on; the flag: a byte of a line end stands before
-unfoldable pub field_from : Bool → List ℕ → ℕ → Closing
+unfoldable pub field_from : Bool → List ℕ → ℕ → Maybe ℕ
 field_from eol s o = closing o (field_in eol (drop o s))
 
 pub field-all : (s : List ℕ) (o : ℕ) → field_end s o ≡ field_from false s o
@@ -67,11 +93,11 @@ module _ (eol : Bool) (s : List ℕ) (o : ℕ) where
   unfolding field_from field_in
   field-go h e = rw (drop-cons s o 0, e, closing-more, add-one)
 
-  pub field-here : o < length s → (eol && is 59 (get_or s o 0)) ≡ true → field_from eol s o ≡ Behind (o + 1)
+  pub field-here : o < length s → (eol && is 59 (get_or s o 0)) ≡ true → field_from eol s o ≡ Some (o + 1)
   unfolding field_from field_in closing
   field-here h e = rw (drop-cons s o 0, e)
 
-  pub field-over : length s ≤ o → field_from eol s o ≡ Nothing
+  pub field-over : length s ≤ o → field_from eol s o ≡ None
   unfolding field_from field_in closing
   field-over h = rw (drop_of_length-le s h)
 
@@ -82,7 +108,7 @@ abbrev line_before : List ℕ → ℕ → ℕ → Bool
 line_before s o k = ltb o k && is_eol (get_or s (k - 1) 0)
 
 -- the end of a field that starts at o, from offset k on
-unfoldable pub field_past : List ℕ → ℕ → ℕ → Closing
+unfoldable pub field_past : List ℕ → ℕ → ℕ → Maybe ℕ
 field_past s o k = field_from (line_before s o k) s k
 
 pub past-start : (s : List ℕ) (o : ℕ) → field_end s o ≡ field_past s o o
@@ -104,11 +130,11 @@ module _ (s : List ℕ) (o k e : ℕ) (l : o ≤ k) (q : e ≡ span_end (clear 0
       let t : clear 0 59 (get_or s e 0) ≡ false = rw q (span-ends (clear 0 59) s k (rw q at h)) in
       not-false (is 59 (get_or s e 0)) (sym (clear-mark 59 (get_or s e 0)) ∙ t)
 
-  pub past-last : length s ≤ e → field_past s o k ≡ Nothing
+  pub past-last : length s ≤ e → field_past s o k ≡ None
   unfolding field_past
   past-last h = past-mark ∙ field-over (line_before s o e) s e h
 
-  pub past-here : e < length s → o < e → is_eol (get_or s (e - 1) 0) ≡ true → field_past s o k ≡ Behind (e + 1)
+  pub past-here : e < length s → o < e → is_eol (get_or s (e - 1) 0) ≡ true → field_past s o k ≡ Some (e + 1)
   unfolding field_past
   past-here h i f = past-mark ∙ field-here (line_before s o e) s e h (rw (lt-ltb o e i, f, mark-here h))
 
@@ -119,7 +145,7 @@ module _ (s : List ℕ) (o k e : ℕ) (l : o ≤ k) (q : e ≡ span_end (clear 0
   past-plain h f = past-mark ∙ past-go s o e (omega (arith, q, span-from (clear 0 59) s k)) h (rw (f, and-false))
 
 -- a closing found lies behind the start, at its length
-closing-behind : (o e : ℕ) (r : Option ℕ) → closing o r ≡ Behind e → (o ≤ e) × (r ≡ some (e - o))
+closing-behind : (o e : ℕ) (r : Option ℕ) → closing o r ≡ Some e → (o ≤ e) × (r ≡ some (e - o))
 unfolding closing
 closing-behind o e none q =
     let z : ◌≡◌ {A = ℕ} 0 1 = cc in
@@ -128,34 +154,34 @@ closing-behind o e (some n) q =
     let p : o + n ≡ e = cc in
     (omega arith, ap some (omega arith))
 
-closing-nothing : (o : ℕ) (r : Option ℕ) → closing o r ≡ Nothing → r ≡ none
+closing-nothing : (o : ℕ) (r : Option ℕ) → closing o r ≡ None → r ≡ none
 unfolding closing
 closing-nothing o none q = refl
 closing-nothing o (some n) q =
     let z : ◌≡◌ {A = ℕ} 0 1 = cc in
     absurd (omega arith)
 
-pub mark-behind : (m : ℕ) (s : List ℕ) (o e : ℕ) → mark_end m s o ≡ Behind e → (o ≤ e) × (quoted m (drop o s) ≡ some (e - o))
+pub mark-behind : (m : ℕ) (s : List ℕ) (o e : ℕ) → mark_end m s o ≡ Some e → (o ≤ e) × (quoted m (drop o s) ≡ some (e - o))
 unfolding mark_end
 mark-behind m s o e q = closing-behind o e (quoted m (drop o s)) q
 
-pub mark-nothing : (m : ℕ) (s : List ℕ) (o : ℕ) → mark_end m s o ≡ Nothing → quoted m (drop o s) ≡ none
+pub mark-nothing : (m : ℕ) (s : List ℕ) (o : ℕ) → mark_end m s o ≡ None → quoted m (drop o s) ≡ none
 unfolding mark_end
 mark-nothing m s o q = closing-nothing o (quoted m (drop o s)) q
 
-pub quote-behind : (r : Reading) (m : ℕ) (s : List ℕ) (o e : ℕ) → quote_end r m s o ≡ Behind e → (o ≤ e) × (quoted_by r m (drop o s) ≡ some (e - o))
+pub quote-behind : (r : Reading) (m : ℕ) (s : List ℕ) (o e : ℕ) → quote_end r m s o ≡ Some e → (o ≤ e) × (quoted_by r m (drop o s) ≡ some (e - o))
 unfolding quote_end
 quote-behind r m s o e q = closing-behind o e (quoted_by r m (drop o s)) q
 
-pub quote-nothing : (r : Reading) (m : ℕ) (s : List ℕ) (o : ℕ) → quote_end r m s o ≡ Nothing → quoted_by r m (drop o s) ≡ none
+pub quote-nothing : (r : Reading) (m : ℕ) (s : List ℕ) (o : ℕ) → quote_end r m s o ≡ None → quoted_by r m (drop o s) ≡ none
 unfolding quote_end
 quote-nothing r m s o q = closing-nothing o (quoted_by r m (drop o s)) q
 
-pub field-behind : (s : List ℕ) (o e : ℕ) → field_end s o ≡ Behind e → (o ≤ e) × (field (drop o s) ≡ some (e - o))
+pub field-behind : (s : List ℕ) (o e : ℕ) → field_end s o ≡ Some e → (o ≤ e) × (field (drop o s) ≡ some (e - o))
 unfolding field_end
 field-behind s o e q = closing-behind o e (field (drop o s)) q
 
-pub field-nothing : (s : List ℕ) (o : ℕ) → field_end s o ≡ Nothing → field (drop o s) ≡ none
+pub field-nothing : (s : List ℕ) (o : ℕ) → field_end s o ≡ None → field (drop o s) ≡ none
 unfolding field_end
 field-nothing s o q = closing-nothing o (field (drop o s)) q
 

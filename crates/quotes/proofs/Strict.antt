@@ -13,8 +13,7 @@ use Rattle.rules.specs.declared.Reading.{Reading}
 use Rattle.rules.specs.declared.Reading.TheVariants.{First, Strict}
 use Rattle.text.specs.Bytes.{is, is_eol}
 use Rattle.text.proofs.Bools.{and_l}
-use Rattle.quotes.specs.declared.Closing.{Closing}
-use Rattle.quotes.specs.declared.Closing.TheVariants.{Behind, Nothing}
+use Rattle.std.specs.Prelude.{Some, None}
 use Rattle.quotes.specs.Quotes.{more, quoted, ends_here, strict_quoted, closes, quoted_by}
 use Rattle.quotes.specs.Answers.{closing, mark_end, quote_end}
 use Rattle.quotes.proofs.Quotes.{Ends, mark-behind, mark-nothing, ends-step, quote-ends, quote-plain}
@@ -73,53 +72,53 @@ strict-again m e (b ∷ s) = by (eqb b m) refl (is_eol b) refl (strict-again m e
 closing-further : (o n : ℕ) (r : Option ℕ) → closing o (further n r) ≡ closing (o + n) r
 unfolding closing further
 closing-further o n none = refl
-closing-further o n (some k) = ap Behind (omega arith)
+closing-further o n (some k) = ap Some (omega arith)
 
 module _ (m : ℕ) (p : is_eol m ≡ false) (s : List ℕ) (o : ℕ) where
-  strict_none : mark_end m s o ≡ Nothing → quote_end Strict m s o ≡ Nothing
+  strict_none : mark_end m s o ≡ None → quote_end Strict m s o ≡ None
   unfolding quote_end again closing
   strict_none e = rw (strict-again m p (drop o s), mark-nothing m s o e)
 
   -- where the next mark stands
-  pub mark-lies : (e : ℕ) → mark_end m s o ≡ Behind e → (o < e) × (e ≤ length s)
+  pub mark-lies : (e : ℕ) → mark_end m s o ≡ Some e → (o < e) × (e ≤ length s)
   mark-lies e q =
       let b = mark-behind m s o e q in
       let i : Ends m (drop o s) (e - o) = quote-ends m (drop o s) (e - o) b.1 in
       (omega (arith, i.pos), omega (arith, b.0, i.pos, i.fits, length-drop o s))
 
-  on : (e : ℕ) → mark_end m s o ≡ Behind e → quote_end Strict m s o ≡ cond (ends_here (drop e s)) (Behind e) (quote_end Strict m s e)
+  on : (e : ℕ) → mark_end m s o ≡ Some e → quote_end Strict m s o ≡ cond (ends_here (drop e s)) (Some e) (quote_end Strict m s e)
   unfolding quote_end again closing
   on e q =
       let b = mark-behind m s o e q in
       let z : o + (e - o) ≡ e = omega (arith, b.0) in
       rw (strict-again m p (drop o s), b.1, drop-drop (e - o) o s, z) (by (ends_here (drop e s)))
     where
-      by : (t : Bool) → closing o (cond t (some (e - o)) (further (e - o) (strict_quoted m (drop e s)))) ≡ cond t (Behind e) (closing e (strict_quoted m (drop e s)))
-      by true = ap Behind (omega (arith, (mark-behind m s o e q).0))
+      by : (t : Bool) → closing o (cond t (some (e - o)) (further (e - o) (strict_quoted m (drop e s)))) ≡ cond t (Some e) (closing e (strict_quoted m (drop e s)))
+      by true = ap Some (omega (arith, (mark-behind m s o e q).0))
       by false =
           let z : o + (e - o) ≡ e = omega (arith, (mark-behind m s o e q).0) in
           rw z at (closing-further o (e - o) (strict_quoted m (drop e s)))
 
 -- by the reading: no mark on the line; a mark that closes; any other mark
 module _ (r : Reading) (m : ℕ) (p : is_eol m ≡ false) (s : List ℕ) (o : ℕ) where
-  pub quoted-none : mark_end m s o ≡ Nothing → quote_end r m s o ≡ Nothing
+  pub quoted-none : mark_end m s o ≡ None → quote_end r m s o ≡ None
   quoted-none = by r
     where
-      by : (t : Reading) → mark_end m s o ≡ Nothing → quote_end t m s o ≡ Nothing
+      by : (t : Reading) → mark_end m s o ≡ None → quote_end t m s o ≡ None
       by First e = first-mark m s o ∙ e
       by Strict e = strict_none m p s o e
 
-  pub quoted-here : (e : ℕ) → mark_end m s o ≡ Behind e → closes r (drop e s) ≡ true → quote_end r m s o ≡ Behind e
+  pub quoted-here : (e : ℕ) → mark_end m s o ≡ Some e → closes r (drop e s) ≡ true → quote_end r m s o ≡ Some e
   quoted-here e = by r
     where
-      by : (t : Reading) → mark_end m s o ≡ Behind e → closes t (drop e s) ≡ true → quote_end t m s o ≡ Behind e
+      by : (t : Reading) → mark_end m s o ≡ Some e → closes t (drop e s) ≡ true → quote_end t m s o ≡ Some e
       by First q c = first-mark m s o ∙ q
       by Strict q c = on m p s o e q ∙ rw c
 
-  pub quoted-on : (e : ℕ) → mark_end m s o ≡ Behind e → closes r (drop e s) ≡ false → quote_end r m s o ≡ quote_end r m s e
+  pub quoted-on : (e : ℕ) → mark_end m s o ≡ Some e → closes r (drop e s) ≡ false → quote_end r m s o ≡ quote_end r m s e
   quoted-on e = by r
     where
-      by : (t : Reading) → mark_end m s o ≡ Behind e → closes t (drop e s) ≡ false → quote_end t m s o ≡ quote_end t m s e
+      by : (t : Reading) → mark_end m s o ≡ Some e → closes t (drop e s) ≡ false → quote_end t m s o ≡ quote_end t m s e
       by First q c = absurd (true≢false c)
       by Strict q c = on m p s o e q ∙ rw c
 

@@ -10,42 +10,29 @@ ghost use Rattle.quotes.specs.Answers.{mark_end, quote_end, field_end};
 
 use rules::Reading;
 
-// What a search for a closing mark finds: the offset behind it, or nothing.
-#[derive(Clone, Copy)]
-pub enum Closing {
-    Behind(usize),
-    Nothing,
-}
-
-// Behind the next mark on the line. In the first reading it closes a quote; `from` is behind the mark that opens it.
-pub fn parse_enclosed(s: &[u8], from: usize, mark: u8) -> Closing
+// Behind the next mark on the line, if there is one. In the first reading it closes a quote; `from` is behind the mark
+// that opens it.
+pub fn parse_enclosed(s: &[u8], from: usize, mark: u8) -> Option<usize>
     ensures { result ≡ mark_end mark s.now from }
 {
-    let mut at = from;
-    while text::is_clear(s, at, 8, text::ABOVE_LINE_ENDS, mark) {
-        at += 8;
+    let end = text::long_run_end::<8, _, _>(
+        s,
+        from,
+        |b| text::is_clear(b, text::ABOVE_LINE_ENDS, mark),
+        |b| b != mark && !text::is_eol(b),
+    );
+    if end < s.len() && s[end] == mark {
+        Some(end + 1)
+    } else {
+        None
     }
-    while at < s.len() {
-        let b = s[at];
-        if b == mark {
-            return Closing::Behind(at + 1);
-        }
-        if text::is_eol(b) {
-            return Closing::Nothing;
-        }
-        at += 1;
-    }
-    Closing::Nothing
 }
 
 // Whether space, tab, a line end or the text's end stands at an offset.
 fn ends_here(s: &[u8], at: usize) -> bool
     ensures { result ≡ ends_here (drop at s.now) }
 {
-    if s.len() <= at {
-        return true;
-    }
-    text::is_space(s[at])
+    s.len() <= at || text::is_space(s[at])
 }
 
 // Whether a mark closes a quote, by what stands behind it.
@@ -60,18 +47,15 @@ fn closes(reading: Reading, s: &[u8], at: usize) -> bool
 
 // Behind the mark that closes a quote; `from` is behind the mark that opens it. The search for a mark is taken up again
 // behind each that does not close.
-pub fn parse_quoted(reading: Reading, s: &[u8], from: usize, mark: u8) -> Closing
+pub fn parse_quoted(reading: Reading, s: &[u8], from: usize, mark: u8) -> Option<usize>
     requires { is_eol mark ≡ false }
     ensures { result ≡ quote_end reading mark s.now from }
 {
     let mut at = from;
     loop {
-        let next = parse_enclosed(s, at, mark);
-        let Closing::Behind(end) = next else {
-            return Closing::Nothing;
-        };
+        let end = parse_enclosed(s, at, mark)?;
         if closes(reading, s, end) {
-            return Closing::Behind(end);
+            return Some(end);
         }
         at = end;
     }
@@ -81,37 +65,23 @@ pub fn parse_quoted(reading: Reading, s: &[u8], from: usize, mark: u8) -> Closin
 fn next_semicolon(s: &[u8], from: usize) -> usize
     ensures { result ≡ span_end (clear 0 semicolon) s.now from }
 {
-    let mut at = from;
-    while text::is_clear(s, at, 16, 0, b';') {
-        at += 16;
-    }
-    while at < s.len() {
-        if s[at] == b';' {
-            return at;
-        }
-        at += 1;
-    }
-    at
+    text::long_run_end::<16, _, _>(s, from, |b| b != b';', |b| b != b';')
 }
 
-// Behind the `;` that closes a text field; `from` is behind the `;` that opens it. Only a `;` is looked at, and the
-// byte
-// before it.
-pub fn parse_multiline_string(s: &[u8], from: usize) -> Closing
+// Behind the `;` that closes a text field, if one does; `from` is behind the `;` that opens it. Only a `;` is looked at,
+// and the byte before it.
+pub fn parse_multiline_string(s: &[u8], from: usize) -> Option<usize>
     ensures { result ≡ field_end s.now from }
 {
     let mut at = from;
-    let end = loop {
+    loop {
         at = next_semicolon(s, at);
         if s.len() <= at {
-            return Closing::Nothing;
+            return None;
         }
-        if from < at {
-            if text::is_eol(s[at - 1]) {
-                break at;
-            }
+        if from < at && text::is_eol(s[at - 1]) {
+            return Some(at + 1);
         }
         at += 1;
-    };
-    Closing::Behind(end + 1)
+    }
 }

@@ -8,7 +8,6 @@ ghost use Rattle.readable.specs.Readable.{is_name, readable_by};
 
 use found::Found;
 use kinds::Kind;
-use quotes::Closing;
 use rules::Reading;
 
 // One word, perhaps an empty one.
@@ -52,11 +51,7 @@ pub fn is_field(reading: Reading, content: &[u8]) -> bool
     if !text::is_eol(content[size - 1]) {
         return false;
     }
-    let closing = quotes::parse_multiline_string(content, 0);
-    let Closing::Nothing = closing else {
-        return false;
-    };
-    true
+    quotes::parse_multiline_string(content, 0).is_none()
 }
 
 // Whether a content could be read as its kind in the first reading, if it is all ASCII.

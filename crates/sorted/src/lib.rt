@@ -67,7 +67,7 @@ pub fn find(store: &[u8], area: &[u8], table: &[u32], x: &[u8]) -> Option<usize>
 {
     let held = *table.get(place_of(store, area, table, x))? as usize;
     let y = steps::bytes_at(store, area, held);
-    if folding::same_name(y, 0, y.len(), x, 0, x.len()) {
+    if folding::same_name(y, x) {
         Some(held)
     } else {
         None

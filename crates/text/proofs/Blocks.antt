@@ -10,9 +10,9 @@ use borrow.Author.Tests.{ltb-true, ltb-false, leb-true, lt-leb, le-leb, not-true
 use lib.Dec.{leb, ltb, eqb, leb-zero}
 use lib.ListN.{length, drop, get_or}
 use Rattle.text.specs.Bytes.{is}
-use Rattle.text.specs.Runs.{span, span_end, runs}
+use Rattle.text.specs.Runs.{span, span_end, runs, Within}
 use Rattle.text.proofs.Bools.{and_l, and_r, not-not}
-use Rattle.text.proofs.Runs.{runs-more, runs-met, runs-fits}
+use Rattle.text.proofs.Runs.{span-go, runs-more, runs-met, runs-fits}
 use Rattle.text.specs.Blocks.{clear}
 
 -- as a scan keeps it: has a byte been met that is the mark or below the least
@@ -56,6 +56,11 @@ block-keeps f p s o g (suc n) e =
     let both : (runs p n s o && p (get_or s (o + n) 0)) ≡ true = sym (runs-more p s o n (omega arith)) ∙ rw (add-one n) e in
     let next : o + n + 1 ≡ o + suc n = omega arith in
     block-keeps f p s o g n (and_l (runs p n s o) (p (get_or s (o + n) 0)) both) ∙ g (o + n) (omega arith) (omega arith) (and_r (runs p n s o) (p (get_or s (o + n) 0)) both) ∙ ap f next
+
+-- what passes a narrower test leaves a run's end as it is
+pub block-within : (q p : ℕ → Bool) → Within q p → (s : List ℕ) (o n : ℕ) → runs q n s o ≡ true → span_end p s o ≡ span_end p s (o + n)
+unfolding Within
+block-within q p w s o n e = block-keeps (span_end p s) q s o (λ k l h t. span-go p s k h (w (get_or s k 0) t)) n e
 
 pub span-keeps : {A : Type 0} (f : ℕ → A) (p : ℕ → Bool) (s : List ℕ) (o : ℕ) → ((k : ℕ) → o ≤ k → k < length s → p (get_or s k 0) ≡ true → f k ≡ f (k + 1)) → f o ≡ f (span_end p s o)
 unfolding runs span_end

@@ -5,7 +5,7 @@ use mathlib.Core.List.{List, [], ◌∷◌}
 use native.Mathlib.Omega.{arith}
 use native.Mathlib.Nat.{zero-min, min-zero, suc-min-suc}
 use lib.ListN.{length, get_or, take, drop, length-take, length-drop, drop_of_length-le}
-use lib.Seq.{drop-cons, take-nil}
+use lib.Seq.{drop-cons, take-nil, get_or-take, get_or-drop}
 use Rattle.text.specs.Parts.{part}
 
 take_min : (n : ℕ) (l : List ℕ) → take (min n (length l)) l ≡ take n l
@@ -22,6 +22,11 @@ module _ (s : List ℕ) where
   pub part_length : (a n : ℕ) → a + n ≤ length s → length (part s a n) ≡ n
   unfolding part
   part_length a n h = simp (length-take, length-drop) (omega arith)
+
+  -- a byte of it
+  pub part-at : (a n k : ℕ) → k < n → get_or (part s a n) k 0 ≡ get_or s (a + k) 0
+  unfolding part
+  part-at a n k h = rw (get_or-take, get_or-drop)
 
   pub part_none : (a : ℕ) → part s a 0 ≡ []
   unfolding part

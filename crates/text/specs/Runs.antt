@@ -1,5 +1,5 @@
 -- The run of bytes of one class at the start of a text. Assumes nothing.
-use Rattle.std.specs.Prelude.{ℕ, suc, ◌+◌, Bool, cond, List, [], ◌∷◌, leb, drop}
+use Rattle.std.specs.Prelude.{ℕ, suc, ◌+◌, ◌≡◌, Bool, true, cond, List, [], ◌∷◌, leb, drop}
 
 -- how many of the first bytes pass the test, up to the first that fails
 unfoldable pub span : (ℕ → Bool) → List ℕ → ℕ
@@ -13,3 +13,11 @@ span_end p s o = o + span p (drop o s)
 -- do n bytes of the class stand at offset o
 unfoldable pub runs : (ℕ → Bool) → ℕ → List ℕ → ℕ → Bool
 runs p n s o = leb n (span p (drop o s))
+
+-- what a call answers of a byte is what the test p says
+unfoldable pub Tells : (ℕ → Bool → Type 0) → (ℕ → Bool) → Type 0
+Tells answers p = (b : ℕ) (r : Bool) → answers b r → r ≡ p b
+
+-- what passes the narrower test passes the other
+unfoldable pub Within : (ℕ → Bool) → (ℕ → Bool) → Type 0
+Within narrow p = (b : ℕ) → narrow b ≡ true → p b ≡ true

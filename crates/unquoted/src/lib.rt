@@ -16,9 +16,10 @@ fn number_kind(decimal: Decimal) -> u8
     ensures { result ≡ kind_of_number decimal }
 {
     if decimal.uncertain {
-        return Kind::UNCERTAIN;
+        Kind::UNCERTAIN
+    } else {
+        Kind::NUMBER
     }
-    Kind::NUMBER
 }
 
 // The bytes between two offsets as a number, or else a value of a kind and length.
@@ -49,10 +50,7 @@ fn pack_first_point(s: &[u8], at: usize) -> usize
     ensures { result ≡ packed_of (first_point s.now at) }
 {
     let next = at + 1;
-    if s.len() <= next {
-        return found::packed(Kind::INAPPLICABLE, 1);
-    }
-    if !text::is_digit(s[next]) {
+    if s.len() <= next || !text::is_digit(s[next]) {
         return found::packed(Kind::INAPPLICABLE, 1);
     }
     let end = words::parse_identifier(s, at);

@@ -1,6 +1,6 @@
 -- Laws of bytes that are one value alone: a content between its marks is one just where it keeps the rule of its kind (no mark and no line end in quotes, in the strict
 -- reading no mark before space; a line end at its end, and no `;` behind one before, in a text field); a bare value by the answer there. Assumes nothing.
-use Prim.Native.Nat.{ℕ, suc, ◌+◌, ◌-◌, ◌≤◌, ◌<◌}
+use Prim.Native.Nat.{ℕ, suc, ◌-◌, ◌≤◌, ◌<◌}
 use mathlib.Core.Path.{◌≡◌, refl, sym, ap, ap₂, ◌∙◌}
 use mathlib.Core.Bool.{true, false, ◌&&◌, and-false, true≢false, false≢true}
 use mathlib.Core.List.{List, [], ◌∷◌, ◌++◌}
@@ -17,7 +17,7 @@ use Rattle.columns.specs.Before.{byte_before}
 use Rattle.columns.proofs.Before.{before-start}
 use Rattle.words.specs.Words.{word}
 use Rattle.keywords.proofs.Keywords.{reserved-low}
-use Rattle.quotes.specs.declared.Closing.TheVariants.{Behind, Nothing}
+use Rattle.std.specs.Prelude.{Some, None}
 use Rattle.quotes.specs.Quotes.{quoted, strict_quoted, field}
 use Rattle.quotes.specs.Answers.{field_end}
 use Rattle.quotes.specs.Content.{plain, strict_plain, last_eol, ends_at, is_none}
@@ -103,10 +103,10 @@ module _ (r : Reading) (c : List ℕ) where
   pub field-mid : (length c ≡ 0 → ⊥) → is_eol (get_or c (length c - 1) 0) ≡ false → is_alone r 10 13 (59 ∷ (c ++ (59 ∷ []))) ≡ false
   field-mid h e = alone-field r c ∙ rw (last-eol false c h, e) (and-false (is_none (field c)))
 
-  pub field-closed : (n : ℕ) → field_end c 0 ≡ Behind n → is_alone r 10 13 (59 ∷ (c ++ (59 ∷ []))) ≡ false
+  pub field-closed : (n : ℕ) → field_end c 0 ≡ Some n → is_alone r 10 13 (59 ∷ (c ++ (59 ∷ []))) ≡ false
   field-closed n e = alone-field r c ∙ rw (field-behind c 0 n e).1
 
-  pub field-whole : (length c ≡ 0 → ⊥) → is_eol (get_or c (length c - 1) 0) ≡ true → field_end c 0 ≡ Nothing → is_alone r 10 13 (59 ∷ (c ++ (59 ∷ []))) ≡ true
+  pub field-whole : (length c ≡ 0 → ⊥) → is_eol (get_or c (length c - 1) 0) ≡ true → field_end c 0 ≡ None → is_alone r 10 13 (59 ∷ (c ++ (59 ∷ []))) ≡ true
   field-whole h e f = alone-field r c ∙ rw (field-nothing c 0 f, last-eol false c h, e)
 
   -- it is not empty, and ends in a line end

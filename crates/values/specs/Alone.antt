@@ -1,7 +1,7 @@
 -- Bytes that are one value and nothing else. Assumes nothing.
 use Rattle.std.specs.Prelude.{ℕ, Bool, false, ◌&&◌, List, eqb, length}
 use Rattle.rules.specs.declared.Reading.{Reading}
-use Rattle.values.specs.Values.{Class, block, loop, save, tag, value, over_limit, nothing, Lexed, lex_as_value}
+use Rattle.values.specs.Values.{Class, block, loop, save, tag, value, over_limit, nothing, lex_as_value}
 
 -- a class is a value of kind k
 unfoldable pub is_kind : ℕ → Class → Bool

@@ -10,7 +10,7 @@ use Rattle.found.specs.declared.Found.{Found}
 use Rattle.found.specs.declared.Found.TheVariants.{Value, Over, Missing}
 use Rattle.found.specs.declared.Why.{Why}
 use Rattle.found.specs.declared.Why.TheVariants.{AtEnd, Reserved, NoStart, OpenQuote, OpenField, Joined}
-use Rattle.values.specs.Values.{Reason, at_end, reserved_word, no_start, open_quote, open_field, joined, Class, block, loop, save, tag, value, over_limit, nothing, Lexed, lex_as_value}
+use Rattle.values.specs.Values.{Reason, at_end, reserved_word, no_start, open_quote, open_field, joined, Class, block, loop, save, tag, value, over_limit, nothing, lex_as_value}
 
 unfoldable pub why_of : Reason → Why
 why_of at_end = AtEnd

@@ -6,7 +6,7 @@ use Rattle.columns.specs.Before.{byte_before, is_parted}
 use Rattle.text.specs.Bytes.{is, is_digit, plus_sign, minus_sign}
 use Rattle.found.specs.declared.Found.{Found}
 use Rattle.found.specs.Packing.{packed_of}
-use Rattle.values.specs.Values.{Lexed, lex_as_value}
+use Rattle.values.specs.Values.{lex_as_value}
 use Rattle.values.specs.Answers.{wanted}
 
 -- what is found at offset o

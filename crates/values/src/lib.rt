@@ -21,16 +21,11 @@ pub enum Value {
 }
 
 // Whether a number, or a bare value, starts with a byte: a digit or a sign.
+#[tactic(auto, unfolding(crate::specs::Finding::starts_decimal, text::specs::Bytes::is))]
 fn starts_decimal(b: u8) -> bool
     ensures { result ≡ starts_decimal b }
 {
-    if text::is_digit(b) {
-        return true;
-    }
-    if b == b'+' {
-        return true;
-    }
-    b == b'-'
+    text::is_digit(b) || matches!(b, b'+' | b'-')
 }
 
 // What stands where a digit or a sign does. Most numbers are plain ones, and their last byte tells the kind.
@@ -42,10 +37,12 @@ fn pack_decimal(reading: Reading, s: &[u8], at: usize) -> usize
     if end <= at {
         return unquoted::pack_word(reading, s, at);
     }
-    if s[end - 1] == b')' {
-        return found::packed(Kind::UNCERTAIN, end - at);
-    }
-    found::packed(Kind::NUMBER, end - at)
+    let kind = if s[end - 1] == b')' {
+        Kind::UNCERTAIN
+    } else {
+        Kind::NUMBER
+    };
+    found::packed(kind, end - at)
 }
 
 // What stands where another byte does: a mark, a letter that may start a reserved word, or another byte. Most often it is the `_`
@@ -54,31 +51,17 @@ fn pack_marked(reading: Reading, s: &[u8], at: usize, b: u8) -> usize
     requires { Start reading s.now at × (b ≡ get_or s.now at 0) × (starts_decimal b ≡ false) }
     ensures { result ≡ packed_at reading s.now at }
 {
-    if b == b'_' {
-        return Why::NO_START;
+    match b {
+        b'_' => Why::NO_START,
+        b'?' => unquoted::pack_unknown(reading, s, at),
+        b'\'' => enclosed::pack_quote(reading, s, at, b'\'', Kind::SINGLE_QUOTED),
+        b'"' => enclosed::pack_quote(reading, s, at, b'"', Kind::DOUBLE_QUOTED),
+        b';' => enclosed::pack_semicolon(reading, s, at),
+        b'.' => unquoted::pack_point(reading, s, at),
+        _ if keywords::is_reserved(reading, s, at) => Why::RESERVED,
+        _ if words::is_ordinary(b) => found::pack_bare(s, at),
+        _ => Why::NO_START,
     }
-    if b == b'?' {
-        return unquoted::pack_unknown(reading, s, at);
-    }
-    if b == b'\'' {
-        return enclosed::pack_quote(reading, s, at, b'\'', Kind::SINGLE_QUOTED);
-    }
-    if b == b'"' {
-        return enclosed::pack_quote(reading, s, at, b'"', Kind::DOUBLE_QUOTED);
-    }
-    if b == b';' {
-        return enclosed::pack_semicolon(reading, s, at);
-    }
-    if b == b'.' {
-        return unquoted::pack_point(reading, s, at);
-    }
-    if keywords::is_reserved(reading, s, at) {
-        return Why::RESERVED;
-    }
-    if !words::is_ordinary(b) {
-        return Why::NO_START;
-    }
-    found::pack_bare(s, at)
 }
 
 // What stands where space parts it from what stands before, if the reading asks for that. The first byte tells most values, without
@@ -131,22 +114,18 @@ pub fn parse_value(reading: Reading, s: &[u8], at: usize) -> Value
     requires { length s.now < 2 ^ 32 }
     ensures { result ≡ value_at reading s.now at }
 {
-    let found = Found::of(pack_value(reading, s, at));
-    if let Found::Value { kind, size } = found {
-        if kind < Kind::NUMBER {
-            return Value::Token { kind, size };
+    match Found::of(pack_value(reading, s, at)) {
+        Found::Value { kind, size } => {
+            if kind < Kind::NUMBER || kind == Kind::QUOTED {
+                return Value::Token { kind, size };
+            }
+            let end = at + size;
+            Value::Number {
+                decimal: decimals::decimal_of(&s[at..end]),
+                size,
+            }
         }
-        if kind == Kind::QUOTED {
-            return Value::Token { kind, size };
-        }
-        let end = at + size;
-        return Value::Number {
-            decimal: decimals::decimal_of(&s[at..end]),
-            size,
-        };
+        Found::Over => Value::Over,
+        Found::Missing { why } => Value::Missing { why },
     }
-    let Found::Missing { why } = found else {
-        return Value::Over;
-    };
-    Value::Missing { why }
 }

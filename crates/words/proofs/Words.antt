@@ -8,13 +8,13 @@ use borrow.Author.Tests.{eqb-true, leb-true, ne_eqb}
 use lib.Dec.{leb, eqb}
 use lib.ListN.{length, drop, get_or}
 use Rattle.text.specs.Bytes.{is_eol, ends_word}
-use Rattle.text.specs.Runs.{span_end, runs}
+use Rattle.text.specs.Runs.{span_end, Within}
 use Rattle.text.proofs.Bools.{and_l, and_r, or_cases}
 use Rattle.text.proofs.Ranges.{passes}
-use Rattle.text.proofs.Runs.{span-end, span_none, span-by, span-next, span-other, span-from, span-within, span-all, span-over, span-go}
+use Rattle.text.proofs.Runs.{span-end, span_none, span-by, span-next, span-other, span-from, span-within, span-all, span-over}
 use Rattle.text.specs.Blocks.{clear}
 use Rattle.words.specs.Words.{in_word, word, end_of_word, is_ordinary}
-use Rattle.text.proofs.Blocks.{clear-least, block-keeps}
+use Rattle.text.proofs.Blocks.{clear-least}
 
 -- a word is the run of its bytes
 pub word-run : (s : List ℕ) (o : ℕ) → end_of_word s o ≡ span_end in_word s o
@@ -28,8 +28,9 @@ high-in-word b h =
     let no : (k : ℕ) → k < 33 → eqb b k ≡ false = λ k l. ne_eqb b k (λ e. omega arith) in
     rw (no 32 (omega arith), no 9 (omega arith), no 10 (omega arith), no 13 (omega arith), no 12 (omega arith))
 
-pub word-block : (mark : ℕ) (s : List ℕ) (o n : ℕ) → runs (clear 33 mark) n s o ≡ true → span_end in_word s o ≡ span_end in_word s (o + n)
-word-block mark s o n e = block-keeps (span_end in_word s) (clear 33 mark) s o (λ k l h t. span-go in_word s k h (high-in-word (get_or s k 0) (clear-least 33 mark (get_or s k 0) t))) n e
+pub clear-in-word : (mark : ℕ) → Within (clear 33 mark) in_word
+unfolding Within
+clear-in-word mark b e = high-in-word b (clear-least 33 mark b e)
 
 -- and its end is its start and its length
 pub word_end : (s : List ℕ) (o : ℕ) → end_of_word s o ≡ o + word (drop o s)

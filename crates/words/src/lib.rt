@@ -23,65 +23,27 @@ fn in_word(b: u8) -> bool
 pub fn parse_identifier(s: &[u8], from: usize) -> usize
     ensures { result ≡ end_of_word s.now from }
 {
-    let mut at = from;
-    while at < s.len() {
-        if !in_word(s[at]) {
-            return at;
-        }
-        at += 1;
-    }
-    at
+    text::run_end(s, from, in_word)
 }
 
 // The same where the word may be long, as the name of a tag: by blocks first.
 pub fn long_word_end(s: &[u8], from: usize) -> usize
     ensures { result ≡ end_of_word s.now from }
 {
-    let mut at = from;
-    while text::is_clear(s, at, 8, text::ABOVE_SPACE, 0) {
-        at += 8;
-    }
-    while at < s.len() {
-        if !in_word(s[at]) {
-            return at;
-        }
-        at += 1;
-    }
-    at
+    text::long_run_end::<8, _, _>(
+        s,
+        from,
+        |b| text::is_clear(b, text::ABOVE_SPACE, 0),
+        in_word,
+    )
 }
 
 // Whether a bare value may start with this byte: a printable one, `!` to `~`, but for those that start something else.
+#[tactic(auto, unfolding(crate::specs::Words::is_ordinary))]
 pub fn is_ordinary(b: u8) -> bool
     ensures { result ≡ is_ordinary b }
 {
-    if b < b'!' {
-        return false;
-    }
-    if b'~' < b {
-        return false;
-    }
-    if b == b'#' {
-        return false;
-    }
-    if b == b'$' {
-        return false;
-    }
-    if b == b'\'' {
-        return false;
-    }
-    if b == b'"' {
-        return false;
-    }
-    if b == b'_' {
-        return false;
-    }
-    if b == b'[' {
-        return false;
-    }
-    if b == b']' {
-        return false;
-    }
-    b != b';'
+    matches!(b, b'!'..=b'~') && !matches!(b, b'#' | b'$' | b'\'' | b'"' | b'_' | b'[' | b']' | b';')
 }
 
 // Whether the name of a token that starts with its mark may stand: in the strict reading it is not empty, nor too long.
@@ -90,12 +52,7 @@ fn name_fits(reading: Reading, mark: usize, most: usize, size: usize) -> bool
 {
     match reading {
         Reading::First => true,
-        Reading::Strict => {
-            if size <= mark {
-                return false;
-            }
-            size <= most
-        }
+        Reading::Strict => mark < size && size <= most,
     }
 }
 

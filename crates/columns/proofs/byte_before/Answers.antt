@@ -6,5 +6,5 @@ use Rattle.columns.proofs.byte_before.Goals as goal
 pub returns-then-at-lt1 : goal.returns-then-at-lt1
 returns-then-at-lt1 c = sym (before-start _ _ c.if-at-lt1.true)
 
-pub returns : goal.returns
-returns c = sym (before-byte _ _ c.if-at-lt1.false c.requires)
+pub returns-else-at-lt1 : goal.returns-else-at-lt1
+returns-else-at-lt1 c = sym (before-byte _ _ c.if-at-lt1.false c.requires)

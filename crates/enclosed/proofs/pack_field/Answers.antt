@@ -10,13 +10,13 @@ returns-in_default c = ap packed_of (field-none _ _ _ c.parse_multiline_string.e
 
 pub overflow_sub-end : goal.overflow_sub-end
 overflow_sub-end c =
-    (field_found _ _ _ c.parse_multiline_string.ensures _ c.in-Behind.is c.requires.1).from
+    (field_found _ _ _ c.parse_multiline_string.ensures _ c.in-Some.is c.requires.1).from
 
 pub packed-requires : goal.packed-requires
 packed-requires c =
     let p = c.requires in
-    omega (arith, (field_found _ _ _ c.parse_multiline_string.ensures _ c.in-Behind.is p.1).within, p.0)
+    omega (arith, (field_found _ _ _ c.parse_multiline_string.ensures _ c.in-Some.is p.1).within, p.0)
 
 pub returns : goal.returns
 returns c =
-    c.packed.ensures ∙ ap packed_of (field_found _ _ _ c.parse_multiline_string.ensures _ c.in-Behind.is c.requires.1).value
+    c.packed.ensures ∙ ap packed_of (field_found _ _ _ c.parse_multiline_string.ensures _ c.in-Some.is c.requires.1).value

@@ -10,13 +10,13 @@ returns-in_default c = ap packed_of (quote-none _ _ _ _ _ _ c.parse_quoted.ensur
 
 pub overflow_sub-end : goal.overflow_sub-end
 overflow_sub-end c =
-    (quote-found _ _ 0 _ _ _ c.parse_quoted.ensures _ c.in-Behind.is c.requires.1).from
+    (quote-found _ _ 0 _ _ _ c.parse_quoted.ensures _ c.in-Some.is c.requires.1).from
 
 pub packed-requires : goal.packed-requires
 packed-requires c =
     let p = c.requires in
-    omega (arith, (quote-found _ _ 0 _ _ _ c.parse_quoted.ensures _ c.in-Behind.is p.1).within, p.0)
+    omega (arith, (quote-found _ _ 0 _ _ _ c.parse_quoted.ensures _ c.in-Some.is p.1).within, p.0)
 
 pub returns : goal.returns
 returns c =
-    c.packed.ensures ∙ rw c.quote_kind.ensures (ap packed_of (quote-found _ _ _ _ _ _ c.parse_quoted.ensures _ c.in-Behind.is c.requires.1).value)
+    c.packed.ensures ∙ rw c.quote_kind.ensures (ap packed_of (quote-found _ _ _ _ _ _ c.parse_quoted.ensures _ c.in-Some.is c.requires.1).value)

@@ -4,13 +4,13 @@ use Rattle.keywords.specs.Keywords.{is_word}
 use Rattle.keywords.proofs.Starts.{starts-at}
 use Rattle.keywords.proofs.is_word.Goals as goal
 
-pub returns-then-not-start_with : goal.returns-then-not-start_with
-unfolding is_word
-returns-then-not-start_with c = rw (← starts-at, ← c.start_with.ensures, c.if-not-start_with.true)
-
 pub overflow_sub-result : goal.overflow_sub-result
 overflow_sub-result c = rw c.parse_identifier.ensures (word-from _ _)
 
-pub returns : goal.returns
+pub returns-then-start_with : goal.returns-then-start_with
 unfolding is_word
-returns c = rw (← starts-at, ← c.start_with.ensures, c.if-not-start_with.false, c.parse_identifier.ensures, word_size)
+returns-then-start_with c = rw (← starts-at, ← c.start_with.ensures, c.if-start_with.true, c.parse_identifier.ensures, word_size)
+
+pub returns-else-start_with : goal.returns-else-start_with
+unfolding is_word
+returns-else-start_with c = rw (← starts-at, ← c.start_with.ensures, c.if-start_with.false)

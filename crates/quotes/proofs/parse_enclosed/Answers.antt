@@ -1,54 +1,22 @@
--- `quotes::parse_enclosed`: by blocks, then byte by byte to the mark. Assumes nothing.
-use Prim.Native.Nat.{◌-◌}
-use mathlib.Core.Path.{refl, sym, ◌∙◌}
-use native.Mathlib.Omega.{arith}
-use borrow.Author.Tests.{eq-eqb, ne_eqb}
+-- `quotes::parse_enclosed`: over the bytes that may stand in quotes, to the mark. Assumes nothing.
+use Rattle.std.proofs.Common.{◌≡◌, sym, rules}
 use Rattle.text.specs.Bytes.{is}
-use Rattle.text.proofs.Runs.{runs-fits}
-use Rattle.quotes.proofs.Quotes.{quote-go, quote-here, quote-open, quote-over, quote-block}
+use Rattle.text.specs.Runs.{span_end, Tells}
+use Rattle.text.specs.Blocks.{clear}
+use Rattle.quotes.specs.Content.{in_quotes}
+use Rattle.quotes.proofs.Quotes.{clear-in-quotes, run-mark, run-other, run-over}
 use Rattle.quotes.proofs.parse_enclosed.Goals as goal
+use Rattle.quotes.proofs.parse_enclosed.Goals.{else-end-s-via-then-end-s+else-s-end, else-end-s-via-else-end-s, After-long_run_end-end}
 
-pub loop-at-init : goal.loop-at-init
-loop-at-init c = refl
+ended : (c : After-long_run_end-end) → c.long_run_end-end.result ≡ span_end (in_quotes c.args.mark) c.args.s.now c.args.from
+unfolding Tells in_quotes is
+ended c = c.long_run_end-end.ensures (clear 14 c.args.mark) (in_quotes c.args.mark) (λ b r h. search rules) (λ b r h. search rules) (clear-in-quotes c.args.mark)
 
-pub is_clear-requires : goal.is_clear-requires
-is_clear-requires c = omega arith
+pub returns-then-s-end : goal.returns-then-s-end
+returns-then-s-end c = sym (run-mark _ _ _ _ (ended (goal.at.returns-then-s-end c).After-long_run_end-end) c.if-end-s.true c.if-s-end.true)
 
-pub overflow_add-at : goal.overflow_add-at
-overflow_add-at c = omega (arith, runs-fits _ c.args.s.now c.loop-at.at 8 (sym c.is_clear.ensures ∙ c.loop-at-test.true) (omega arith))
-
-pub loop-at-smaller : goal.loop-at-smaller
-loop-at-smaller c = omega (arith, runs-fits _ c.args.s.now c.loop-at.at 8 (sym c.is_clear.ensures ∙ c.loop-at-test.true) (omega arith))
-
-pub loop-at-preserved : goal.loop-at-preserved
-loop-at-preserved c = c.loop-at.invariant ∙ quote-block _ _ _ _ (sym c.is_clear.ensures ∙ c.loop-at-test.true)
-
-pub loop-at-2-init : goal.loop-at-2-init
-loop-at-2-init c = c.loop-at.invariant
-
-pub bounds-s-at : goal.bounds-s-at
-bounds-s-at c = omega arith
-
-pub overflow_add-result : goal.overflow_add-result
-overflow_add-result c = omega arith
-
-pub returns-then-b-mark : goal.returns-then-b-mark
-unfolding is
-returns-then-b-mark c = sym (c.loop-at-2.invariant ∙ quote-here _ _ _ c.loop-at-2-test.true (eq-eqb _ _ c.if-b-mark.true))
-
-pub returns-then-is_eol : goal.returns-then-is_eol
-unfolding is
-returns-then-is_eol c = sym (c.loop-at-2.invariant ∙ quote-open _ _ _ c.loop-at-2-test.true (ne_eqb _ _ c.if-b-mark.false) (sym c.is_eol.ensures ∙ c.if-is_eol.true))
-
-pub overflow_add-at-in-loop-at-2 : goal.overflow_add-at-in-loop-at-2
-overflow_add-at-in-loop-at-2 c = omega arith
-
-pub loop-at-2-smaller : goal.loop-at-2-smaller
-loop-at-2-smaller c = omega arith
-
-pub loop-at-2-preserved : goal.loop-at-2-preserved
-unfolding is
-loop-at-2-preserved c = c.loop-at-2.invariant ∙ quote-go _ _ _ c.loop-at-2-test.true (ne_eqb _ _ c.if-b-mark.false) (sym c.is_eol.ensures ∙ c.if-is_eol.false)
-
-pub returns : goal.returns
-returns c = sym (c.loop-at-2.invariant ∙ quote-over _ _ _ c.loop-at-2-test.false)
+pub returns-else-end-s : goal.returns-else-end-s
+returns-else-end-s c = sym (elim c.else-end-s.branch [
+  | else-end-s-via-then-end-s+else-s-end w ↦ run-other _ _ _ _ (ended (goal.at.returns-else-end-s c).After-long_run_end-end) w.if-end-s.true w.if-s-end.false
+  | else-end-s-via-else-end-s w ↦ run-over _ _ _ _ (ended (goal.at.returns-else-end-s c).After-long_run_end-end) w.if-end-s.false
+])

@@ -9,17 +9,18 @@ use Rattle.text.proofs.Runs.{past_end}
 use Rattle.words.proofs.Words.{word-from, word-within}
 use Rattle.unquoted.specs.Pieces.{first_point}
 use Rattle.unquoted.proofs.pack_first_point.Goals as goal
+use Rattle.unquoted.proofs.pack_first_point.Goals.{then-s-next-via-then-s-next, then-s-next-via-else-s-next+then-not-is_digit}
 
 pub returns-then-s-next : goal.returns-then-s-next
 unfolding first_point
 returns-then-s-next c =
     let a = c.args in
-    let d : is_digit (get_or a.s.now (a.at + 1) 0) ≡ false = unfold is_digit in rw (past_end a.s.now (a.at + 1) c.if-s-next.true) in
+    let d : is_digit (get_or a.s.now (a.at + 1) 0) ≡ false =
+    elim c.then-s-next.branch [
+      | then-s-next-via-then-s-next w ↦ unfold is_digit in rw (past_end a.s.now (a.at + 1) w.if-s-next.true)
+      | then-s-next-via-else-s-next+then-not-is_digit w ↦ sym w.is_digit.ensures ∙ w.if-not-is_digit.true
+    ] in
     rw (c.packed.ensures, d)
-
-pub returns-then-not-is_digit : goal.returns-then-not-is_digit
-unfolding first_point
-returns-then-not-is_digit c = rw (c.packed-then-not-is_digit.ensures, sym c.is_digit.ensures ∙ c.if-not-is_digit.true)
 
 pub number_or-requires : goal.number_or-requires
 number_or-requires c =

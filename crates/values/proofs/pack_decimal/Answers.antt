@@ -4,11 +4,7 @@ use native.Mathlib.Omega.{arith}
 use Rattle.values.proofs.First.{decimal-word, decimal-within, uncertain-found, certain-found}
 use Rattle.values.proofs.Packs.{packs}
 use Rattle.values.proofs.pack_decimal.Goals as goal
-
-pub pack_word-requires : goal.pack_word-requires
-pack_word-requires c =
-    let h = c.requires.0 in
-    (h.short, h.within)
+use Rattle.values.proofs.pack_decimal.Goals.{then-s-end-eq41, else-s-end-eq41}
 
 pub returns-then-end-at : goal.returns-then-end-at
 returns-then-end-at c = c.pack_word.ensures ∙ packs _ _ _ _ (decimal-word _ _ _ c.requires.0 c.requires.1)
@@ -21,16 +17,10 @@ pub packed-requires : goal.packed-requires
 packed-requires c =
     omega (arith, decimal-within _ _ _ _ c.requires.0 c.decimal_end-end.ensures (omega (arith, c.if-end-at.false)), c.requires.0.short)
 
-pub returns-then-s-end-eq41 : goal.returns-then-s-end-eq41
-returns-then-s-end-eq41 c =
-    let p = c.requires in
-    c.packed.ensures ∙ packs _ _ _ _ (uncertain-found _ _ _ _ p.0 c.decimal_end-end.ensures (omega (arith, c.if-end-at.false)) p.1 c.if-s-end-eq41.true)
-
-pub packed-requires-2 : goal.packed-requires-2
-packed-requires-2 c =
-    omega (arith, decimal-within _ _ _ _ c.requires.0 c.decimal_end-end.ensures (omega (arith, c.if-end-at.false)), c.requires.0.short)
-
 pub returns : goal.returns
 returns c =
     let p = c.requires in
-    c.packed-2.ensures ∙ packs _ _ _ _ (certain-found _ _ _ _ p.0 c.decimal_end-end.ensures (omega (arith, c.if-end-at.false)) p.1 c.if-s-end-eq41.false)
+    c.packed.ensures ∙ elim c.if-s-end-eq41.branch [
+      | then-s-end-eq41 w ↦ rw w.kind-is (packs _ _ _ _ (uncertain-found _ _ _ _ p.0 c.decimal_end-end.ensures (omega (arith, c.if-end-at.false)) p.1 w.if-s-end-eq41.true))
+      | else-s-end-eq41 w ↦ rw w.kind-is (packs _ _ _ _ (certain-found _ _ _ _ p.0 c.decimal_end-end.ensures (omega (arith, c.if-end-at.false)) p.1 w.if-s-end-eq41.false))
+    ]

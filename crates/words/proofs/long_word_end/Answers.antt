@@ -1,42 +1,11 @@
--- `words::long_word_end`: by blocks, then byte by byte. Assumes nothing.
-use mathlib.Core.Path.{sym, ◌∙◌}
-use native.Mathlib.Omega.{arith}
-use Rattle.text.proofs.Runs.{span-go, span-stop, span-over, runs-fits}
-use Rattle.words.proofs.Words.{word-run, word-block}
+-- `words::long_word_end`: by blocks of bytes above space. Assumes nothing.
+use Rattle.std.proofs.Common.{sym, ◌∙◌, rules}
+use Rattle.text.specs.Runs.{Tells}
+use Rattle.text.specs.Blocks.{clear}
+use Rattle.words.specs.Words.{in_word}
+use Rattle.words.proofs.Words.{word-run, clear-in-word}
 use Rattle.words.proofs.long_word_end.Goals as goal
 
-pub loop-at-init : goal.loop-at-init
-loop-at-init c = word-run _ _
-
-pub is_clear-requires : goal.is_clear-requires
-is_clear-requires c = omega arith
-
-pub overflow_add-at : goal.overflow_add-at
-overflow_add-at c = omega (arith, runs-fits _ c.args.s.now c.loop-at.at 8 (sym c.is_clear.ensures ∙ c.loop-at-test.true) (omega arith))
-
-pub loop-at-smaller : goal.loop-at-smaller
-loop-at-smaller c = omega (arith, runs-fits _ c.args.s.now c.loop-at.at 8 (sym c.is_clear.ensures ∙ c.loop-at-test.true) (omega arith))
-
-pub loop-at-preserved : goal.loop-at-preserved
-loop-at-preserved c = c.loop-at.invariant ∙ word-block _ _ _ _ (sym c.is_clear.ensures ∙ c.loop-at-test.true)
-
-pub loop-at-2-init : goal.loop-at-2-init
-loop-at-2-init c = c.loop-at.invariant
-
-pub bounds-s-at : goal.bounds-s-at
-bounds-s-at c = omega arith
-
-pub returns-then-not-in_word : goal.returns-then-not-in_word
-returns-then-not-in_word c = sym (c.loop-at-2.invariant ∙ span-stop _ _ _ c.loop-at-2-test.true (sym c.in_word.ensures ∙ c.if-not-in_word.true))
-
-pub overflow_add-at-in-loop-at-2 : goal.overflow_add-at-in-loop-at-2
-overflow_add-at-in-loop-at-2 c = omega arith
-
-pub loop-at-2-smaller : goal.loop-at-2-smaller
-loop-at-2-smaller c = omega arith
-
-pub loop-at-2-preserved : goal.loop-at-2-preserved
-loop-at-2-preserved c = c.loop-at-2.invariant ∙ span-go _ _ _ c.loop-at-2-test.true (sym c.in_word.ensures ∙ c.if-not-in_word.false)
-
 pub returns : goal.returns
-returns c = sym (c.loop-at-2.invariant ∙ span-over _ _ _ c.loop-at-2-test.false)
+unfolding Tells
+returns c = c.long_run_end.ensures (clear 33 0) in_word (λ b r h. search rules) (λ b r h. search rules) (clear-in-word 0) ∙ sym (word-run _ _)

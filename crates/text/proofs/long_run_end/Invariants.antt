@@ -1,0 +1,11 @@
+-- `text::long_run_end`: by blocks, then byte by byte. Assumes nothing.
+use Rattle.std.proofs.Common.{length, ◌-◌, ◌≡◌, ℕ, Bool}
+use Rattle.text.specs.Runs.{span_end, Tells, Within}
+use Rattle.text.proofs.long_run_end.Given as goal
+
+-- the run from the start on ends where the run from here on ends
+abbrev pub invariant-loop-at : goal.invariant-loop-at
+invariant-loop-at g l = (q p : ℕ → Bool) → Tells (goal.Q-post g l.quick) q → Within q p → span_end p l.s l.from ≡ span_end p l.s l.at
+
+abbrev pub decreases-loop-at : goal.decreases-loop-at
+decreases-loop-at g l = length l.s - l.at
