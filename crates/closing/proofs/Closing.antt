@@ -19,11 +19,11 @@ use Rattle.keywords.specs.Keywords.{starts, stands, key_save}
 use Rattle.keywords.proofs.Starts.{stands-starts, word-is, word_stands}
 use Rattle.values.specs.Values.{Class, block, loop, save, tag, value, over_limit, nothing, lexed}
 use Rattle.sizes.specs.declared.Sizes.{Sizes}
-use Rattle.grammar.specs.declared.Cause.{Cause}
+use Rattle.std.specs.Prelude.{Result, Err}
+use Rattle.grammar.specs.declared.Fault.{Fault}
 use Rattle.grammar.specs.declared.Cause.TheVariants.{NoItem, NotParted, OpenFrame}
-use Rattle.decisions.specs.declared.Decision.TheVariants.{Refused as RefusedText}
+use Rattle.grammar.specs.Causes.{fault}
 use Rattle.decisions.specs.declared.Step.{Step}
-use Rattle.decisions.specs.declared.Step.TheVariants.{Refused}
 use Rattle.grammar.specs.Tokens.{in_block, in_frame, lex_in, lex, after, Tok, tok, tokens_from, tokens_at, save_at, close_at, data_at, save_length, save_size}
 use Rattle.grammar.specs.Machine.{Rec, Answer, refused, run, config, rec, follow, move, at_item, fails, closes, stop}
 use Rattle.sizes.specs.Sizes.{sizes_of, no_sizes, added, joined}
@@ -163,7 +163,7 @@ strict_none s a o p d e =
     }
 
 -- a frame that has been read up to o, where no item is read before p and none closes it there
-open_told : (r : Reading) (s : List ℕ) (a o p : ℕ) → DroppedAt r s a o p → ((out : List Rec) → closing r a out (tokens_at r in_frame s p) ≡ refused 4 a 0) → (out : List Rec) → told (RefusedText OpenFrame a) ≡ tells (left r 0 (some a) s o out)
+open_told : (r : Reading) (s : List ℕ) (a o p : ℕ) → DroppedAt r s a o p → ((out : List Rec) → closing r a out (tokens_at r in_frame s p) ≡ refused 4 a 0) → (out : List Rec) → told (Err (fault OpenFrame a)) ≡ tells (left r 0 (some a) s o out)
 unfolding told tells
 open_told r s a o p d c out = rw (d.reads out, c out)
 
@@ -172,33 +172,37 @@ unfolding closing left mode_of
 strict-left s a p out = refl
 
 -- a frame's refusal is the text's
-pub frame_refused : (r : Reading) (s : List ℕ) (a o : ℕ) (z : Sizes) (c : Cause) (e : ℕ) → Passed r s none a (some a) o z 0 → ((out : List Rec) → told (RefusedText c e) ≡ tells (left r 0 (some a) s o out)) → Framed r s a (Refused c e)
+pub frame_refused : (r : Reading) (s : List ℕ) (a o : ℕ) (z : Sizes) (e : Fault) → Passed r s none a (some a) o z 0 → ((out : List Rec) → told (Err e) ≡ tells (left r 0 (some a) s o out)) → Framed r s a (Err e)
 unfolding Framed Stepped
-frame_refused r s a o z c e h q = λ d out. rw (h.reads d out) (q (out ++ h.kept))
+frame_refused r s a o z e h q = λ d out. rw (h.reads d out) (q (out ++ h.kept))
 
 -- what holds of both branches holds of the one taken
 either :
-    (r : Reading) (s : List ℕ) (o : ℕ) (t : Bool) (x y : Step)
+    (r : Reading) (s : List ℕ) (o : ℕ) (t : Bool) (x y : Result Step Fault)
     → (t ≡ true → Framed r s o x)
     → (t ≡ false → Framed r s o y)
     → Framed r s o (cond t x y)
 either r s o true x y p q = p refl
 either r s o false x y p q = q refl
 
-module _ (s : List ℕ) (a o p : ℕ) (z : Sizes) (h : Passed Strict s none a (some a) o z 0) (d : DroppedAt Strict s a o p) where
-  strict-open : close_at Strict s p ≡ false → leaves_open s p ≡ true → Framed Strict s a (Refused OpenFrame a)
-  strict-open e v = frame_refused Strict s a o z OpenFrame a h (open_told Strict s a o p d (λ out. strict-leaves s a p out d.bare e v))
+either_fault : (r : Reading) (s : List ℕ) (o : ℕ) (t : Bool) (x y : Fault) → (t ≡ true → Framed r s o (Err x)) → (t ≡ false → Framed r s o (Err y)) → Framed r s o (Err (cond t x y))
+either_fault r s o true x y p q = p refl
+either_fault r s o false x y p q = q refl
 
-  strict-absent : leaves_open s p ≡ false → Framed Strict s a (absent_of Strict s 0 p)
+module _ (s : List ℕ) (a o p : ℕ) (z : Sizes) (h : Passed Strict s none a (some a) o z 0) (d : DroppedAt Strict s a o p) where
+  strict-open : close_at Strict s p ≡ false → leaves_open s p ≡ true → Framed Strict s a (Err (fault OpenFrame a))
+  strict-open e v = frame_refused Strict s a o z (fault OpenFrame a) h (open_told Strict s a o p d (λ out. strict-leaves s a p out d.bare e v))
+
+  strict-absent : leaves_open s p ≡ false → Framed Strict s a (Err (absent_of Strict s 0 p))
   unfolding Counts told
   strict-absent v =
-      either Strict s a (is_parted Strict (byte_before s p)) _ _
-      (λ e. frame_refused Strict s a o z (NoItem 0) p h (λ out. sym (ap tells (d.reads out ∙ strict-left s a p out) ∙ absent-told Strict 0 (some a) s p tt (strict_none s a o p d v) out true e)))
-      (λ e. frame_refused Strict s a o z NotParted p h (λ out. sym (ap tells (d.reads out ∙ strict-left s a p out) ∙ absent-told Strict 0 (some a) s p tt (strict_none s a o p d v) out false e)))
+      either_fault Strict s a (is_parted Strict (byte_before s p)) _ _
+      (λ e. frame_refused Strict s a o z (fault (NoItem 0) p) h (λ out. sym (ap tells (d.reads out ∙ strict-left s a p out) ∙ absent-told Strict 0 (some a) s p tt (strict_none s a o p d v) out true e)))
+      (λ e. frame_refused Strict s a o z (fault NotParted p) h (λ out. sym (ap tells (d.reads out ∙ strict-left s a p out) ∙ absent-told Strict 0 (some a) s p tt (strict_none s a o p d v) out false e)))
 
-unclosed-framed : (r : Reading) (s : List ℕ) (a o p : ℕ) (z : Sizes) → Passed r s none a (some a) o z 0 → DroppedAt r s a o p → close_at r s p ≡ false → Framed r s a (unclosed r s a p)
-unclosed-framed First s a o p z h d e = frame_refused First s a o z OpenFrame a h (open_told First s a o p d (λ out. first-open s a p out d.bare e))
-unclosed-framed Strict s a o p z h d e = either Strict s a (leaves_open s p) _ _ (λ v. strict-open s a o p z h d e v) (λ v. strict-absent s a o p z h d v)
+unclosed-framed : (r : Reading) (s : List ℕ) (a o p : ℕ) (z : Sizes) → Passed r s none a (some a) o z 0 → DroppedAt r s a o p → close_at r s p ≡ false → Framed r s a (Err (unclosed r s a p))
+unclosed-framed First s a o p z h d e = frame_refused First s a o z (fault OpenFrame a) h (open_told First s a o p d (λ out. first-open s a p out d.bare e))
+unclosed-framed Strict s a o p z h d e = either_fault Strict s a (leaves_open s p) _ _ (λ v. strict-open s a o p z h d e v) (λ v. strict-absent s a o p z h d v)
 
 -- A FRAME THAT HAS BEEN READ UP TO o ends where no further item is read
 pub frame-ends : (r : Reading) (s : List ℕ) (a o p : ℕ) (z : Sizes) → Passed r s none a (some a) o z 0 → DroppedAt r s a o p → Framed r s a (frame_end r s a z p)

@@ -8,7 +8,7 @@ ghost use Rattle.items.specs.Answers.{Ready};
 ghost use Rattle.closing.specs.Closing.{leaves_open, unclosed as unclosed_of, frame_end};
 
 use decisions::Step;
-use grammar::Cause;
+use grammar::{Cause, Fault};
 use kinds::Kind;
 use rules::Reading;
 use sizes::Sizes;
@@ -24,48 +24,45 @@ fn leaves_open(s: &[u8], at: usize) -> bool
     requires { at ≤ length s.now }
     ensures { result ≡ leaves_open s.now at }
 {
-    if s.len() <= at {
-        return true;
-    }
-    if openings::at_save(Reading::Strict, s, at) {
-        return true;
-    }
-    openings::at_data(Reading::Strict, s, at)
+    s.len() <= at
+        || openings::at_save(Reading::Strict, s, at)
+        || openings::at_data(Reading::Strict, s, at)
 }
 
 // The frame that opened at an offset does not close where its items stopped.
-fn unclosed(reading: Reading, s: &[u8], start: usize, stop: usize) -> Step
+fn unclosed(reading: Reading, s: &[u8], start: usize, stop: usize) -> Fault
     requires { stop ≤ length s.now }
     ensures { result ≡ unclosed_of reading s.now start stop }
 {
     match reading {
-        Reading::First => Step::Refused {
-            cause: Cause::OpenFrame,
-            at: start,
-        },
+        Reading::First => Cause::OpenFrame.at(start),
         Reading::Strict => {
             if leaves_open(s, stop) {
-                return Step::Refused {
-                    cause: Cause::OpenFrame,
-                    at: start,
-                };
+                Cause::OpenFrame.at(start)
+            } else {
+                decisions::absent(Reading::Strict, s, stop, IN_FRAME)
             }
-            decisions::absent(Reading::Strict, s, stop, IN_FRAME)
         }
     }
 }
 
 // A frame's items have ended: `save_` must stand where the last one stopped.
-pub fn close_frame(reading: Reading, s: &[u8], start: usize, sizes: Sizes, stop: usize) -> Step
+pub fn close_frame(
+    reading: Reading,
+    s: &[u8],
+    start: usize,
+    sizes: Sizes,
+    stop: usize,
+) -> Result<Step, Fault>
     requires { Ready s.now stop × Upto limit sizes }
     ensures { result ≡ frame_end reading s.now start sizes stop }
 {
     if !openings::at_close(reading, s, stop) {
-        return unclosed(reading, s, start, stop);
+        return Err(unclosed(reading, s, start, stop));
     }
-    Step::Read {
+    Ok(Step {
         next: gaps::gap_end(s, stop + 5),
-        sizes: sizes.add(Kind::FRAME_CLOSE, 5),
+        sizes: sizes.with(Kind::FRAME_CLOSE, 5),
         reason: BEHIND_FRAME,
-    }
+    })
 }

@@ -16,10 +16,11 @@ use Rattle.words.specs.Names.{heading_fits}
 use Rattle.words.proofs.Words.{word_end, word_size}
 use Rattle.values.specs.Values.{block, lexed}
 use Rattle.sizes.specs.declared.Sizes.{Sizes}
-use Rattle.grammar.specs.declared.Cause.{Cause}
+use Rattle.std.specs.Prelude.{Ok, Err}
+use Rattle.grammar.specs.declared.Fault.{Fault}
 use Rattle.grammar.specs.declared.Cause.TheVariants.{NoData, BadName}
-use Rattle.decisions.specs.declared.Decision.TheVariants.{Fits, Refused as RefusedText}
-use Rattle.grammar.specs.Tokens.{before, in_block, lex_in, lex, after, Tok, tok, tokens_from, tokens_at, data_at}
+use Rattle.grammar.specs.Causes.{fault}
+use Rattle.grammar.specs.Tokens.{before, in_block, lex_in, lex, after, tok, tokens_from, tokens_at, data_at}
 use Rattle.grammar.specs.Machine.{Rec, refused, done, run, config, items, rec, follow, move, at_start, at_item, go, stop}
 use Rattle.sizes.specs.Sizes.{sizes_of, no_sizes, added, joined, Upto}
 use Rattle.grammar.specs.Reading.{decided}
@@ -28,7 +29,7 @@ use Rattle.decisions.specs.Onward.{mode_of, left, Passed}
 use Rattle.decisions.proofs.Onward.{left-gap, one-fits}
 use Rattle.deciding.specs.Blocks.{block_at}
 use Rattle.grammar.proofs.Lexes.{class-by}
-use Rattle.grammar.proofs.Offsets.{tokens-gap, tokens-start, Met, met-data, first, Spot, Both}
+use Rattle.grammar.proofs.Offsets.{tokens-gap, tokens-start, Met, met-data, first}
 use Rattle.sizes.proofs.Room.{sizes-append, sizes-one, upto-joined}
 
 -- the blocks from o on have been read up to p, where a 7 has the detail d
@@ -68,7 +69,7 @@ module _ (r : Reading) (s : List ℕ) (o : ℕ) (g : gap (drop o s) ≡ 0) (e : 
         fits = one-fits 1 w (gap_end s (o + w)) m.some_bytes (omega arith);
       })
 
-  pub block-misnamed : heading_fits r (end_of_word s o - o) ≡ false → told (RefusedText BadName o) ≡ tells (block_at r s o)
+  pub block-misnamed : heading_fits r (end_of_word s o - o) ≡ false → told (Err (fault BadName o)) ≡ tells (block_at r s o)
   unfolding told tells
   block-misnamed f = let h : heading_fits r (word (drop o s)) ≡ false = rw (← word_size s o) f in rw (begin-reads r s o (word (drop o s)) (met-data s o g r e), h)
 
@@ -89,15 +90,15 @@ unfolding left mode_of tokens_at tokens_from run move config lex lex_in lexed to
 end-answer First d s p out h = rw (drop_of_length-le s h)
 end-answer Strict d s p out h = rw (drop_of_length-le s h)
 
-pub block-ends : (r : Reading) (s : List ℕ) (o p : ℕ) (z : Sizes) (d : ℕ) → Begun r s o p z d → length s ≤ p → told (Fits z) ≡ tells (block_at r s o)
+pub block-ends : (r : Reading) (s : List ℕ) (o p : ℕ) (z : Sizes) (d : ℕ) → Begun r s o p z d → length s ≤ p → told (Ok z) ≡ tells (block_at r s o)
 unfolding told tells sizes_of
 block-ends r s o p z d b h = rw (b.reads, end-answer r d s p b.kept h, b.sizes)
 
-pub block_refused : (r : Reading) (s : List ℕ) (o p : ℕ) (z : Sizes) (d : ℕ) (c : Cause) (e : ℕ) → Begun r s o p z d → ((out : List Rec) → told (RefusedText c e) ≡ tells (left r d none s p out)) → told (RefusedText c e) ≡ tells (block_at r s o)
-block_refused r s o p z d c e b q = rw b.reads (q b.kept)
+pub block_refused : (r : Reading) (s : List ℕ) (o p : ℕ) (z : Sizes) (d : ℕ) (e : Fault) → Begun r s o p z d → ((out : List Rec) → told (Err e) ≡ tells (left r d none s p out)) → told (Err e) ≡ tells (block_at r s o)
+block_refused r s o p z d e b q = rw b.reads (q b.kept)
 
 -- no `data_`
-pub no-data : (r : Reading) (s : List ℕ) (o : ℕ) → gap (drop o s) ≡ 0 → data_at r s o ≡ false → told (RefusedText NoData o) ≡ tells (block_at r s o)
+pub no-data : (r : Reading) (s : List ℕ) (o : ℕ) → gap (drop o s) ≡ 0 → data_at r s o ≡ false → told (Err (fault NoData o)) ≡ tells (block_at r s o)
 unfolding block_at run move config at_start follow told tells lex lexed tok data_at
 no-data First s o g e = rw ((first s o g First before).1, e)
 no-data Strict s o g e = rw (first s o g Strict before).1 (by (drop o s) refl)
@@ -121,5 +122,5 @@ module _ (r : Reading) (s : List ℕ) (o : ℕ) (e : o ≡ gap_end s 0) where
   pub decided-at : decided r s ≡ block_at r s o
   decided-at = decided-from r s ∙ ap (block_at r s) (sym e)
 
-  pub decided-none : data_at r s o ≡ false → told (RefusedText NoData o) ≡ tells (decided r s)
+  pub decided-none : data_at r s o ≡ false → told (Err (fault NoData o)) ≡ tells (decided r s)
   decided-none f = rw decided-at (no-data r s o start-bare.1 f)

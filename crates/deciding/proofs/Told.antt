@@ -9,8 +9,9 @@ use lib.Dec.{ltb}
 use lib.ListN.{length}
 use Rattle.rules.specs.declared.Reading.{Reading}
 use Rattle.rules.specs.declared.Reading.TheVariants.{First, Strict}
-use Rattle.lines.specs.declared.Screen.{Screen}
-use Rattle.lines.specs.declared.Screen.TheVariants.{Fine, LongLine, Control}
+use Rattle.std.specs.Prelude.{Result, Ok, Err}
+use Rattle.lines.specs.declared.Flaw.{Flaw}
+use Rattle.lines.specs.declared.Flaw.TheVariants.{LongLine, Control}
 use Rattle.lines.specs.Lines.{screened}
 use Rattle.text.specs.Bytes.{is_ascii}
 use Rattle.text.specs.Runs.{span}
@@ -52,15 +53,15 @@ outline-checked r s h l = rw (le-ltb limit (length s) h, le-ltb (span is_ascii s
 
 -- in the strict reading by what is found among the bytes
 module _ (s : List ℕ) (a : Answer) where
-  pub checked-fine : screened s ≡ Fine → checked Strict s a ≡ a
+  pub checked-fine : screened s ≡ Ok tt → checked Strict s a ≡ a
   unfolding screens
   checked-fine e = rw e
 
-  pub checked-long : (o : ℕ) → screened s ≡ LongLine o → checked Strict s a ≡ refused 16 o 0
+  pub checked-long : (o : ℕ) → screened s ≡ Err (LongLine o) → checked Strict s a ≡ refused 16 o 0
   unfolding screens
   checked-long o e = rw e
 
-  pub checked-control : (o : ℕ) → screened s ≡ Control o → checked Strict s a ≡ refused 18 o 0
+  pub checked-control : (o : ℕ) → screened s ≡ Err (Control o) → checked Strict s a ≡ refused 18 o 0
   unfolding screens
   checked-control o e = rw e
 
@@ -70,10 +71,10 @@ unfolding screens
 checked-read First s rs e = e
 checked-read Strict s rs e = by (screened s) e
   where
-    by : (x : Screen) → screens x (decided Strict s) ≡ done rs → decided Strict s ≡ done rs
-    by Fine e = e
-    by (LongLine o) e = let z : ◌≡◌ {A = ℕ} 0 1 = cc in absurd (omega arith)
-    by (Control o) e = let z : ◌≡◌ {A = ℕ} 0 1 = cc in absurd (omega arith)
+    by : (x : Result (Unit {0}) Flaw) → screens x (decided Strict s) ≡ done rs → decided Strict s ≡ done rs
+    by (Ok u) e = e
+    by (Err (LongLine o)) e = let z : ◌≡◌ {A = ℕ} 0 1 = cc in absurd (omega arith)
+    by (Err (Control o)) e = let z : ◌≡◌ {A = ℕ} 0 1 = cc in absurd (omega arith)
 
 pub outline-read : (r : Reading) (s : List ℕ) (rs : List Rec) → outline r s ≡ done rs → (length s ≤ limit) × (decided r s ≡ done rs)
 unfolding outline

@@ -10,36 +10,29 @@ ghost use Rattle.decisions.specs.Decisions.{told, tells};
 ghost use Rattle.decisions.specs.Onward.{heads_block, Stepped, Framed};
 ghost use Rattle.deciding.specs.Blocks.{block_at};
 
-use decisions::{Decision, Inside, Step};
-use grammar::Cause;
+use decisions::{Inside, Step};
+use grammar::{Cause, Fault};
 use kinds::Kind;
 use rules::Reading;
+use sizes::Sizes;
 
 // The frame whose `save_` stands at an offset.
-fn parse_save_frame(reading: Reading, s: &[u8], start: usize) -> Step
+fn parse_save_frame(reading: Reading, s: &[u8], start: usize) -> Result<Step, Fault>
     requires { Here s.now start × (save_at reading s.now start ≡ true) }
     ensures { Framed reading s.now start result }
 {
-    let heading = decisions::parse_heading(reading, s, start, Kind::FRAME_OPEN);
-    let Step::Read {
-        next: first,
-        sizes: opened,
-        ..
-    } = heading
-    else {
-        return heading;
-    };
-    let mut sizes = opened;
-    let mut at = first;
+    let heading = decisions::parse_heading(reading, s, start, Kind::FRAME_OPEN)?;
+    let mut sizes = heading.sizes;
+    let mut at = heading.next;
     loop {
-        let inside = decisions::in_frame(items::parse_data_item(reading, s, at));
-        match inside {
+        match decisions::in_frame(items::parse_data_item(reading, s, at))? {
             Inside::Read { next, sizes: more } => {
-                sizes = sizes.join(more);
+                sizes += more;
                 at = next;
             }
-            Inside::Dropped { stop } => return closing::close_frame(reading, s, start, sizes, stop),
-            Inside::Refused { cause, at: place } => return Step::Refused { cause, at: place },
+            Inside::Dropped { stop } => {
+                return closing::close_frame(reading, s, start, sizes, stop);
+            }
         }
     }
 }
@@ -56,7 +49,12 @@ pub fn heads_block(reading: Reading, s: &[u8], at: usize) -> bool
 }
 
 // The item, the frame or the heading at an offset of the block; the reason is why the loop directly before ended.
-fn parse_data_item_or_save_frame(reading: Reading, s: &[u8], at: usize, reason: usize) -> Step
+fn parse_data_item_or_save_frame(
+    reading: Reading,
+    s: &[u8],
+    at: usize,
+    reason: usize,
+) -> Result<Step, Fault>
     requires { Here s.now at × (at < length s.now) }
     ensures { Stepped reading reason s.now at result }
 {
@@ -70,54 +68,27 @@ fn parse_data_item_or_save_frame(reading: Reading, s: &[u8], at: usize, reason: 
 }
 
 // The blocks from the first one's `data_` on, which stands at an offset; the first reading has one.
-fn parse_data_block(reading: Reading, s: &[u8], start: usize) -> Decision
+fn parse_data_block(reading: Reading, s: &[u8], start: usize) -> Result<Sizes, Fault>
     requires { Here s.now start × (data_at reading s.now start ≡ true) }
     ensures { told result ≡ tells (block_at reading s.now start) }
 {
-    let heading = decisions::parse_heading(reading, s, start, Kind::BLOCK);
-    let Step::Read {
-        next: first,
-        sizes: opened,
-        ..
-    } = heading
-    else {
-        return Decision::Refused {
-            cause: Cause::BadName,
-            at: start,
-        };
-    };
-    let mut sizes = opened;
-    let mut at = first;
-    let mut reason = Step::BEHIND_HEADING;
-    while at < s.len() {
-        let step = parse_data_item_or_save_frame(reading, s, at, reason);
-        match step {
-            Step::Read {
-                next,
-                sizes: more,
-                reason: ended,
-            } => {
-                sizes = sizes.join(more);
-                at = next;
-                reason = ended;
-            }
-            Step::Refused { cause, at: place } => return Decision::Refused { cause, at: place },
-        }
+    let mut step = decisions::parse_heading(reading, s, start, Kind::BLOCK)?;
+    let mut sizes = step.sizes;
+    while step.next < s.len() {
+        step = parse_data_item_or_save_frame(reading, s, step.next, step.reason)?;
+        sizes += step.sizes;
     }
-    Decision::Fits { sizes }
+    Ok(sizes)
 }
 
-// What a text of at most 16,777,216 bytes comes to.
-pub fn lex_cif(reading: Reading, s: &[u8]) -> Decision
+// The room that the records of a text of at most 16,777,216 bytes take, or what it is refused for.
+pub fn lex_cif(reading: Reading, s: &[u8]) -> Result<Sizes, Fault>
     requires { length s.now ≤ limit }
     ensures { told result ≡ tells (decided reading s.now) }
 {
     let at = gaps::gap_end(s, 0);
     if !openings::at_data(reading, s, at) {
-        return Decision::Refused {
-            cause: Cause::NoData,
-            at,
-        };
+        return Err(Cause::NoData.at(at));
     }
     parse_data_block(reading, s, at)
 }

@@ -17,23 +17,22 @@ use Rattle.words.specs.Names.{heading_fits}
 use Rattle.words.proofs.Words.{word_end, word_size}
 use Rattle.values.specs.Values.{Class, block, loop, save, tag, value, over_limit, nothing, at_end, reserved_word, no_start, open_quote, open_field, joined as joined_to, lexed}
 use Rattle.sizes.specs.declared.Sizes.{Sizes}
-use Rattle.grammar.specs.declared.Cause.{Cause}
+use Rattle.std.specs.Prelude.{Result, Ok, Err}
+use Rattle.grammar.specs.declared.Fault.{Fault}
 use Rattle.grammar.specs.declared.Cause.TheVariants.{NoItem, NotParted, BadName}
-use Rattle.grammar.specs.Causes.{cause_of}
-use Rattle.decisions.specs.declared.Decision.TheVariants.{Refused as RefusedText}
+use Rattle.grammar.specs.Causes.{cause_of, fault}
 use Rattle.decisions.specs.declared.Step.{Step}
-use Rattle.decisions.specs.declared.Step.TheVariants.{Read, Refused}
 use Rattle.items.specs.declared.Item.{Item as Answered}
 use Rattle.items.specs.declared.Item.TheVariants.{Absent}
 use Rattle.decisions.specs.declared.Inside.{Inside}
-use Rattle.decisions.specs.declared.Inside.TheVariants.{Read as ReadInside, Dropped, Refused as RefusedInside}
+use Rattle.decisions.specs.declared.Inside.TheVariants.{Read, Dropped}
 use Rattle.grammar.specs.Tokens.{in_block, in_frame, lex_in, after, Tok, tok, tokens_at, heading_at, save_at, data_at}
 use Rattle.grammar.specs.Machine.{Rec, Answer, refused, done, run, config, items, rec, follow, move, at_item, fails, closes, go, stop, in_block_only, is_joined}
 use Rattle.sizes.specs.Sizes.{sizes_of, no_sizes, added, joined, Upto}
 use Rattle.grammar.specs.Descent.{Item, item}
 use Rattle.decisions.specs.Decisions.{told, tells, refusal}
 use Rattle.items.specs.Answers.{item_answer, item_at}
-use Rattle.decisions.specs.Onward.{absent_of, in_block_of, in_frame_of, heading_of, heads_block, mode_of, left, Passed, Stepped, Framed}
+use Rattle.decisions.specs.Onward.{absent_of, in_block_of, in_frame_of, read, heading_of, heads_block, mode_of, left, Passed, Stepped, Framed}
 use Rattle.grammar.proofs.Causes.{Says, cause-says}
 use Rattle.grammar.proofs.Descent.{failed_run, behind_item, item_run, item-run, any-detail}
 use Rattle.grammar.proofs.Lexes.{starts_item, is_heading, is_end, lex-unheaded, first-unheaded, lex-parted, lex-apart}
@@ -58,7 +57,7 @@ left-item r c f s o out g =
     rw n.1 (item-run r c (tok (lex_in r (byte_before s o) (mode_of f) (drop o s)) o) n.0 f out (rw n.1 at (tokens-ends r (mode_of f) s o)))
 
 -- a cause that an item fails by says what the machine refuses
-cause-told : {n d : ℕ} (o : ℕ) → Says n d → told (RefusedText (cause_of n d) o) ≡ tells (refused n o d)
+cause-told : {n d : ℕ} (o : ℕ) → Says n d → told (Err (fault (cause_of n d) o)) ≡ tells (refused n o d)
 unfolding told tells
 cause-told o y = rw ((cause-says y).0, (cause-says y).1)
 
@@ -107,10 +106,10 @@ pub record DroppedAt (r : Reading) (s : List ℕ) (a o p : ℕ) : Type 0 where
   pub within : p ≤ length s
   pub bare : gap (drop p s) ≡ 0
 
-unfoldable pub PassedInside : Reading → List ℕ → ℕ → ℕ → Inside → Type 0
-PassedInside r s a o (ReadInside p z) = Passed r s (some a) o (some a) p z 0
-PassedInside r s a o (Dropped p) = DroppedAt r s a o p
-PassedInside r s a o (RefusedInside c e) = (out : List Rec) → told (RefusedText c e) ≡ tells (left r 0 (some a) s o out)
+unfoldable pub PassedInside : Reading → List ℕ → ℕ → ℕ → Result Inside Fault → Type 0
+PassedInside r s a o (Ok (Read p z)) = Passed r s (some a) o (some a) p z 0
+PassedInside r s a o (Ok (Dropped p)) = DroppedAt r s a o p
+PassedInside r s a o (Err e) = (out : List Rec) → told (Err e) ≡ tells (left r 0 (some a) s o out)
 
 -- an item that is read
 taken-passed : {ts us : List Tok} (r : Reading) (s : List ℕ) (f : Option ℕ) (o to d : ℕ) (rs : List Rec) → Spot r s to ts us → o < to → Upto (to - o) (sizes_of rs)
@@ -239,7 +238,7 @@ absent-told r d f s o k n out true e = rw (none_left r d f s o k n out, e)
 absent-told r d f s o k n out false e = rw (none_left r d f s o k n out, e)
 
 -- it is refused so in the block; in a frame of the strict reading too
-none-stepped : (r : Reading) (d : ℕ) (s : List ℕ) (o : ℕ) → NoneHere r none s o → Stepped r d s o (absent_of r s d o)
+none-stepped : (r : Reading) (d : ℕ) (s : List ℕ) (o : ℕ) → NoneHere r none s o → Stepped r d s o (Err (absent_of r s d o))
 unfolding Counts Stepped told
 none-stepped r d s o n = by (is_parted r (byte_before s o)) refl
   where
@@ -247,7 +246,7 @@ none-stepped r d s o n = by (is_parted r (byte_before s o)) refl
     counts First = tt
     counts Strict = tt
 
-    by : (b : Bool) → is_parted r (byte_before s o) ≡ b → Stepped r d s o (cond b (Refused (NoItem d) o) (Refused NotParted o))
+    by : (b : Bool) → is_parted r (byte_before s o) ≡ b → Stepped r d s o (Err (cond b (fault (NoItem d) o) (fault NotParted o)))
     by true e = λ out. sym (absent-told r d none s o (counts r) n out true e)
     by false e = λ out. sym (absent-told r d none s o (counts r) n out false e)
 
@@ -324,7 +323,7 @@ module _ (r : Reading) (s : List ℕ) (f : Option ℕ) (o k : ℕ) (class : Clas
         fits = one-fits k w (gap_end s (o + w) - o) m.some_bytes (omega arith);
       })
 
-  heading-refused : heading_fits r (end_of_word s o - o) ≡ false → (c : ℕ) (out : List Rec) → told (RefusedText BadName o) ≡ tells (left r c f s o out)
+  heading-refused : heading_fits r (end_of_word s o - o) ≡ false → (c : ℕ) (out : List Rec) → told (Err (fault BadName o)) ≡ tells (left r c f s o out)
   unfolding told tells
   heading-refused h c out = let e : heading_fits r (word (drop o s)) ≡ false = rw (← word_size s o) h in rw (reads c out, e)
 
@@ -351,7 +350,7 @@ module _ (r : Reading) (s : List ℕ) (o : ℕ) (g : gap (drop o s) ≡ 0) (e : 
   unfolding mode_of
   frame-opens = heading-onward r s none o 2 save (some o) (met-open s o g r e) (λ c out. open-reads r c s o (word (drop o s)) out (met-open s o g r e))
 
-  pub frame-misnamed : heading_fits r (end_of_word s o - o) ≡ false → Framed r s o (Refused BadName o)
+  pub frame-misnamed : heading_fits r (end_of_word s o - o) ≡ false → Framed r s o (Err (fault BadName o))
   unfolding Framed Stepped mode_of
   frame-misnamed h = heading-refused r s none o 2 save (some o) (met-open s o g r e) (λ c out. open-reads r c s o (word (drop o s)) out (met-open s o g r e)) h
 
@@ -362,13 +361,13 @@ heading-stepped s o g e = by (heading_fits Strict (end_of_word s o - o)) refl
     reads : (c : ℕ) (out : List Rec) → left Strict c none s o out ≡ cond (heading_fits Strict (word (drop o s))) (left Strict 0 none s (o + word (drop o s)) (out ++ (rec 1 (tok (lexed block (word (drop o s))) o) ∷ []))) (refused 17 o 0)
     reads c out = heads-reads c s o (word (drop o s)) out (met-heading s o g e)
 
-    by : (b : Bool) → heading_fits Strict (end_of_word s o - o) ≡ b → (d : ℕ) → Stepped Strict d s o (cond b (Read (gap_end s (end_of_word s o)) (added no_sizes 1 (end_of_word s o - o)) 0) (Refused BadName o))
+    by : (b : Bool) → heading_fits Strict (end_of_word s o - o) ≡ b → (d : ℕ) → Stepped Strict d s o (cond b (Ok (read (gap_end s (end_of_word s o)) (added no_sizes 1 (end_of_word s o - o)) 0)) (Err (fault BadName o)))
     by true h d = unfold Stepped in heading-onward Strict s none o 1 block none (met-heading s o g e) reads h
     by false h d = unfold Stepped in heading-refused Strict s none o 1 block none (met-heading s o g e) reads h d
 
 -- what a frame's item is, once it is known
 pub inside-known :
-    (r : Reading) (s : List ℕ) (a o : ℕ) (i : Answered) (x : Inside)
+    (r : Reading) (s : List ℕ) (a o : ℕ) (i : Result Answered Fault) (x : Result Inside Fault)
     → o ≤ length s
     → gap (drop o s) ≡ 0
     → i ≡ item_at r s o
@@ -376,63 +375,63 @@ pub inside-known :
     → PassedInside r s a o x
 inside-known r s a o i x h g e f = rw (f, e) (item-inside r s a o h g)
 
-pub inside-read : {r : Reading} {s : List ℕ} {a o p : ℕ} {z : Sizes} {x : Inside} → PassedInside r s a o x → x ≡ ReadInside p z → Passed r s (some a) o (some a) p z 0
+pub inside-read : {r : Reading} {s : List ℕ} {a o p : ℕ} {z : Sizes} {x : Result Inside Fault} → PassedInside r s a o x → x ≡ Ok (Read p z) → Passed r s (some a) o (some a) p z 0
 unfolding PassedInside
 inside-read h q = rw q at h
 
-pub inside-dropped : {r : Reading} {s : List ℕ} {a o p : ℕ} {x : Inside} → PassedInside r s a o x → x ≡ Dropped p → DroppedAt r s a o p
+pub inside-dropped : {r : Reading} {s : List ℕ} {a o p : ℕ} {x : Result Inside Fault} → PassedInside r s a o x → x ≡ Ok (Dropped p) → DroppedAt r s a o p
 unfolding PassedInside
 inside-dropped h q = rw q at h
 
-pub inside-refused : (r : Reading) (s : List ℕ) (a o : ℕ) {c : Cause} {e : ℕ} {x : Inside} → PassedInside r s a o x → x ≡ RefusedInside c e → (out : List Rec) → told (RefusedText c e) ≡ tells (left r 0 (some a) s o out)
+pub inside-refused : (r : Reading) (s : List ℕ) (a o : ℕ) {e : Fault} {x : Result Inside Fault} → PassedInside r s a o x → x ≡ Err e → (out : List Rec) → told (Err e) ≡ tells (left r 0 (some a) s o out)
 unfolding PassedInside
 inside-refused r s a o h q = rw q at h
 
 -- what a part of the block is, once it is known
-pub stepped-read : (r : Reading) (d : ℕ) (s : List ℕ) (o p : ℕ) (z : Sizes) (e : ℕ) (x : Step) → Stepped r d s o x → x ≡ Read p z e → Passed r s none o none p z e
+pub stepped-read : (r : Reading) (d : ℕ) (s : List ℕ) (o : ℕ) (y : Step) (x : Result Step Fault) → Stepped r d s o x → x ≡ Ok y → Passed r s none o none y.next y.sizes y.reason
 unfolding Stepped
-stepped-read r d s o p z e x h q = rw q at h
+stepped-read r d s o y x h q = rw q at h
 
-pub stepped-refused : (r : Reading) (d : ℕ) (s : List ℕ) (o : ℕ) (c : Cause) (e : ℕ) (x : Step) → Stepped r d s o x → x ≡ Refused c e → (out : List Rec) → told (RefusedText c e) ≡ tells (left r d none s o out)
+pub stepped-refused : (r : Reading) (d : ℕ) (s : List ℕ) (o : ℕ) (e : Fault) (x : Result Step Fault) → Stepped r d s o x → x ≡ Err e → (out : List Rec) → told (Err e) ≡ tells (left r d none s o out)
 unfolding Stepped
-stepped-refused r d s o c e x h q = rw q at h
+stepped-refused r d s o e x h q = rw q at h
 
 -- a heading as the code reads it
-pub heading-fine : (r : Reading) (s : List ℕ) (k o end : ℕ) → end ≡ end_of_word s o → heading_fits r (end - o) ≡ true → (next : ℕ) → next ≡ gap_end s end → (z : Sizes) → z ≡ added no_sizes k (end - o) → Read next z 0 ≡ heading_of r s k o
+pub heading-fine : (r : Reading) (s : List ℕ) (k o end : ℕ) → end ≡ end_of_word s o → heading_fits r (end - o) ≡ true → (next : ℕ) → next ≡ gap_end s end → (z : Sizes) → z ≡ added no_sizes k (end - o) → Ok (read next z 0) ≡ heading_of r s k o
 unfolding heading_of
 heading-fine r s k o end e f next n z q = rw (n, q, ← e, f)
 
-pub heading-bad : (r : Reading) (s : List ℕ) (k o end : ℕ) → end ≡ end_of_word s o → heading_fits r (end - o) ≡ false → Refused BadName o ≡ heading_of r s k o
+pub heading-bad : (r : Reading) (s : List ℕ) (k o end : ℕ) → end ≡ end_of_word s o → heading_fits r (end - o) ≡ false → Err (fault BadName o) ≡ heading_of r s k o
 unfolding heading_of
 heading-bad r s k o end e f = rw (← e, f)
 
 -- what a heading says: where it is read its name may stand, and it is read there
-pub record HeadingRead (r : Reading) (s : List ℕ) (k o p : ℕ) (z : Sizes) : Type 0 where
+pub record HeadingRead (r : Reading) (s : List ℕ) (k o : ℕ) (y : Step) : Type 0 where
   pub fits : heading_fits r (end_of_word s o - o) ≡ true
-  pub next : p ≡ gap_end s (end_of_word s o)
-  pub sizes : z ≡ added no_sizes k (end_of_word s o - o)
+  pub next : y.next ≡ gap_end s (end_of_word s o)
+  pub sizes : y.sizes ≡ added no_sizes k (end_of_word s o - o)
+  pub reason : y.reason ≡ 0
 
-pub heading-read : (r : Reading) (s : List ℕ) (k o p : ℕ) (z : Sizes) (d : ℕ) (x : Step) → x ≡ heading_of r s k o → x ≡ Read p z d → HeadingRead r s k o p z
+pub heading-read : (r : Reading) (s : List ℕ) (k o : ℕ) (y : Step) (x : Result Step Fault) → x ≡ heading_of r s k o → x ≡ Ok y → HeadingRead r s k o y
 unfolding heading_of
-heading-read r s k o p z d x e q = by (heading_fits r (end_of_word s o - o)) refl (sym q ∙ e)
+heading-read r s k o y x e q = by (heading_fits r (end_of_word s o - o)) refl (sym q ∙ e)
   where
-    by : (b : Bool) → heading_fits r (end_of_word s o - o) ≡ b → Read p z d ≡ cond b (Read (gap_end s (end_of_word s o)) (added no_sizes k (end_of_word s o - o)) 0) (Refused BadName o) → HeadingRead r s k o p z
-    by true f q = record { fits = f; next = cc; sizes = cc }
+    by : (b : Bool) → heading_fits r (end_of_word s o - o) ≡ b → Ok y ≡ cond b (Ok (read (gap_end s (end_of_word s o)) (added no_sizes k (end_of_word s o - o)) 0)) (Err (fault BadName o)) → HeadingRead r s k o y
+    by true f q =
+        let c : y ≡ read (gap_end s (end_of_word s o)) (added no_sizes k (end_of_word s o - o)) 0 = cc in
+        rw c (record { fits = f; next = refl; sizes = refl; reason = refl })
     by false f q = let y : ◌≡◌ {A = ℕ} 0 1 = cc in absurd (omega arith)
 
-pub heading-not : (r : Reading) (s : List ℕ) (k o : ℕ) (x : Step) → x ≡ heading_of r s k o → ((p : ℕ) (z : Sizes) (d : ℕ) → x ≡ Read p z d → ⊥) → (heading_fits r (end_of_word s o - o) ≡ false) × (x ≡ Refused BadName o)
+pub heading-lost : (r : Reading) (s : List ℕ) (k o : ℕ) (e : Fault) (x : Result Step Fault) → x ≡ heading_of r s k o → x ≡ Err e → (heading_fits r (end_of_word s o - o) ≡ false) × (e ≡ fault BadName o)
 unfolding heading_of
-heading-not r s k o x e n = by (heading_fits r (end_of_word s o - o)) refl
+heading-lost r s k o e x h q = by (heading_fits r (end_of_word s o - o)) refl (sym q ∙ h)
   where
-    by : (b : Bool) → heading_fits r (end_of_word s o - o) ≡ b → (heading_fits r (end_of_word s o - o) ≡ false) × (x ≡ Refused BadName o)
-    by true f = absurd (n (gap_end s (end_of_word s o)) (added no_sizes k (end_of_word s o - o)) 0 (e ∙ rw f))
-    by false f = (f, e ∙ rw f)
-
-pub heading-lost : (r : Reading) (s : List ℕ) (k o : ℕ) (x : Step) (c : Cause) (e : ℕ) → x ≡ heading_of r s k o → x ≡ Refused c e → (heading_fits r (end_of_word s o - o) ≡ false) × (x ≡ Refused BadName o)
-heading-lost r s k o x c e h q = heading-not r s k o x h (λ p z d f. let y : ◌≡◌ {A = ℕ} 0 1 = cc in omega arith)
+    by : (b : Bool) → heading_fits r (end_of_word s o - o) ≡ b → Err e ≡ cond b (Ok (read (gap_end s (end_of_word s o)) (added no_sizes k (end_of_word s o - o)) 0)) (Err (fault BadName o)) → (heading_fits r (end_of_word s o - o) ≡ false) × (e ≡ fault BadName o)
+    by true f q = let y : ◌≡◌ {A = ℕ} 0 1 = cc in absurd (omega arith)
+    by false f q = (f, cc)
 
 -- where no item starts lies within the text
-pub absent-within : (r : Reading) (s : List ℕ) (o p : ℕ) → o ≤ length s → gap (drop o s) ≡ 0 → item_at r s o ≡ Absent p → p ≤ length s
+pub absent-within : (r : Reading) (s : List ℕ) (o p : ℕ) → o ≤ length s → gap (drop o s) ≡ 0 → item_at r s o ≡ Ok (Absent p) → p ≤ length s
 unfolding PassedInside
 absent-within r s o p h g e = let d : DroppedAt r s 0 o p = rw e at (item-inside r s 0 o h g) in d.within
 

@@ -1,6 +1,9 @@
 -- What a text is refused for at a place in it: document 01's number, or 02's, and detail for each cause of the code's answers, and the cause that a failing item's number names. Assumes
 -- nothing.
 use Rattle.std.specs.Prelude.{ℕ, cond, eqb}
+use Rattle.lines.specs.declared.Flaw.{Flaw}
+use Rattle.lines.specs.declared.Flaw.TheVariants.{LongLine as LongLineAt, Control as ControlAt}
+use Rattle.grammar.specs.declared.Fault.{Fault}
 use Rattle.grammar.specs.declared.Cause.{Cause}
 use Rattle.grammar.specs.declared.Cause.TheVariants.{NotAscii, NoData, OpenFrame, Ragged, NoValue, NoItem, NoNames, OverLimit, NotParted, LongLine, BadName, ControlByte}
 
@@ -32,6 +35,15 @@ cause_detail NotParted = 0
 cause_detail LongLine = 0
 cause_detail BadName = 0
 cause_detail ControlByte = 0
+
+-- c at offset o
+abbrev pub fault : Cause → ℕ → Fault
+fault c o = record { cause = c; at = o }
+
+-- a line that is too long, and a control byte
+abbrev pub flawed : Flaw → Fault
+flawed (LongLineAt o) = fault LongLine o
+flawed (ControlAt o) = fault ControlByte o
 
 -- the cause that a number and a detail name, of an item that is not read
 abbrev pub cause_of : ℕ → ℕ → Cause

@@ -1,13 +1,13 @@
 -- Reading a text: limit 1, then bytes of 128 or more, in the strict reading long lines and control bytes, then the tokens by the machine. Assumes nothing.
-use Rattle.std.specs.Prelude.{ℕ, Bool, cond, List, [], ltb, length}
+use Rattle.std.specs.Prelude.{ℕ, Bool, cond, List, [], ltb, length, Result, Ok, Err}
 use Rattle.std.proofs.Math.Option.{Option, none, some}
 use Rattle.rules.specs.declared.Reading.{Reading}
 use Rattle.rules.specs.declared.Reading.TheVariants.{First, Strict}
 use Rattle.text.specs.Bytes.{is_ascii}
 use Rattle.text.specs.Runs.{span}
 use Rattle.text.specs.Limits.{limit}
-use Rattle.lines.specs.declared.Screen.{Screen}
-use Rattle.lines.specs.declared.Screen.TheVariants.{Fine, LongLine, Control}
+use Rattle.lines.specs.declared.Flaw.{Flaw}
+use Rattle.lines.specs.declared.Flaw.TheVariants.{LongLine, Control}
 use Rattle.lines.specs.Lines.{screened}
 use Rattle.grammar.specs.Tokens.{tokens}
 use Rattle.grammar.specs.Machine.{Answer, refused, done, run, config, start}
@@ -17,10 +17,10 @@ unfoldable pub decided : Reading → List ℕ → Answer
 decided r s = run r (tokens r s) (config start none [] [])
 
 -- a line that is too long is 16 at its first byte too many, a control byte 18; else a
-unfoldable pub screens : Screen → Answer → Answer
-screens Fine a = a
-screens (LongLine o) a = refused 16 o 0
-screens (Control o) a = refused 18 o 0
+unfoldable pub screens : Result (Unit {0}) Flaw → Answer → Answer
+screens (Ok u) a = a
+screens (Err (LongLine o)) a = refused 16 o 0
+screens (Err (Control o)) a = refused 18 o 0
 
 -- the strict reading looks for these before it reads tokens
 abbrev pub checked : Reading → List ℕ → Answer → Answer

@@ -2,7 +2,9 @@
 #![tactic(auto)]
 
 ghost use Rattle.std.specs.Prelude.{◌≡◌};
-ghost use Rattle.grammar.specs.Causes.{cause_number, cause_detail};
+ghost use Rattle.grammar.specs.Causes.{cause_number, cause_detail, fault, flawed};
+
+use lines::Flaw;
 
 // What a text is refused for at a place in it, 2 to 9, and in the strict reading 15 to 18. The reason says why no value stands behind a tag, or where the loop directly
 // before ended; 0 where none stands there.
@@ -22,7 +24,21 @@ pub enum Cause {
     ControlByte,
 }
 
+// What a text is refused for, and the offset of that.
+#[derive(Clone, Copy)]
+pub struct Fault {
+    pub cause: Cause,
+    pub at: usize,
+}
+
 impl Cause {
+    // The same at an offset.
+    pub fn at(self, at: usize) -> Fault
+        ensures { result ≡ fault self at }
+    {
+        Fault { cause: self, at }
+    }
+
     // Document 01's number, and 02's.
     pub fn number(self) -> usize
         ensures { result ≡ cause_number self }
@@ -48,18 +64,29 @@ impl Cause {
         ensures { result ≡ cause_detail self }
     {
         match self {
-            Cause::NotAscii => 0,
-            Cause::NoData => 0,
-            Cause::OpenFrame => 0,
             Cause::Ragged { remainder } => remainder,
-            Cause::NoValue { reason } => reason,
-            Cause::NoItem { reason } => reason,
-            Cause::NoNames => 0,
-            Cause::OverLimit => 0,
-            Cause::NotParted => 0,
-            Cause::LongLine => 0,
-            Cause::BadName => 0,
-            Cause::ControlByte => 0,
+            Cause::NoValue { reason } | Cause::NoItem { reason } => reason,
+            Cause::NotAscii
+            | Cause::NoData
+            | Cause::OpenFrame
+            | Cause::NoNames
+            | Cause::OverLimit
+            | Cause::NotParted
+            | Cause::LongLine
+            | Cause::BadName
+            | Cause::ControlByte => 0,
+        }
+    }
+}
+
+// A line that is too long is 16, a control byte 18.
+impl From<Flaw> for Fault {
+    ghost from_gives = { λ flaw given. given ≡ flawed flaw };
+
+    fn from(flaw: Flaw) -> Fault {
+        match flaw {
+            Flaw::LongLine { at } => Cause::LongLine.at(at),
+            Flaw::Control { at } => Cause::ControlByte.at(at),
         }
     }
 }

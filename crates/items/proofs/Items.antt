@@ -20,23 +20,20 @@ use Rattle.sizes.specs.declared.Sizes.{Sizes}
 use Rattle.items.specs.declared.Names.{Names}
 use Rattle.items.specs.declared.Values.{Values}
 use Rattle.found.specs.declared.Found.{Found}
-use Rattle.found.specs.declared.Found.TheVariants.{Value}
+use Rattle.found.specs.declared.Found.TheVariants.{Value, Over, Missing}
 use Rattle.items.specs.declared.Item.{Item as Answered}
-use Rattle.items.specs.declared.Item.TheVariants.{Loop, Single, Failed, Absent, Broken}
-use types.Run.{OneOf}
-use denote.Enum.Declared.{tag_of}
-use mathlib.Core.Logic.{inl, inr}
+use Rattle.items.specs.declared.Item.TheVariants.{Loop, Single, Absent}
+use Rattle.std.specs.Prelude.{Result, Ok, Err}
 use Rattle.found.specs.declared.Why.{Why}
 use Rattle.found.specs.declared.Why.TheVariants.{AtEnd, Reserved, NoStart, OpenQuote, OpenField, Joined}
-use Rattle.found.specs.contracts.Why.{the_type as why-type}
-use Rattle.grammar.specs.declared.Cause.{Cause}
+use Rattle.grammar.specs.declared.Fault.{Fault}
 use Rattle.grammar.specs.declared.Cause.TheVariants.{Ragged, NoValue, NoNames, OverLimit, NotParted, BadName}
-use Rattle.grammar.specs.Causes.{cause_of}
+use Rattle.grammar.specs.Causes.{cause_of, fault}
 use Rattle.grammar.specs.Tokens.{Mode, in_block, lex_in, after, Tok, tok, tokens_at, heading_at, head_why, tag_first, tag_at, loop_at}
 use Rattle.grammar.specs.Machine.{Rec, rec, loop_end, reason, is_joined, lacks_values, last_at}
 use Rattle.sizes.specs.Sizes.{sizes_of, no_sizes, added, joined, Upto}
-use Rattle.grammar.specs.Descent.{name_recs, after_names, value_recs, after_values, Item, taken, failed, absent, broken, is_over, is_tag, head_tag, head_joined, failed_by, rows, loop_by, loop_valued, loop_item, single, tag_valued, tag_item, item_by, item}
-use Rattle.items.specs.Answers.{names_of, names_at, head_over, values_of, values_at, is_joined_why, failed_as, rows_of, item_answer, item_at}
+use Rattle.grammar.specs.Descent.{name_recs, after_names, value_recs, after_values, Item, taken, broken, is_over, is_tag, head_tag, head_joined, failed_by, rows, loop_by, loop_valued, loop_item, single, tag_valued, tag_item, item_by, item}
+use Rattle.items.specs.Answers.{names_of, names_at, head_over, counted, values_of, values_at, is_joined_why, failed_as, rows_of, item_answer, item_at}
 use Rattle.values.specs.Answers.{why_of, why_not, wanted}
 use Rattle.found.specs.Packing.{number_of_why, is_over_found, why_found}
 use Rattle.values.specs.Finding.{found_at}
@@ -76,23 +73,24 @@ names-end r s o h =
     }
 
 -- where its values end
-pub record ValuesEnd (r : Reading) (s : List ℕ) (o : ℕ) : Type 0 where
-  pub onward : o ≤ (values_at r s o).next
-  pub within : (values_at r s o).next ≤ length s
-  pub bare : gap (drop (values_at r s o).next s) ≡ 0
-  pub fits : Upto ((values_at r s o).next - o) (values_at r s o).sizes
+pub record ValuesEnd (s : List ℕ) (o : ℕ) (values : Values) : Type 0 where
+  pub within : values.next ≤ length s
+  pub fits : Upto (values.next - o) values.sizes
 
-pub values-end : (r : Reading) (s : List ℕ) (o : ℕ) → o ≤ length s → ValuesEnd r s o
+pub values-end : (r : Reading) (s : List ℕ) (o : ℕ) → o ≤ length s → (values : Values) → Ok values ≡ values_at r s o → ValuesEnd s o values
 unfolding values_at values_of
-values-end r s o h =
-    let a = values-alike (both r s o h) in
-    let p = both-spot a.rest in
-    record {
-      onward = omega (arith, a.onward, p.onward);
-      within = p.within;
-      bare = p.bare;
-      fits = upto-more (a.to - o) _ _ a.fits (omega (arith, p.onward));
-    }
+values-end r s o h values e = by (head_over (after_values (tokens_at r in_block s o))) e
+  where
+    ts : List Tok
+    ts = tokens_at r in_block s o
+
+    by : (b : Bool) → Ok values ≡ cond b (Err (fault OverLimit (heading_at (after_values ts)))) (Ok (counted (value_recs ts) (after_values ts))) → ValuesEnd s o values
+    by true q = let z : ◌≡◌ {A = ℕ} 0 1 = cc in absurd (omega arith)
+    by false q =
+        let c : values ≡ counted (value_recs ts) (after_values ts) = cc in
+        let a = values-alike (both r s o h) in
+        let p = both-spot a.rest in
+        rw c (record { within = p.within; fits = upto-more (a.to - o) _ _ a.fits (omega (arith, p.onward)) })
 
 -- the sizes of a loop's records
 loop-size : (t : Tok) (ns vs : List Rec) → t.size ≡ 5 → sizes_of (rec 5 t ∷ (ns ++ (vs ++ (loop_end ∷ [])))) ≡ added (joined (joined (added no_sizes 5 5) (sizes_of ns)) (sizes_of vs)) 7 0
@@ -120,65 +118,64 @@ joined-why (nothing open_quote) = refl
 joined-why (nothing open_field) = refl
 joined-why (nothing joined_to) = refl
 
-failed-answer : (r : Reading) (n o d : ℕ) (u : Tok) (us : List Tok) → item_answer (failed_by r n o d (u ∷ us)) ≡ failed_as r (cause_of n d) o u.at (why_not u.class)
+failed-answer : (r : Reading) (n o d : ℕ) (u : Tok) (us : List Tok) → item_answer (failed_by r n o d (u ∷ us)) ≡ failed_as r (fault (cause_of n d) o) u.at (why_not u.class)
 unfolding item_answer heading_at head_joined
 failed-answer First n o d u us = refl
 failed-answer Strict n o d u us = rw (joined-why u.class) (by (is_joined u.class))
   where
-    by : (c : Bool) → item_answer (cond c (broken 15 u.at 0) (broken n o d)) ≡ cond c (Broken NotParted u.at) (Broken (cause_of n d) o)
+    by : (c : Bool) → item_answer (cond c (broken 15 u.at 0) (broken n o d)) ≡ cond c (Err (fault NotParted u.at)) (Err (fault (cause_of n d) o))
     by true = refl
     by false = refl
 
 -- an item that fails where something is parted from the token before
-pub parted-failed : (c : Cause) (o p : ℕ) (w : Why) → OneOf (0 ∷ 1 ∷ 2 ∷ 3 ∷ 4 ∷ []) (tag_of why-type w) → Broken c o ≡ failed_as Strict c o p w
-parted-failed c o p AtEnd k = refl
-parted-failed c o p Reserved k = refl
-parted-failed c o p NoStart k = refl
-parted-failed c o p OpenQuote k = refl
-parted-failed c o p OpenField k = refl
-parted-failed c o p Joined (inl e) = absurd (omega arith)
-parted-failed c o p Joined (inr (inl e)) = absurd (omega arith)
-parted-failed c o p Joined (inr (inr (inl e))) = absurd (omega arith)
-parted-failed c o p Joined (inr (inr (inr (inl e)))) = absurd (omega arith)
-parted-failed c o p Joined (inr (inr (inr (inr e)))) = absurd (omega arith)
+pub parted-failed : (e : Fault) (p : ℕ) (w : Why) → (w ≡ Joined → ⊥) → Err e ≡ failed_as Strict e p w
+parted-failed e p AtEnd n = refl
+parted-failed e p Reserved n = refl
+parted-failed e p NoStart n = refl
+parted-failed e p OpenQuote n = refl
+parted-failed e p OpenField n = refl
+parted-failed e p Joined n = absurd (n refl)
 
 -- whole rows, or the remainder
-rows-answer : (r : Reading) (t u : Tok) (us : List Tok) (ns vs : List Rec) (p : ℕ) (b : Bool) → t.size ≡ 5
-    → item_answer (rows r t ns vs (u ∷ us)) ≡ rows_of r t.at (record { count = length ns; next = p; sizes = sizes_of ns; last = last_at ns }) (record { count = length vs; next = u.at; sizes = sizes_of vs; over = b; why = why_not u.class })
+rows-answer : (r : Reading) (t u : Tok) (us : List Tok) (ns vs : List Rec) (p : ℕ) → t.size ≡ 5
+    → item_answer (rows r t ns vs (u ∷ us)) ≡ rows_of r t.at (record { count = length ns; next = p; sizes = sizes_of ns; last = last_at ns }) (record { count = length vs; next = u.at; sizes = sizes_of vs; why = why_not u.class })
 unfolding rows rows_of item_answer heading_at head_why
-rows-answer r t u us ns vs p c z = lacks (lacks_values r (length vs)) _ _ (by (eqb (length vs % length ns) 0))
+rows-answer r t u us ns vs p z = lacks (lacks_values r (length vs)) _ _ (by (eqb (length vs % length ns) 0))
   where
     rem : ℕ
     rem = length vs % length ns
 
-    by : (b : Bool) → item_answer (cond b (taken true (rec 5 t ∷ (ns ++ (vs ++ (loop_end ∷ [])))) (u ∷ us)) (failed_by r 5 t.at rem (u ∷ us))) ≡ cond b (Loop u.at (added (joined (joined (added no_sizes 5 5) (sizes_of ns)) (sizes_of vs)) 7 0) (why_not u.class)) (failed_as r (Ragged rem) t.at u.at (why_not u.class))
+    by : (b : Bool) → item_answer (cond b (taken true (rec 5 t ∷ (ns ++ (vs ++ (loop_end ∷ [])))) (u ∷ us)) (failed_by r 5 t.at rem (u ∷ us))) ≡ cond b (Ok (Loop u.at (added (joined (joined (added no_sizes 5 5) (sizes_of ns)) (sizes_of vs)) 7 0) (why_not u.class))) (failed_as r (fault (Ragged rem) t.at) u.at (why_not u.class))
     by true = rw (loop-size t ns vs z)
     by false = failed-answer r 5 t.at rem u us
 
-    lacks : (b : Bool) (x : Item) (y : Answered) → item_answer x ≡ y → item_answer (cond b (broken 6 (last_at ns) (number_of_why (why_not u.class))) x) ≡ cond b (Broken (NoValue (number_of_why (why_not u.class))) (last_at ns)) y
+    lacks : (b : Bool) (x : Item) (y : Result Answered Fault) → item_answer x ≡ y → item_answer (cond b (broken 6 (last_at ns) (number_of_why (why_not u.class))) x) ≡ cond b (Err (fault (NoValue (number_of_why (why_not u.class))) (last_at ns))) y
     lacks true x y e = refl
     lacks false x y e = e
 
 -- a loop by its names, whether a tag stands behind them, and its values
-unfoldable pub loop_answer : Reading → ℕ → Names → Bool → Values → Answered
+abbrev pub valued : Reading → ℕ → Names → Result Values Fault → Result Answered Fault
+valued r o names (Ok values) = rows_of r o names values
+valued r o names (Err e) = Err e
+
+unfoldable pub loop_answer : Reading → ℕ → Names → Bool → Result Values Fault → Result Answered Fault
 loop_answer r o names tagged values =
-    cond tagged (Broken BadName names.next)
-    (cond (eqb names.count 0) (Broken NoNames o) (cond values.over (Broken OverLimit values.next) (rows_of r o names values)))
+    cond tagged (Err (fault BadName names.next)) (cond (eqb names.count 0) (Err (fault NoNames o)) (valued r o names values))
 
 values-answer : (r : Reading) (t : Tok) (ts us : List Tok) (n : Rec) (ns : List Rec) (p : ℕ) → t.size ≡ 5 → after_values ts ≡ us → Ends us
     → item_answer (loop_by r t (n ∷ ns) (value_recs ts) us) ≡ loop_answer r t.at (record { count = suc (length ns); next = p; sizes = sizes_of (n ∷ ns); last = last_at (n ∷ ns) }) false (values_of ts)
 unfolding loop_by loop_answer values_of head_over heading_at head_why
 values-answer r t ts (u ∷ us) n ns p z e h = rw (e, eqb-suc-zero (length ns)) (by (is_over u.class) refl)
   where
-    counted : Values
-    counted = record { count = length (value_recs ts); next = u.at; sizes = sizes_of (value_recs ts); over = is_over u.class; why = why_not u.class }
+    values : Values
+    values = record { count = length (value_recs ts); next = u.at; sizes = sizes_of (value_recs ts); why = why_not u.class }
 
     named : Names
     named = record { count = suc (length ns); next = p; sizes = sizes_of (n ∷ ns); last = last_at (n ∷ ns) }
 
-    by : (b : Bool) → is_over u.class ≡ b → item_answer (cond b (broken 9 u.at 0) (rows r t (n ∷ ns) (value_recs ts) (u ∷ us))) ≡ cond b (Broken OverLimit u.at) (rows_of r t.at named counted)
+    by : (b : Bool) → is_over u.class ≡ b → item_answer (cond b (broken 9 u.at 0) (rows r t (n ∷ ns) (value_recs ts) (u ∷ us))) ≡ valued r t.at named (cond b (Err (fault OverLimit u.at)) (Ok values))
     by true q = unfold item_answer in refl
-    by false q = rows-answer r t u us (n ∷ ns) (value_recs ts) p (is_over u.class) z
+    by false q = rows-answer r t u us (n ∷ ns) (value_recs ts) p z
 values-answer r t ts [] n ns p z e h = elim h [ ]
 
 valued-answer : (r : Reading) (t : Tok) (us : List Tok) (ns : List Rec) (p : ℕ) → t.size ≡ 5 → Ends us
@@ -220,18 +217,18 @@ item-loop r s o g e =
     loop-item r s o m ∙ ap (λ (ts : List Tok). loop_answer r o (names_at r s (o + 5)) (head_tag ts) (values_of ts)) n.tokens ∙ rw (head-tag r s (names_at r s (o + 5)).next n.bare)
 
 -- a tag by what is found behind it
-unfoldable pub alone_answer : Reading → ℕ → ℕ → Found → Answered
-alone_answer r o p f = cond (is_over_found f) (Broken OverLimit p) (failed_as r (NoValue (number_of_why (why_found f))) o p (why_found f))
+unfoldable pub alone_answer : Reading → ℕ → ℕ → Found → Result Answered Fault
+alone_answer r o p f = cond (is_over_found f) (Err (fault OverLimit p)) (failed_as r (fault (NoValue (number_of_why (why_found f))) o) p (why_found f))
 
 single-answer : (r : Reading) (t u : Tok) (us : List Tok) (c : Class) (n : ℕ) → u.class ≡ c → ((k w : ℕ) → wanted c n ≡ Value k w → ⊥) → item_answer (single r t c u us) ≡ alone_answer r t.at u.at (wanted c n)
 unfolding single reason alone_answer
 single-answer r t u us c n q h = rw (← wanted-why c n) (by c q h)
   where
-    fails : (c : Class) → u.class ≡ c → item_answer (failed_by r 6 t.at (number_of_why (why_not c)) (u ∷ us)) ≡ failed_as r (NoValue (number_of_why (why_not c))) t.at u.at (why_not c)
+    fails : (c : Class) → u.class ≡ c → item_answer (failed_by r 6 t.at (number_of_why (why_not c)) (u ∷ us)) ≡ failed_as r (fault (NoValue (number_of_why (why_not c))) t.at) u.at (why_not c)
     fails c q = failed-answer r 6 t.at (number_of_why (why_not c)) u us ∙ rw q
 
     by : (c : Class) → u.class ≡ c → ((k w : ℕ) → wanted c n ≡ Value k w → ⊥)
-        → item_answer (single r t c u us) ≡ cond (is_over_found (wanted c n)) (Broken OverLimit u.at) (failed_as r (NoValue (number_of_why (why_not c))) t.at u.at (why_not c))
+        → item_answer (single r t c u us) ≡ cond (is_over_found (wanted c n)) (Err (fault OverLimit u.at)) (failed_as r (fault (NoValue (number_of_why (why_not c))) t.at) u.at (why_not c))
     by (value k) q h = absurd (h k n (unfold wanted in refl))
     by over_limit q h = unfold item_answer wanted in refl
     by tag q h = unfold wanted in fails tag q
@@ -249,7 +246,7 @@ single-size : (t u : Tok) (k : ℕ) → sizes_of (rec 4 t ∷ (rec k u ∷ [])) 
 unfolding rec
 single-size t u k = sizes-snoc (rec 4 t ∷ []) (rec k u) ∙ rw (sizes-one (rec 4 t))
 
-value-answer : (r : Reading) (t : Tok) (s : List ℕ) (p k w : ℕ) → Met r in_block s p (lexed (value k) w) → item_answer (tag_valued r t (tokens_at r in_block s p)) ≡ Single (gap_end s (p + w)) (added (added no_sizes 4 t.size) k w)
+value-answer : (r : Reading) (t : Tok) (s : List ℕ) (p k w : ℕ) → Met r in_block s p (lexed (value k) w) → item_answer (tag_valued r t (tokens_at r in_block s p)) ≡ Ok (Single (gap_end s (p + w)) (added (added no_sizes 4 t.size) k w))
 unfolding tag_valued single item_answer lexed tok after
 value-answer r t s p k w m = rw (m.next, head_at r in_block s (p + w), single-size t (tok (lexed (value k) w) p) k)
 
@@ -270,11 +267,11 @@ module _ (r : Reading) (s : List ℕ) (o : ℕ) (g : gap (drop o s) ≡ 0) (e : 
   unfolding tag-of tag_item tok lexed
   item-tag = tag-item r s o (word (drop o s)) (met-tag s o g r e) ∙ rw (word_size s o, word_end s o)
 
-  pub item-misnamed : fits_tag r (end_of_word s o - o) ≡ false → item_at r s o ≡ Broken BadName o
+  pub item-misnamed : fits_tag r (end_of_word s o - o) ≡ false → item_at r s o ≡ Err (fault BadName o)
   item-misnamed f = item-tag ∙ rw f (unfold item_answer in refl)
 
   module _ (f : fits_tag r (end_of_word s o - o) ≡ true) where
-    pub item-value : (k w : ℕ) → found_at r s (gap_end s (end_of_word s o)) ≡ Value k w → item_at r s o ≡ Single (gap_end s (gap_end s (end_of_word s o) + w)) (added (added no_sizes 4 (end_of_word s o - o)) k w)
+    pub item-value : (k w : ℕ) → found_at r s (gap_end s (end_of_word s o)) ≡ Value k w → item_at r s o ≡ Ok (Single (gap_end s (gap_end s (end_of_word s o) + w)) (added (added no_sizes 4 (end_of_word s o - o)) k w))
     unfolding tag-of tok lexed
     item-value k w v =
         let p = gap_end s (end_of_word s o) in
@@ -285,7 +282,7 @@ module _ (r : Reading) (s : List ℕ) (o : ℕ) (g : gap (drop o s) ≡ 0) (e : 
     item-alone h = item-tag ∙ rw f (alone-answer r tag-of s (gap_end s (end_of_word s o)) (gap-none s (end_of_word s o)) h)
 
 -- NO ITEM AT AN OFFSET
-none-answer : (r : Reading) (c : Class) (t : Tok) (ts : List Tok) → starts_item c ≡ false → item_answer (item_by r c t ts) ≡ Absent t.at
+none-answer : (r : Reading) (c : Class) (t : Tok) (ts : List Tok) → starts_item c ≡ false → item_answer (item_by r c t ts) ≡ Ok (Absent t.at)
 unfolding starts_item item_by item_answer heading_at
 none-answer r loop t ts e = absurd (true≢false e)
 none-answer r tag t ts e = absurd (true≢false e)
@@ -295,7 +292,7 @@ none-answer r (value k) t ts e = refl
 none-answer r over_limit t ts e = refl
 none-answer r (nothing w) t ts e = refl
 
-pub item-none : (r : Reading) (s : List ℕ) (o : ℕ) → gap (drop o s) ≡ 0 → loop_at r s o ≡ false → tag_at r s o ≡ false → item_at r s o ≡ Absent o
+pub item-none : (r : Reading) (s : List ℕ) (o : ℕ) → gap (drop o s) ≡ 0 → loop_at r s o ≡ false → tag_at r s o ≡ false → item_at r s o ≡ Ok (Absent o)
 unfolding item_at item loop_at tag_at tok
 item-none r s o g e f =
     let x = lex_in r (byte_before s o) in_block (drop o s) in
@@ -304,16 +301,16 @@ item-none r s o g e f =
 
 -- rows as the code counts them
 module _ (r : Reading) (o : ℕ) (names : Names) (values : Values) where
-  pub rows_none : lacks_values r values.count ≡ true → Broken (NoValue (number_of_why values.why)) names.last ≡ rows_of r o names values
+  pub rows_none : lacks_values r values.count ≡ true → Err (fault (NoValue (number_of_why values.why)) names.last) ≡ rows_of r o names values
   unfolding rows_of
   rows_none e = rw e
 
   module _ (e : lacks_values r values.count ≡ false) where
-    pub rows-ragged : (values.count % names.count ≡ 0 → ⊥) → failed_as r (Ragged (values.count % names.count)) o values.next values.why ≡ rows_of r o names values
+    pub rows-ragged : (values.count % names.count ≡ 0 → ⊥) → failed_as r (fault (Ragged (values.count % names.count)) o) values.next values.why ≡ rows_of r o names values
     unfolding rows_of
     rows-ragged h = rw (e, ne_eqb (values.count % names.count) 0 h)
 
-    pub rows_whole : values.count % names.count ≡ 0 → Loop values.next (added (joined (joined (added no_sizes 5 5) names.sizes) values.sizes) 7 0) values.why ≡ rows_of r o names values
+    pub rows_whole : values.count % names.count ≡ 0 → Ok (Loop values.next (added (joined (joined (added no_sizes 5 5) names.sizes) values.sizes) 7 0) values.why) ≡ rows_of r o names values
     unfolding rows_of
     rows_whole h = rw (e, h)
 
@@ -326,6 +323,17 @@ pub record TagRead (r : Reading) (s : List ℕ) (o end stop : ℕ) (f : Found) :
   pub stops : stop ≡ gap_end s end
   pub finds : f ≡ found_at r s stop
 
+-- as it finds them
+pub tag-read : {r : Reading} {s : List ℕ} {o end stop : ℕ} {f : Found}
+    → gap (drop o s) ≡ 0
+    → tag_at r s o ≡ true
+    → end ≡ end_of_word s o
+    → fits_tag r (end - o) ≡ true
+    → stop ≡ gap_end s end
+    → f ≡ found_at r s stop
+    → TagRead r s o end stop f
+tag-read g t e n p f = record { bare = g; tagged = t; ends = e; named = n; stops = p; finds = f }
+
 module _ {r : Reading} {s : List ℕ} {o end stop : ℕ} {f : Found} (t : TagRead r s o end stop f) where
   stop-bare : gap (drop stop s) ≡ 0
   stop-bare = rw t.stops (gap-none s end)
@@ -336,13 +344,21 @@ module _ {r : Reading} {s : List ℕ} {o end stop : ℕ} {f : Found} (t : TagRea
   pub tag-value-within : (k w : ℕ) → f ≡ Value k w → (0 < w) × (stop + w ≤ length s)
   tag-value-within k w e = let v = value-step r s stop k w stop-bare (sym t.finds ∙ e) in (v.some_bytes, v.within)
 
-  pub tag-value : (k w next : ℕ) (z : Sizes) → f ≡ Value k w → next ≡ gap_end s (stop + w) → z ≡ added (added no_sizes 4 (end - o)) k w → Single next z ≡ item_at r s o
+  pub tag-value : (k w next : ℕ) (z : Sizes) → f ≡ Value k w → next ≡ gap_end s (stop + w) → z ≡ added (added no_sizes 4 (end - o)) k w → Ok (Single next z) ≡ item_at r s o
   tag-value k w next z e p q =
       rw (p, q, t.stops, t.ends) (sym (item-value r s o t.bare t.tagged fits k w (rw (← t.ends, ← t.stops) (sym t.finds ∙ e))))
 
-  pub tag-alone : ((k w : ℕ) → f ≡ Value k w → ⊥) → alone_answer r o stop f ≡ item_at r s o
+  tag-alone : ((k w : ℕ) → f ≡ Value k w → ⊥) → alone_answer r o stop f ≡ item_at r s o
   tag-alone n =
       rw (t.finds, t.stops, t.ends) (sym (item-alone r s o t.bare t.tagged fits (λ k w e. n k w (rw (t.finds, t.stops, t.ends) e))))
+
+  pub tag-over : f ≡ Over → Err (fault OverLimit stop) ≡ item_at r s o
+  unfolding alone_answer
+  tag-over e = rw e at (tag-alone (λ k w q. let z : Over ≡ Value k w = sym e ∙ q in let z : ◌≡◌ {A = ℕ} 0 1 = cc in omega arith))
+
+  pub tag-missing : (why : Why) → f ≡ Missing why → failed_as r (fault (NoValue (number_of_why why)) o) stop why ≡ item_at r s o
+  unfolding alone_answer
+  tag-missing why e = rw e at (tag-alone (λ k w q. let z : Missing why ≡ Value k w = sym e ∙ q in let z : ◌≡◌ {A = ℕ} 0 1 = cc in omega arith))
 
 -- a loop as the code reads it
 module _ (r : Reading) (s : List ℕ) (o : ℕ) (g : gap (drop o s) ≡ 0) (e : loop_at r s o ≡ true) (names : Names) (n : names ≡ names_at r s (o + 5)) where
@@ -353,25 +369,25 @@ module _ (r : Reading) (s : List ℕ) (o : ℕ) (g : gap (drop o s) ≡ 0) (e : 
   pub loop-named : (o + 5 ≤ names.next) × (names.next ≤ length s) × (gap (drop names.next s) ≡ 0) × Upto (names.next - (o + 5)) names.sizes
   loop-named = let h = names-end r s (o + 5) loop-from in rw n (h.onward, h.within, h.bare, h.fits)
 
-  pub loop-misnamed : tag_at r s names.next ≡ true → Broken BadName names.next ≡ item_at r s o
+  pub loop-misnamed : tag_at r s names.next ≡ true → Err (fault BadName names.next) ≡ item_at r s o
   unfolding loop_answer
   loop-misnamed z = sym (item-loop r s o g e ∙ rw (← n, z))
 
   module _ (untagged : tag_at r s names.next ≡ false) where
-    pub loop-none : names.count ≡ 0 → Broken NoNames o ≡ item_at r s o
+    pub loop-none : names.count ≡ 0 → Err (fault NoNames o) ≡ item_at r s o
     unfolding loop_answer
     loop-none z = sym (item-loop r s o g e ∙ rw (← n, untagged, z))
 
-    loop-some : (values : Values) → values ≡ values_at r s names.next → (names.count ≡ 0 → ⊥) → item_at r s o ≡ cond values.over (Broken OverLimit values.next) (rows_of r o names values)
+    loop-some : (values : Result Values Fault) → values ≡ values_at r s names.next → (names.count ≡ 0 → ⊥) → item_at r s o ≡ valued r o names values
     unfolding loop_answer
     loop-some values v h = item-loop r s o g e ∙ rw (← n, untagged, ← v, ne_eqb names.count 0 h)
 
-    module _ (values : Values) (v : values ≡ values_at r s names.next) (h : names.count ≡ 0 → ⊥) where
+    pub loop-over : (names.count ≡ 0 → ⊥) → (e : Fault) → Err e ≡ values_at r s names.next → Err e ≡ item_at r s o
+    loop-over h e v = sym (loop-some (Err e) v h)
+
+    module _ (h : names.count ≡ 0 → ⊥) (values : Values) (v : Ok values ≡ values_at r s names.next) where
       pub loop-valued : Upto (values.next - names.next) values.sizes × (values.next ≤ length s)
-      loop-valued = let x = values-end r s names.next loop-named.1 in rw v (x.fits, x.within)
+      loop-valued = let x = values-end r s names.next loop-named.1 values v in (x.fits, x.within)
 
-      pub loop-over : values.over ≡ true → Broken OverLimit values.next ≡ item_at r s o
-      loop-over c = sym (loop-some values v h ∙ rw c)
-
-      pub loop-rows : values.over ≡ false → rows_of r o names values ≡ item_at r s o
-      loop-rows c = sym (loop-some values v h ∙ rw c)
+      pub loop-rows : rows_of r o names values ≡ item_at r s o
+      loop-rows = sym (loop-some (Ok values) v h)

@@ -3,7 +3,7 @@ use Prim.Native.Nat.{ℕ, suc, ◌+◌, ◌-◌, ◌≤◌, ◌<◌}
 use mathlib.Core.Path.{◌≡◌, refl, sym, ap, ◌∙◌}
 use mathlib.Core.Bool.{Bool, true, false, cond, ◌&&◌, true≢false}
 use mathlib.Core.List.{List, [], ◌∷◌}
-use mathlib.Core.Logic.{◌⊎◌, ⊎_elim}
+use mathlib.Core.Logic.{⊎_elim}
 use native.Mathlib.Nat.{add-zero, zero-add}
 use native.Mathlib.Decide.{dec_lt}
 use native.Mathlib.Omega.{arith}
@@ -22,14 +22,18 @@ use Rattle.sizes.specs.declared.Sizes.{Sizes}
 use Rattle.items.specs.declared.Names.{Names}
 use Rattle.items.specs.declared.Values.{Values}
 use Rattle.found.specs.declared.Found.{Found}
-use Rattle.found.specs.declared.Found.TheVariants.{Value}
+use Rattle.found.specs.declared.Found.TheVariants.{Value, Over, Missing}
 use Rattle.grammar.specs.Tokens.{in_block, lex_in, after, Tok, tok, tokens_at, heading_at, head_why, tag_first, tag_at}
 use Rattle.grammar.specs.Machine.{Rec, rec, last_at}
 use Rattle.sizes.specs.Sizes.{sizes_of, no_sizes, added, joined, Upto}
-use Rattle.grammar.specs.Descent.{name_recs, value_recs, is_over, is_tag}
+use Rattle.grammar.specs.Descent.{name_recs, value_recs, after_values, is_over, is_tag}
 use Rattle.values.specs.Answers.{why_not, wanted}
 use Rattle.values.proofs.Laws.{wanted-why}
-use Rattle.items.specs.Answers.{names_of, names_at, head_over, values_of, values_at}
+use Rattle.std.specs.Prelude.{Result, Ok, Err}
+use Rattle.grammar.specs.declared.Fault.{Fault}
+use Rattle.grammar.specs.declared.Cause.TheVariants.{OverLimit}
+use Rattle.grammar.specs.Causes.{fault}
+use Rattle.items.specs.Answers.{names_of, names_at, head_over, counted, values_of, values_at}
 use Rattle.values.specs.Finding.{found_at}
 use Rattle.found.specs.Packing.{is_over_found, why_found}
 use Rattle.grammar.proofs.Descent.{IsName, NoName, name-or-not, NoValue, value-or-not, names_more, names-none, values-more, values-none}
@@ -45,8 +49,10 @@ use Rattle.items.proofs.Wanted.{found-wanted}
 unfoldable pub add_names : ℕ → Sizes → ℕ → Names → Names
 add_names n z l a = record { count = n + a.count; next = a.next; sizes = joined z a.sizes; last = cond (eqb a.count 0) l a.last }
 
-unfoldable pub add_values : ℕ → Sizes → Values → Values
-add_values n z a = record { count = n + a.count; next = a.next; sizes = joined z a.sizes; over = a.over; why = a.why }
+-- the same of values; what is wrong with those from here on is wrong with all
+unfoldable pub add_values : ℕ → Sizes → Result Values Fault → Result Values Fault
+add_values n z (Ok a) = Ok (record { count = n + a.count; next = a.next; sizes = joined z a.sizes; why = a.why })
+add_values n z (Err e) = Err e
 
 pub names-gap : (r : Reading) (s : List ℕ) (o : ℕ) → names_at r s (gap_end s o) ≡ names_at r s o
 unfolding names_at
@@ -71,8 +77,15 @@ values-cons : (n : ℕ) (z : Sizes) (t : Tok) (ts : List Tok) (k : ℕ) → t.cl
 unfolding add_values values_of rec
 values-cons n z t ts k e =
     let m = values-more t ts k e in
-    let c : n + suc (length (value_recs ts)) ≡ n + 1 + length (value_recs ts) = omega arith in
-    rw (m.0, m.1, c, sizes-cons (rec k t) (value_recs ts), added-joined z (sizes_of (value_recs ts)) k t.size)
+    rw (m.0, m.1) (by (head_over (after_values ts)))
+  where
+    by : (b : Bool)
+        → add_values n z (cond b (Err (fault OverLimit (heading_at (after_values ts)))) (Ok (counted (rec k t ∷ value_recs ts) (after_values ts))))
+        ≡ add_values (n + 1) (added z k t.size) (cond b (Err (fault OverLimit (heading_at (after_values ts)))) (Ok (counted (value_recs ts) (after_values ts))))
+    by true = refl
+    by false =
+        let c : n + suc (length (value_recs ts)) ≡ n + 1 + length (value_recs ts) = omega arith in
+        rw (c, sizes-cons (rec k t) (value_recs ts), added-joined z (sizes_of (value_recs ts)) k t.size)
 
 -- no name
 unfoldable pub no_names : ℕ → Names
@@ -82,7 +95,11 @@ names-nil : (r : Reading) (t : Tok) (ts : List Tok) → NoName r t → names_of 
 unfolding names_of heading_at no_names last_at
 names-nil r t ts e = rw ((names-none r t ts e).0, (names-none r t ts e).1, sizes-none)
 
-values-nil : (t : Tok) (ts : List Tok) → NoValue t.class → values_of (t ∷ ts) ≡ record { count = 0; next = t.at; sizes = no_sizes; over = is_over t.class; why = why_not t.class }
+-- where no value stands after n of them
+abbrev pub ended : ℕ → Sizes → ℕ → Bool → Why → Result Values Fault
+ended n z o over w = cond over (Err (fault OverLimit o)) (Ok (record { count = n; next = o; sizes = z; why = w }))
+
+values-nil : (t : Tok) (ts : List Tok) → NoValue t.class → values_of (t ∷ ts) ≡ ended 0 no_sizes t.at (is_over t.class) (why_not t.class)
 unfolding values_of heading_at head_over head_why
 values-nil t ts e = rw ((values-none t ts e).0, (values-none t ts e).1, sizes-none)
 
@@ -199,7 +216,7 @@ unfolding wanted
 no_value c n h = ⊎_elim (λ e. absurd (h e.0 n (rw e.1))) (λ e. e) (value-or-not c)
 
 pub value-stop : (r : Reading) (s : List ℕ) (o : ℕ) → gap (drop o s) ≡ 0 → ((k w : ℕ) → found_at r s o ≡ Value k w → ⊥)
-    → values_at r s o ≡ record { count = 0; next = o; sizes = no_sizes; over = is_over_found (found_at r s o); why = why_found (found_at r s o) }
+    → values_at r s o ≡ ended 0 no_sizes o (is_over_found (found_at r s o)) (why_found (found_at r s o))
 unfolding values_at tok
 value-stop r s o g h =
     let f = first-in s o g r in
@@ -266,13 +283,15 @@ pub record ValuesSoFar (r : Reading) (s : List ℕ) (from at count : ℕ) (sizes
   pub fits : Upto at sizes
   pub values : values_at r s from ≡ add_values count sizes (values_at r s at)
 
-none-values : (a : Values) → a ≡ add_values 0 no_sizes a
+none-values : (a : Result Values Fault) → a ≡ add_values 0 no_sizes a
 unfolding add_values
-none-values a = rw (zero-add, none-joined)
+none-values (Ok a) = rw (zero-add, none-joined)
+none-values (Err e) = refl
 
-all-values : (n p : ℕ) (z : Sizes) (b : Bool) (w : Why) → add_values n z (record { count = 0; next = p; sizes = no_sizes; over = b; why = w }) ≡ record { count = n; next = p; sizes = z; over = b; why = w }
+all-values : (n p : ℕ) (z : Sizes) (b : Bool) (w : Why) → add_values n z (ended 0 no_sizes p b w) ≡ ended n z p b w
 unfolding add_values
-all-values n p z b w = rw (add-zero, joined-none)
+all-values n p z true w = refl
+all-values n p z false w = rw (add-zero, joined-none)
 
 pub values-start : (r : Reading) (s : List ℕ) (from : ℕ) → from ≤ length s → gap (drop from s) ≡ 0 → ValuesSoFar r s from from 0 no_sizes
 values-start r s from h g = record { within = h; bare = g; few = omega arith; fits = upto-none from; values = none-values (values_at r s from) }
@@ -293,6 +312,14 @@ values-next r s from at count kind size next sizes more h e b d =
     )
 
 pub values-all : (r : Reading) (s : List ℕ) (from at count : ℕ) (sizes : Sizes) (f : Found) → ValuesSoFar r s from at count sizes → f ≡ found_at r s at → ((k w : ℕ) → f ≡ Value k w → ⊥)
-    → record { count = count; next = at; sizes = sizes; over = is_over_found f; why = why_found f } ≡ values_at r s from
+    → ended count sizes at (is_over_found f) (why_found f) ≡ values_at r s from
 values-all r s from at count sizes f h e n =
     sym (h.values ∙ ap (add_values count sizes) (value-stop r s at h.bare (λ k w q. n k w (e ∙ q))) ∙ all-values count at sizes (is_over_found (found_at r s at)) (why_found (found_at r s at)) ∙ rw e)
+
+-- by what is found there
+module _ (r : Reading) (s : List ℕ) (from at count : ℕ) (sizes : Sizes) (h : ValuesSoFar r s from at count sizes) where
+  pub values-over : Over ≡ found_at r s at → Err (fault OverLimit at) ≡ values_at r s from
+  values-over e = values-all r s from at count sizes Over h e (λ k w q. let z : ◌≡◌ {A = ℕ} 0 1 = cc in omega arith)
+
+  pub values-missing : (w : Why) → Missing w ≡ found_at r s at → Ok (record { count = count; next = at; sizes = sizes; why = w }) ≡ values_at r s from
+  values-missing w e = values-all r s from at count sizes (Missing w) h e (λ k n q. let z : ◌≡◌ {A = ℕ} 0 1 = cc in omega arith)

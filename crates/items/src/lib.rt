@@ -9,37 +9,19 @@ ghost use Rattle.grammar.specs.Machine.{lacks_values as lacks_some};
 ghost use Rattle.grammar.specs.Tokens.{tag_at, loop_at};
 
 use found::{Found, Why};
-use grammar::Cause;
+use grammar::{Cause, Fault};
 use kinds::Kind;
 use rules::Reading;
 use sizes::Sizes;
 
-// What reading an item comes to: read, with the offset behind it and the space and comments there, a loop with why its list of
-// values ended; failed by 5 or 6 in the first reading, with the offset where it stopped; absent, where none starts; or broken,
-// by what ends the whole reading.
+// What an item is: read, with the offset behind it and the space and comments there, a loop with why its list of values
+// ended; failed by 5 or 6 in the first reading, with the offset where it stopped; or absent, where none starts.
 #[derive(Clone, Copy)]
 pub enum Item {
-    Loop {
-        next: usize,
-        sizes: Sizes,
-        why: Why,
-    },
-    Single {
-        next: usize,
-        sizes: Sizes,
-    },
-    Failed {
-        cause: Cause,
-        at: usize,
-        stop: usize,
-    },
-    Absent {
-        at: usize,
-    },
-    Broken {
-        cause: Cause,
-        at: usize,
-    },
+    Loop { next: usize, sizes: Sizes, why: Why },
+    Single { next: usize, sizes: Sizes },
+    Failed { fault: Fault, stop: usize },
+    Absent { at: usize },
 }
 
 // The names of a loop: how many, the offset behind them and the space and comments there, and that of the last.
@@ -57,7 +39,6 @@ struct Values {
     count: usize,
     next: usize,
     sizes: Sizes,
-    over: bool,
     why: Why,
 }
 
@@ -68,7 +49,7 @@ fn count_names(reading: Reading, s: &[u8], from: usize) -> Names
 {
     let mut at = gaps::gap_end(s, from);
     let mut count: usize = 0;
-    let mut sizes = Sizes::none();
+    let mut sizes = Sizes::default();
     let mut last: usize = 0;
     loop {
         let end = openings::name_end(reading, s, at);
@@ -80,7 +61,7 @@ fn count_names(reading: Reading, s: &[u8], from: usize) -> Names
                 last,
             };
         }
-        sizes = sizes.add(Kind::LOOP_TAG, end - at);
+        sizes = sizes.with(Kind::LOOP_TAG, end - at);
         count += 1;
         last = at;
         at = gaps::gap_end(s, end);
@@ -88,52 +69,43 @@ fn count_names(reading: Reading, s: &[u8], from: usize) -> Names
 }
 
 // The values of a loop, until one fails.
-fn count_values(reading: Reading, s: &[u8], from: usize) -> Values
+fn count_values(reading: Reading, s: &[u8], from: usize) -> Result<Values, Fault>
     requires { Here s.now from }
     ensures { result ≡ values_at reading s.now from }
 {
     let mut at = from;
     let mut count: usize = 0;
-    let mut sizes = Sizes::none();
+    let mut sizes = Sizes::default();
     loop {
-        let found = Found::of(values::pack_value(reading, s, at));
-        let Found::Value { kind, size } = found else {
-            let Found::Missing { why } = found else {
-                return Values {
+        match Found::of(values::pack_value(reading, s, at)) {
+            Found::Value { kind, size } => {
+                sizes = sizes.with(kind, size);
+                count += 1;
+                at = gaps::gap_end(s, at + size);
+            }
+            Found::Over => return Err(Cause::OverLimit.at(at)),
+            Found::Missing { why } => {
+                return Ok(Values {
                     count,
                     next: at,
                     sizes,
-                    over: true,
-                    why: Why::AtEnd,
-                };
-            };
-            return Values {
-                count,
-                next: at,
-                sizes,
-                over: false,
-                why,
-            };
-        };
-        sizes = sizes.add_value(kind, size);
-        count += 1;
-        at = gaps::gap_end(s, at + size);
+                    why,
+                });
+            }
+        }
     }
 }
 
-// An item at an offset that fails by 5 or 6 where it stops: in the first reading a frame may drop it; in the strict one that
+// An item that fails by 5 or 6, and stops where it does: in the first reading a frame may drop it; in the strict one that
 // ends the reading, and where no space parts what stands there it is 15 first.
-fn failed(reading: Reading, cause: Cause, at: usize, stop: usize, why: Why) -> Item
-    ensures { result ≡ failed_as reading cause at stop why }
+fn failed(reading: Reading, fault: Fault, stop: usize, why: Why) -> Result<Item, Fault>
+    ensures { result ≡ failed_as reading fault stop why }
 {
     match reading {
-        Reading::First => Item::Failed { cause, at, stop },
+        Reading::First => Ok(Item::Failed { fault, stop }),
         Reading::Strict => match why {
-            Why::Joined => Item::Broken {
-                cause: Cause::NotParted,
-                at: stop,
-            },
-            _ => Item::Broken { cause, at },
+            Why::Joined => Err(Cause::NotParted.at(stop)),
+            _ => Err(fault),
         },
     }
 }
@@ -149,101 +121,75 @@ fn lacks_values(reading: Reading, count: usize) -> bool
 }
 
 // A loop whose names and values are counted: whole rows, or a remainder.
-fn rows(reading: Reading, at: usize, names: Names, values: Values) -> Item
+fn rows(reading: Reading, at: usize, names: Names, values: Values) -> Result<Item, Fault>
     requires { (0 < names.count) × Upto limit names.sizes × Upto limit values.sizes }
     ensures { result ≡ rows_of reading at names values }
 {
     let why = values.why;
     if lacks_values(reading, values.count) {
-        return Item::Broken {
-            cause: Cause::NoValue {
-                reason: why.number(),
-            },
-            at: names.last,
-        };
+        let reason = why.number();
+        return Err(Cause::NoValue { reason }.at(names.last));
     }
     let remainder = values.count % names.count;
     if remainder != 0 {
-        return failed(reading, Cause::Ragged { remainder }, at, values.next, why);
+        return failed(
+            reading,
+            Cause::Ragged { remainder }.at(at),
+            values.next,
+            why,
+        );
     }
-    let named = names.sizes;
-    let valued = values.sizes;
-    let sizes = Sizes::none()
-        .add(Kind::LOOP, 5)
-        .join(named)
-        .join(valued)
-        .add(Kind::LOOP_END, 0);
-    Item::Loop {
+    let heading = Sizes::default().with(Kind::LOOP, 5);
+    Ok(Item::Loop {
         next: values.next,
-        sizes,
+        sizes: (heading + names.sizes + values.sizes).with(Kind::LOOP_END, 0),
         why,
-    }
+    })
 }
 
 // The loop whose `loop_` stands at an offset. Behind its names a tag stands only where its name may not.
-fn parse_loop(reading: Reading, s: &[u8], at: usize) -> Item
+fn parse_loop(reading: Reading, s: &[u8], at: usize) -> Result<Item, Fault>
     requires { Here s.now at × (loop_at reading s.now at ≡ true) }
     ensures { result ≡ item_at reading s.now at }
 {
     let names = count_names(reading, s, at + 5);
     let next = names.next;
     if openings::at_tag(reading, s, next) {
-        return Item::Broken {
-            cause: Cause::BadName,
-            at: next,
-        };
+        return Err(Cause::BadName.at(next));
     }
-    if names.count == 0 {
-        return Item::Broken {
-            cause: Cause::NoNames,
-            at,
-        };
+    let nameless = names.count == 0;
+    if nameless {
+        return Err(Cause::NoNames.at(at));
     }
-    let values = count_values(reading, s, next);
-    if values.over {
-        return Item::Broken {
-            cause: Cause::OverLimit,
-            at: values.next,
-        };
-    }
+    let values = count_values(reading, s, next)?;
     rows(reading, at, names, values)
 }
 
 // The tag at an offset, and its value.
-fn parse_tag(reading: Reading, s: &[u8], at: usize) -> Item
+fn parse_tag(reading: Reading, s: &[u8], at: usize) -> Result<Item, Fault>
     requires { Here s.now at × (tag_at reading s.now at ≡ true) }
     ensures { result ≡ item_at reading s.now at }
 {
     let end = words::long_word_end(s, at);
     if !words::tag_fits(reading, end - at) {
-        return Item::Broken {
-            cause: Cause::BadName,
-            at,
-        };
+        return Err(Cause::BadName.at(at));
     }
     let stop = gaps::gap_end(s, end);
-    let found = Found::of(values::pack_value(reading, s, stop));
-    if let Found::Value { kind, size } = found {
-        let sizes = Sizes::none().add(Kind::TAG, end - at).add_value(kind, size);
-        return Item::Single {
+    match Found::of(values::pack_value(reading, s, stop)) {
+        Found::Value { kind, size } => Ok(Item::Single {
             next: gaps::gap_end(s, stop + size),
-            sizes,
-        };
+            sizes: Sizes::default().with(Kind::TAG, end - at).with(kind, size),
+        }),
+        Found::Over => Err(Cause::OverLimit.at(stop)),
+        Found::Missing { why } => {
+            let reason = why.number();
+            failed(reading, Cause::NoValue { reason }.at(at), stop, why)
+        }
     }
-    let Found::Missing { why } = found else {
-        return Item::Broken {
-            cause: Cause::OverLimit,
-            at: stop,
-        };
-    };
-    let cause = Cause::NoValue {
-        reason: why.number(),
-    };
-    failed(reading, cause, at, stop, why)
 }
 
-// The item at an offset where no space or comment stands; most are tags.
-pub fn parse_data_item(reading: Reading, s: &[u8], at: usize) -> Item
+// The item at an offset where no space or comment stands, or what ends the whole reading there; most are tags.
+pub fn parse_data_item(reading: Reading, s: &[u8], at: usize) -> Result<Item, Fault>
     requires { Here s.now at }
     ensures { result ≡ item_at reading s.now at }
 {
@@ -253,5 +199,5 @@ pub fn parse_data_item(reading: Reading, s: &[u8], at: usize) -> Item
     if openings::at_loop(reading, s, at) {
         return parse_loop(reading, s, at);
     }
-    Item::Absent { at }
+    Ok(Item::Absent { at })
 }

@@ -1,5 +1,5 @@
 -- Judging a text, before any room is looked at: a refusal, or the room that its records need. Assumes nothing.
-use Rattle.std.specs.Prelude.{ℕ, Bool, true, false, cond, ◌≡◌, List}
+use Rattle.std.specs.Prelude.{ℕ, Bool, true, false, cond, ◌≡◌, List, Result, Ok, Err}
 use Rattle.rules.specs.declared.Reading.{Reading}
 use Rattle.places.specs.declared.Report.{Report}
 use Rattle.places.specs.Reports.{success}
@@ -9,8 +9,7 @@ use Rattle.grammar.specs.Reading.{outline}
 use Rattle.sizes.specs.Sizes.{sizes_of}
 use Rattle.sizes.specs.declared.Sizes.{Sizes}
 use Rattle.refusals.specs.Answers.{refusal, refusal_report}
-use Rattle.judging.specs.declared.Judged.{Judged}
-use Rattle.judging.specs.declared.Judged.TheVariants.{Fits, Declines}
+use Rattle.refusals.specs.declared.Refusal.{Refusal}
 
 pub record Judgement : Type 0 where
   pub is_read : Bool
@@ -24,9 +23,9 @@ unfoldable pub judgement : List ℕ → Answer → Judgement
 judgement s (refused n o d) = record { is_read = false; report = refusal s n o d; sizes = no_sizes }
 judgement s (done rs) = record { is_read = true; report = success 0 0; sizes = sizes_of rs }
 
-unfoldable pub judged_as : Judged → Judgement
-judged_as (Fits z) = record { is_read = true; report = success 0 0; sizes = z }
-judged_as (Declines r) = record { is_read = false; report = refusal_report r; sizes = no_sizes }
+unfoldable pub judged_as : Result Sizes Refusal → Judgement
+judged_as (Ok z) = record { is_read = true; report = success 0 0; sizes = z }
+judged_as (Err r) = record { is_read = false; report = refusal_report r; sizes = no_sizes }
 
 -- the same from a decision's numbers
 unfoldable pub declined : List ℕ → Told → Judgement

@@ -11,14 +11,15 @@ use borrow.Author.Tests.{eq-eqb, ne_eqb, eqb-true, eqb-false, ltb-true, ltb-fals
 use lib.Dec.{eqb, ltb, leb}
 use lib.ListN.{length, drop, get_or, drop_of_length-le}
 use lib.Seq.{drop-cons}
+use Rattle.std.specs.Prelude.{Result, Ok, Err}
 use Rattle.text.specs.Bytes.{is, is_ascii, is_eol}
 use Rattle.text.specs.Runs.{span, span_end, runs}
 use Rattle.text.specs.Blocks.{clear}
 use Rattle.text.proofs.Bools.{and_l, and_r}
 use Rattle.text.proofs.Blocks.{clear-least, block-keeps}
 use Rattle.text.proofs.Runs.{span-le, span-end, span-block, runs-met}
-use Rattle.lines.specs.declared.Screen.{Screen}
-use Rattle.lines.specs.declared.Screen.TheVariants.{Fine, LongLine, Control}
+use Rattle.lines.specs.declared.Flaw.{Flaw}
+use Rattle.lines.specs.declared.Flaw.TheVariants.{LongLine, Control}
 use Rattle.lines.specs.Ends.{behind_last}
 use Rattle.lines.specs.Lines.{is_control, no_control, is_plain, is_printed, column, is_long, short, screen_from, screened, is_fine, fits}
 
@@ -313,8 +314,8 @@ module _ (b : ℕ) where
 
 -- The earlier of the two, the line first at one byte
 
-earlier : ℕ → ℕ → ℕ → ℕ → Screen
-earlier n o long control = cond (ltb control long) (Control (o + control)) (cond (ltb long n) (LongLine (o + long)) Fine)
+earlier : ℕ → ℕ → ℕ → ℕ → Result (Unit {0}) Flaw
+earlier n o long control = cond (ltb control long) (Err (Control (o + control))) (cond (ltb long n) (Err (LongLine (o + long))) (Ok tt))
 
 ltb-suc : (i j : ℕ) → ltb (suc i) (suc j) ≡ ltb i j
 ltb-suc i j = by (ltb i j) refl
@@ -336,7 +337,7 @@ scans c o [] = refl
 scans c o (b ∷ s) = by (is_long c b) (is_control b) (scans (column c b) (suc o) s)
   where
     by : (t u : Bool) → screen_from (column c b) (suc o) s ≡ earlier (length s) (suc o) (short (column c b) s) (span no_control s)
-        → cond t (LongLine o) (cond u (Control o) (screen_from (column c b) (suc o) s)) ≡ earlier (suc (length s)) o (cond t 0 (suc (short (column c b) s))) (cond (not u) (suc (span no_control s)) 0)
+        → cond t (Err (LongLine o)) (cond u (Err (Control o)) (screen_from (column c b) (suc o) s)) ≡ earlier (suc (length s)) o (cond t 0 (suc (short (column c b) s))) (cond (not u) (suc (span no_control s)) 0)
     by true u ih =
         let e : o + 0 ≡ o = omega arith in
         rw (le-ltb (cond (not u) (suc (span no_control s)) 0) 0 (omega arith), lt-ltb 0 (suc (length s)) (omega arith), e)
@@ -350,15 +351,15 @@ module _ (s : List ℕ) (long control : ℕ) (q : long ≡ short 0 s) (r : contr
   unfolding screened
   both = rw (q, r) (scans 0 0 s)
 
-  pub screen-control : control < long → Control control ≡ screened s
+  pub screen-control : control < long → Err (Control control) ≡ screened s
   unfolding earlier
   screen-control h = sym (both ∙ rw (lt-ltb control long h, zero-add))
 
-  pub screen-long : long ≤ control → long < length s → LongLine long ≡ screened s
+  pub screen-long : long ≤ control → long < length s → Err (LongLine long) ≡ screened s
   unfolding earlier
   screen-long h l = sym (both ∙ rw (le-ltb control long h, lt-ltb long (length s) l, zero-add))
 
-  pub screen-fine : long ≤ control → length s ≤ long → Fine ≡ screened s
+  pub screen-fine : long ≤ control → length s ≤ long → Ok tt ≡ screened s
   unfolding earlier
   screen-fine h l = sym (both ∙ rw (le-ltb control long h, le-ltb long (length s) l))
 
@@ -371,7 +372,7 @@ fine-anywhere c o q [] = refl
 fine-anywhere c o q (b ∷ s) = by (is_long c b) (is_control b) (fine-anywhere (column c b) (suc o) (suc q) s)
   where
     by : (t u : Bool) → is_fine (screen_from (column c b) (suc o) s) ≡ is_fine (screen_from (column c b) (suc q) s)
-        → is_fine (cond t (LongLine o) (cond u (Control o) (screen_from (column c b) (suc o) s))) ≡ is_fine (cond t (LongLine q) (cond u (Control q) (screen_from (column c b) (suc q) s)))
+        → is_fine (cond t (Err (LongLine o)) (cond u (Err (Control o)) (screen_from (column c b) (suc o) s))) ≡ is_fine (cond t (Err (LongLine q)) (cond u (Err (Control q)) (screen_from (column c b) (suc q) s)))
     by true u h = refl
     by false true h = refl
     by false false h = h
@@ -390,7 +391,7 @@ pub fits_by : (c b : ℕ) (s : List ℕ) → fits c (b ∷ s) ≡ (not (is_long 
 unfolding fits screen_from is_fine
 fits_by c b s = by (is_long c b) (is_control b)
   where
-    by : (t u : Bool) → is_fine (cond t (LongLine 0) (cond u (Control 0) (screen_from (column c b) 1 s))) ≡ (not t && (not u && is_fine (screen_from (column c b) 0 s)))
+    by : (t u : Bool) → is_fine (cond t (Err (LongLine 0)) (cond u (Err (Control 0)) (screen_from (column c b) 1 s))) ≡ (not t && (not u && is_fine (screen_from (column c b) 0 s)))
     by true u = refl
     by false true = refl
     by false false = fine-anywhere (column c b) 1 0 s
@@ -475,10 +476,10 @@ short-le c (b ∷ s) = by (is_long c b) (short-le (column c b) s)
 
 -- where no control byte stands, the scan for long lines alone tells what is found
 module _ (s : List ℕ) (long : ℕ) (q : long ≡ short 0 s) (p : length s ≤ span no_control s) where
-  pub plain-long : long < length s → screened s ≡ LongLine long
+  pub plain-long : long < length s → screened s ≡ Err (LongLine long)
   plain-long l = sym (screen-long s long (span no_control s) q refl (omega arith) l)
 
-  pub plain-fine : length s ≤ long → screened s ≡ Fine
+  pub plain-fine : length s ≤ long → screened s ≡ Ok tt
   plain-fine l = sym (screen-fine s long (span no_control s) q refl (omega (arith, q, short-le 0 s)) l)
 
 -- by both scans
@@ -491,7 +492,7 @@ module _ (c : ℕ) (s : List ℕ) (long control : ℕ) (q : long ≡ short c s) 
   unfolding earlier is_fine
   fits-long h = scanned ∙ by (ltb control long)
     where
-      by : (t : Bool) → is_fine (cond t (Control (0 + control)) (cond (ltb long (length s)) (LongLine (0 + long)) Fine)) ≡ false
+      by : (t : Bool) → is_fine (cond t (Err (Control (0 + control))) (cond (ltb long (length s)) (Err (LongLine (0 + long))) (Ok tt))) ≡ false
       by true = refl
       by false = rw (lt-ltb long (length s) h)
 
@@ -499,7 +500,7 @@ module _ (c : ℕ) (s : List ℕ) (long control : ℕ) (q : long ≡ short c s) 
   unfolding earlier is_fine
   fits-control h = scanned ∙ by (eqb control (length s)) refl
     where
-      by : (t : Bool) → eqb control (length s) ≡ t → is_fine (cond (ltb control long) (Control (0 + control)) (cond (ltb long (length s)) (LongLine (0 + long)) Fine)) ≡ t
+      by : (t : Bool) → eqb control (length s) ≡ t → is_fine (cond (ltb control long) (Err (Control (0 + control))) (cond (ltb long (length s)) (Err (LongLine (0 + long))) (Ok tt))) ≡ t
       by true e =
           let z : control ≡ length s = eqb-true control (length s) e in
           rw (le-ltb control long (omega (arith, q, short-le c s)), le-ltb long (length s) h)

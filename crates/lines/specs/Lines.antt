@@ -1,9 +1,9 @@
 -- Lines and control bytes (document 02, Three): in the strict reading a line has at most 2,048 bytes before its end, and no control byte stands in a text but tab, LF and
 -- CR. The first byte that breaks one of these is found; where it breaks both, the line counts first. Assumes nothing.
-use Rattle.std.specs.Prelude.{ℕ, suc, Bool, true, false, not, cond, ◌&&◌, ◌||◌, List, [], ◌∷◌, leb, ltb, eqb}
+use Rattle.std.specs.Prelude.{ℕ, suc, Bool, true, false, not, cond, ◌&&◌, ◌||◌, List, [], ◌∷◌, leb, ltb, eqb, Result, Ok, Err}
 use Rattle.text.specs.Bytes.{is, is_ascii, is_eol, tab, line_feed, carriage_return, space}
-use Rattle.lines.specs.declared.Screen.{Screen}
-use Rattle.lines.specs.declared.Screen.TheVariants.{Fine, LongLine, Control}
+use Rattle.lines.specs.declared.Flaw.{Flaw}
+use Rattle.lines.specs.declared.Flaw.TheVariants.{LongLine, Control}
 
 -- the most bytes of a line before its end: tabs and the bytes of comments and text fields count
 abbrev pub longest : ℕ
@@ -38,18 +38,17 @@ short c [] = 0
 short c (b ∷ s) = let on = suc (short (column c b) s) in cond (is_long c b) 0 on
 
 -- the first byte of s that may not stand where it does: c bytes of its line stand before s, o of the text
-unfoldable pub screen_from : ℕ → ℕ → List ℕ → Screen
-screen_from c o [] = Fine
-screen_from c o (b ∷ s) = let next = screen_from (column c b) (suc o) s in cond (is_long c b) (LongLine o) (cond (is_control b) (Control o) next)
+unfoldable pub screen_from : ℕ → ℕ → List ℕ → Result (Unit {0}) Flaw
+screen_from c o [] = Ok tt
+screen_from c o (b ∷ s) = let next = screen_from (column c b) (suc o) s in cond (is_long c b) (Err (LongLine o)) (cond (is_control b) (Err (Control o)) next)
 
-unfoldable pub screened : List ℕ → Screen
+unfoldable pub screened : List ℕ → Result (Unit {0}) Flaw
 screened s = screen_from 0 0 s
 
 -- there is none
-unfoldable pub is_fine : Screen → Bool
-is_fine Fine = true
-is_fine (LongLine at) = false
-is_fine (Control at) = false
+unfoldable pub is_fine : Result (Unit {0}) Flaw → Bool
+is_fine (Ok u) = true
+is_fine (Err e) = false
 
 -- all of s may stand where it does: c bytes of its line stand before
 unfoldable pub fits : ℕ → List ℕ → Bool

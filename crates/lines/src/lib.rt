@@ -12,10 +12,9 @@ pub const LONGEST: usize = 2048;
 // The one control byte above the others.
 const DELETE: u8 = 127;
 
-// What is found: nothing; the first byte that is one too many on its line; a control byte.
+// Why a byte may not stand where it does: it is one too many on its line, or a control byte.
 #[derive(Clone, Copy)]
-pub enum Screen {
-    Fine,
+pub enum Flaw {
     LongLine { at: usize },
     Control { at: usize },
 }
@@ -153,18 +152,18 @@ pub fn short_end(s: &[u8], column: usize) -> usize
 }
 
 // The first byte that may not stand where it does; where one byte is both, its line counts first.
-pub fn screen_bytes(s: &[u8]) -> Screen
+pub fn screen_bytes(s: &[u8]) -> Result<(), Flaw>
     ensures { result ≡ screened s.now }
 {
     let long = short_end(s, 0);
     let control = control_end(s);
     if control < long {
-        return Screen::Control { at: control };
+        return Err(Flaw::Control { at: control });
     }
     if long < s.len() {
-        return Screen::LongLine { at: long };
+        return Err(Flaw::LongLine { at: long });
     }
-    Screen::Fine
+    Ok(())
 }
 
 // Whether all bytes may stand where they do, so many of their line before them.

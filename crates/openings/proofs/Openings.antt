@@ -1,5 +1,5 @@
 -- What opens an item, a frame or a block, by the tests in the code's order: the bytes, then the space before. Assumes nothing.
-use Prim.Native.Nat.{ℕ, ◌+◌, ◌-◌, ◌≤◌, ◌<◌}
+use Prim.Native.Nat.{ℕ, ◌-◌, ◌≤◌, ◌<◌}
 use mathlib.Core.Path.{◌≡◌, refl, sym, ◌∙◌}
 use mathlib.Core.Bool.{Bool, true, false, cond, ◌&&◌, false≢true}
 use mathlib.Core.List.{List, [], ◌∷◌}
@@ -9,9 +9,9 @@ use lib.ListN.{length, drop, get_or, drop_of_length-le}
 use lib.Seq.{drop-cons}
 use borrow.Author.Tests.{ne_eqb}
 use Rattle.rules.specs.declared.Reading.{Reading}
-use Rattle.text.specs.Bytes.{is, underscore}
+use Rattle.text.specs.Bytes.{is}
 use Rattle.columns.specs.Before.{byte_before, is_parted}
-use Rattle.keywords.specs.Keywords.{starts, starts_at, stands, key_loop, key_save, key_data}
+use Rattle.keywords.specs.Keywords.{starts_at, stands, key_loop, key_save, key_data}
 use Rattle.keywords.proofs.Keywords.{loop-word}
 use Rattle.keywords.proofs.Starts.{starts-at, stands-starts, data-in-word, save-in-word}
 use Rattle.words.specs.Words.{word, end_of_word}

@@ -13,13 +13,7 @@ pub fn at_tag(reading: Reading, s: &[u8], at: usize) -> bool
     requires { at ≤ length s.now }
     ensures { result ≡ tag_at reading s.now at }
 {
-    if s.len() <= at {
-        return false;
-    }
-    if s[at] != b'_' {
-        return false;
-    }
-    columns::is_parted(reading, s, at)
+    at < s.len() && s[at] == b'_' && columns::is_parted(reading, s, at)
 }
 
 // Whether `loop_` does.
@@ -27,10 +21,7 @@ pub fn at_loop(reading: Reading, s: &[u8], at: usize) -> bool
     requires { at ≤ length s.now }
     ensures { result ≡ loop_at reading s.now at }
 {
-    if !keywords::stands_at(reading, s, at, b"loop_") {
-        return false;
-    }
-    columns::is_parted(reading, s, at)
+    keywords::stands_at(reading, s, at, b"loop_") && columns::is_parted(reading, s, at)
 }
 
 // Whether `save_` does.
@@ -38,10 +29,7 @@ pub fn at_save(reading: Reading, s: &[u8], at: usize) -> bool
     requires { at ≤ length s.now }
     ensures { result ≡ save_at reading s.now at }
 {
-    if !keywords::at_save(s, at) {
-        return false;
-    }
-    columns::is_parted(reading, s, at)
+    keywords::at_save(s, at) && columns::is_parted(reading, s, at)
 }
 
 // Whether a `save_` does that closes a frame: in the strict reading one without a name.
@@ -49,10 +37,7 @@ pub fn at_close(reading: Reading, s: &[u8], at: usize) -> bool
     requires { at ≤ length s.now }
     ensures { result ≡ close_at reading s.now at }
 {
-    if !keywords::stands_at(reading, s, at, b"save_") {
-        return false;
-    }
-    columns::is_parted(reading, s, at)
+    keywords::stands_at(reading, s, at, b"save_") && columns::is_parted(reading, s, at)
 }
 
 // Whether `data_` does.
@@ -60,10 +45,7 @@ pub fn at_data(reading: Reading, s: &[u8], at: usize) -> bool
     requires { at ≤ length s.now }
     ensures { result ≡ data_at reading s.now at }
 {
-    if !keywords::at_data(s, at) {
-        return false;
-    }
-    columns::is_parted(reading, s, at)
+    keywords::at_data(s, at) && columns::is_parted(reading, s, at)
 }
 
 // Where the tag at an offset ends; where none may stand, that offset.

@@ -20,26 +20,27 @@ use Rattle.walking.specs.Writing.{store_of}
 use Rattle.writing.specs.Block.{Fits, store_bytes}
 use Rattle.writing.proofs.Answers.{outline-fits, store-records}
 use Rattle.refusals.specs.declared.Refusal.{Refusal}
-use Rattle.outlining.specs.declared.Outlined.TheVariants.{Written, Declined, NoRoom}
+use Rattle.std.specs.Prelude.{Ok, Err}
+use Rattle.outlining.specs.declared.OutlineError.TheVariants.{Refused, NoRoom}
 use Rattle.refusals.specs.Answers.{written_if}
 use Rattle.judging.specs.Judging.{IsRead}
 use Rattle.outlining.specs.Outlining.{outline_room, outline_by, outline_answer, outline_store_by, outline_store, outlined_report}
 use Rattle.judging.proofs.Judgements.{Refuses}
 
 -- a text that is refused
-pub outline-refused : (g : Reading) (s l : List ℕ) (r : Refusal) → Refuses g s r → (outlined_report (Declined r) ≡ outline_answer g s (length l)) × (l ≡ outline_store g s l)
+pub outline-refused : (g : Reading) (s l : List ℕ) (r : Refusal) → Refuses g s r → (outlined_report (Err (Refused r)) ≡ outline_answer g s (length l)) × (l ≡ outline_store g s l)
 unfolding outlined_report outline_answer outline_store outline_by outline_store_by
 outline-refused g s l r i = (rw i.answer i.report, rw i.answer)
 
 -- room, for records whose length is m
 module _ (g : Reading) (s l : List ℕ) (rs : List Rec) (e : outline g s ≡ done rs) (m : ℕ) (p : m ≡ outline_size rs) where
-  pub no-outline : length l < m → (outlined_report (NoRoom m) ≡ outline_answer g s (length l)) × (l ≡ outline_store g s l)
+  pub no-outline : length l < m → (outlined_report (Err (NoRoom m)) ≡ outline_answer g s (length l)) × (l ≡ outline_store g s l)
   unfolding outlined_report outline_answer outline_store outline_by outline_store_by outline_room written_if no_room
   no-outline h =
       let t : ltb (length l) (outline_size rs) ≡ true = lt-ltb (length l) (outline_size rs) (omega arith) in
       (rw (e, t, p), rw (e, t))
 
-  pub all-outlined : (l' : List ℕ) → m ≤ length l → l' ≡ front (store_of false s 0 rs) l → (outlined_report (Written m) ≡ outline_answer g s (length l)) × (l' ≡ outline_store g s l)
+  pub all-outlined : (l' : List ℕ) → m ≤ length l → l' ≡ front (store_of false s 0 rs) l → (outlined_report (Ok m) ≡ outline_answer g s (length l)) × (l' ≡ outline_store g s l)
   unfolding outlined_report outline_answer outline_store outline_by outline_store_by outline_room written_if success
   all-outlined l' h v =
       let t : ltb (length l) (outline_size rs) ≡ false = le-ltb (length l) (outline_size rs) (omega arith) in

@@ -3,58 +3,50 @@
 
 ghost use Rattle.std.specs.Prelude.{◌≡◌, length};
 ghost use Rattle.outlining.specs.Outlining.{outline_answer, outline_store, outlined_report};
-ghost use Rattle.judging.specs.Judging.{IsRead};
+ghost use Rattle.outlining.specs.declared.OutlineError.TheVariants.{Refused};
 
-use judging::Judged;
 use places::Report;
 use refusals::Refusal;
 use rules::Reading;
-use sizes::Sizes;
 
-// Outline's answer.
+// Why Outline writes nothing: the text is refused, or there is no room for as many bytes as its outline has.
 #[derive(Clone, Copy)]
-pub enum Outlined {
-    Written { store: usize },
-    Declined { refusal: Refusal },
+pub enum OutlineError {
+    Refused { refusal: Refusal },
     NoRoom { store: usize },
 }
 
-impl Outlined {
-    // Outline's answer in document 01's numbers.
-    pub fn report(self) -> Report
-        ensures { result ≡ outlined_report self }
-    {
-        match self {
-            Outlined::Written { store } => refusals::lengths(0, store, 0),
-            Outlined::Declined { refusal } => refusal.report(),
-            Outlined::NoRoom { store } => refusals::lengths(10, store, 0),
-        }
+impl From<Refusal> for OutlineError {
+    ghost from_gives = { λ refusal given. given ≡ Refused refusal };
+
+    fn from(refusal: Refusal) -> OutlineError {
+        OutlineError::Refused { refusal }
     }
 }
 
-// Outline of a text that is read. The outline has no area.
-fn outline_fitting(reading: Reading, s: &[u8], store: &mut [u8], sizes: Sizes) -> Outlined
-    requires { IsRead reading s.now sizes }
-    ensures result_value { outlined_report result ≡ outline_answer reading s.now (length store.old) }
-    ensures store_after { store.new ≡ outline_store reading s.now store.old }
+// Outline's answer in document 01's numbers.
+pub fn report(answer: Result<usize, OutlineError>) -> Report
+    ensures { result ≡ outlined_report answer }
 {
-    let room = sizes.outline;
-    if store.len() < room {
-        return Outlined::NoRoom { store: room };
+    match answer {
+        Ok(store) => Report::lengths(0, store, 0),
+        Err(error) => match error {
+            OutlineError::Refused { refusal } => refusal.report(),
+            OutlineError::NoRoom { store } => Report::lengths(10, store, 0),
+        },
     }
-    let mut area = [0u8; 1];
-    writing::write_block(reading, s, false, store, &mut area);
-    Outlined::Written { store: room }
 }
 
-// OUTLINE: the same without 11; kinds and places only.
-pub fn outline(reading: Reading, text: &[u8], store: &mut [u8]) -> Outlined
+// OUTLINE: the same without 11; kinds and places only. The outline has no area.
+pub fn outline(reading: Reading, text: &[u8], store: &mut [u8]) -> Result<usize, OutlineError>
     ensures answers { outlined_report result ≡ outline_answer reading text.now (length store.old) }
     ensures writes { store.new ≡ outline_store reading text.now store.old }
 {
-    let judged = judging::judge(reading, text);
-    match judged {
-        Judged::Declines { refusal } => Outlined::Declined { refusal },
-        Judged::Fits { sizes } => outline_fitting(reading, text, store, sizes),
+    let room = judging::judge(reading, text)?.outline;
+    if store.len() < room {
+        return Err(OutlineError::NoRoom { store: room });
     }
+    let mut area = [0u8; 1];
+    writing::write_block(reading, text, false, store, &mut area);
+    Ok(room)
 }

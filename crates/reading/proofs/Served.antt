@@ -11,7 +11,7 @@ use Rattle.rules.specs.declared.Reading.{Reading}
 use Rattle.places.specs.Reports.{success, no_room}
 use Rattle.records.specs.Put.{front}
 use Rattle.sizes.specs.declared.Sizes.{Sizes}
-use Rattle.grammar.specs.Machine.{Rec, done, refused}
+use Rattle.grammar.specs.Machine.{Rec, done}
 use Rattle.grammar.specs.Reading.{outline, decided}
 use Rattle.text.specs.Limits.{limit}
 use Rattle.sizes.specs.Sizes.{store_size, area_size}
@@ -20,26 +20,27 @@ use Rattle.walking.specs.Writing.{store_of, area_of}
 use Rattle.writing.specs.Block.{Fits, store_bytes, area_bytes}
 use Rattle.writing.proofs.Answers.{read_fits, store-records, area-bytes}
 use Rattle.refusals.specs.declared.Refusal.{Refusal}
-use Rattle.reading.specs.declared.Stored.TheVariants.{Done, Refused, StoreFull, AreaFull}
+use Rattle.std.specs.Prelude.{Ok, Err}
+use Rattle.reading.specs.declared.ReadError.TheVariants.{Refused, StoreFull, AreaFull}
 use Rattle.refusals.specs.Answers.{written_if}
 use Rattle.judging.specs.Judging.{IsRead}
 use Rattle.reading.specs.Services.{read_room, read_by, read_answer, read_store_by, read_area_by, read_store, read_area, reading_report}
 use Rattle.judging.proofs.Judgements.{Refuses}
 
 -- a text that is refused
-pub read-refused : (g : Reading) (s l a : List ℕ) (r : Refusal) → Refuses g s r → (reading_report (Refused r) ≡ read_answer g s (length l) (length a)) × ((l ≡ read_store g s l (length a)) × (a ≡ read_area g s (length l) a))
+pub read-refused : (g : Reading) (s l a : List ℕ) (r : Refusal) → Refuses g s r → (reading_report (Err (Refused r)) ≡ read_answer g s (length l) (length a)) × ((l ≡ read_store g s l (length a)) × (a ≡ read_area g s (length l) a))
 unfolding reading_report read_answer read_store read_area read_by read_store_by read_area_by
 read-refused g s l a r i = (rw i.answer i.report, (rw i.answer, rw i.answer))
 
 -- room, for records whose lengths are m and k
 module _ (g : Reading) (s l a : List ℕ) (rs : List Rec) (e : outline g s ≡ done rs) (m k : ℕ) (p : m ≡ store_size rs) (q : k ≡ area_size rs) where
-  pub no_store : length l < m → (reading_report (StoreFull m k) ≡ read_answer g s (length l) (length a)) × ((l ≡ read_store g s l (length a)) × (a ≡ read_area g s (length l) a))
+  pub no_store : length l < m → (reading_report (Err (StoreFull (record { store = m; area = k }))) ≡ read_answer g s (length l) (length a)) × ((l ≡ read_store g s l (length a)) × (a ≡ read_area g s (length l) a))
   unfolding reading_report read_answer read_store read_area read_by read_store_by read_area_by read_room written_if no_room
   no_store h =
       let t : ltb (length l) (store_size rs) ≡ true = lt-ltb (length l) (store_size rs) (omega arith) in
       (rw (e, t, p, q), (rw (e, t), rw (e, t)))
 
-  pub no-area : m ≤ length l → length a < k → (reading_report (AreaFull m k) ≡ read_answer g s (length l) (length a)) × ((l ≡ read_store g s l (length a)) × (a ≡ read_area g s (length l) a))
+  pub no-area : m ≤ length l → length a < k → (reading_report (Err (AreaFull (record { store = m; area = k }))) ≡ read_answer g s (length l) (length a)) × ((l ≡ read_store g s l (length a)) × (a ≡ read_area g s (length l) a))
   unfolding reading_report read_answer read_store read_area read_by read_store_by read_area_by read_room written_if no_room
   no-area h g =
       let t : ltb (length l) (store_size rs) ≡ false = le-ltb (length l) (store_size rs) (omega arith) in
@@ -47,7 +48,7 @@ module _ (g : Reading) (s l a : List ℕ) (rs : List Rec) (e : outline g s ≡ d
       (rw (e, t, u, p, q), (rw (e, t, u), rw (e, t, u)))
 
   pub all_read : (l' a' : List ℕ) → m ≤ length l → k ≤ length a → l' ≡ front (store_of true s 0 rs) l → a' ≡ front (area_of s rs) a
-      → (reading_report (Done m k) ≡ read_answer g s (length l) (length a)) × ((l' ≡ read_store g s l (length a)) × (a' ≡ read_area g s (length l) a))
+      → (reading_report (Ok (record { store = m; area = k })) ≡ read_answer g s (length l) (length a)) × ((l' ≡ read_store g s l (length a)) × (a' ≡ read_area g s (length l) a))
   unfolding reading_report read_answer read_store read_area read_by read_store_by read_area_by read_room written_if success
   all_read l' a' h g v w =
       let t : ltb (length l) (store_size rs) ≡ false = le-ltb (length l) (store_size rs) (omega arith) in

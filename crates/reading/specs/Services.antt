@@ -1,6 +1,6 @@
 -- The service Read (document 01): what it answers and what the lent buffers hold afterwards, for every text and every room. Order: 1, 2, in the strict reading 16 and 18, the first of the others, then 10,
 -- then 11. A refusal writes nothing; exactly enough room is room. Assumes nothing.
-use Rattle.std.specs.Prelude.{ℕ, true, cond, List, eqb, ltb, length}
+use Rattle.std.specs.Prelude.{ℕ, true, cond, List, eqb, ltb, length, Result, Ok, Err}
 use Rattle.rules.specs.declared.Reading.{Reading}
 use Rattle.places.specs.Reports.{success, no_room}
 use Rattle.places.specs.declared.Report.{Report}
@@ -8,8 +8,9 @@ use Rattle.grammar.specs.Machine.{Rec, Answer, refused, done}
 use Rattle.grammar.specs.Reading.{outline}
 use Rattle.sizes.specs.Sizes.{store_size, area_size}
 use Rattle.walking.specs.Writing.{store_of, area_of}
-use Rattle.reading.specs.declared.Stored.{Stored}
-use Rattle.reading.specs.declared.Stored.TheVariants.{Done, Refused, StoreFull, AreaFull}
+use Rattle.reading.specs.declared.Lengths.{Lengths}
+use Rattle.reading.specs.declared.ReadError.{ReadError}
+use Rattle.reading.specs.declared.ReadError.TheVariants.{Refused, StoreFull, AreaFull}
 use Rattle.refusals.specs.Answers.{refusal, refusal_report, written_if}
 
 -- Read's answer for records, in a store and an area of these lengths
@@ -42,8 +43,8 @@ unfoldable pub read_area : Reading → List ℕ → ℕ → List ℕ → List �
 read_area g s m l = read_area_by s m l (outline g s)
 
 -- document 01's numbers for each case of the code's answer
-unfoldable pub reading_report : Stored → Report
-reading_report (Done m k) = success m k
-reading_report (Refused r) = refusal_report r
-reading_report (StoreFull m k) = no_room 10 m k
-reading_report (AreaFull m k) = no_room 11 m k
+unfoldable pub reading_report : Result Lengths ReadError → Report
+reading_report (Ok n) = success n.store n.area
+reading_report (Err (Refused r)) = refusal_report r
+reading_report (Err (StoreFull n)) = no_room 10 n.store n.area
+reading_report (Err (AreaFull n)) = no_room 11 n.store n.area

@@ -12,26 +12,15 @@ pub enum Reading {
     Strict,
 }
 
-// What a number names: a reading, or none.
-#[derive(Clone, Copy)]
-pub enum Named {
-    Known { reading: Reading },
-    Unknown,
-}
-
 impl Reading {
-    // The reading that a number names.
-    pub fn of(number: u64) -> Named
+    // The reading that a number names, if it names one.
+    pub fn of(number: u64) -> Option<Reading>
         ensures { result ≡ named number }
     {
         match number {
-            1 => Named::Known {
-                reading: Reading::First,
-            },
-            2 => Named::Known {
-                reading: Reading::Strict,
-            },
-            _ => Named::Unknown,
+            1 => Some(Reading::First),
+            2 => Some(Reading::Strict),
+            _ => None,
         }
     }
 }

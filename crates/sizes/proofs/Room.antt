@@ -1,17 +1,17 @@
 -- Laws of sizes: those of appended records add up, and records take at most 64 bytes for each byte of text. Assumes nothing.
-use Prim.Native.Nat.{ℕ, zero, suc, ◌+◌, ◌-◌, ◌≤◌, ◌<◌}
-use mathlib.Core.Path.{◌≡◌, refl, sym}
-use mathlib.Core.Bool.{Bool, true, false, cond, true≢false}
+use Prim.Native.Nat.{ℕ, suc, ◌+◌, ◌-◌, ◌≤◌}
+use mathlib.Core.Path.{◌≡◌, refl}
+use mathlib.Core.Bool.{Bool, true, false, cond}
 use mathlib.Core.List.{List, [], ◌∷◌, ◌++◌}
 use native.Mathlib.Omega.{arith}
+use Rattle.std.specs.Prelude.{min}
 use Rattle.kinds.specs.declared.Kind.{Kind}
 use Rattle.kinds.specs.declared.Shape.{Shape}
 use Rattle.kinds.specs.declared.Shape.TheVariants.{Empty, Place, Content, Count, Parts, PartsUncertain}
-use Rattle.kinds.specs.Kinds.{kind_of, shape_of, shape_length, outline_shape, marks_of, body_length, outline_length, is_content, has_content, is_value_kind}
-use Rattle.kinds.proofs.Marks.{each-value}
+use Rattle.kinds.specs.Kinds.{kind_of, shape_of, shape_length, outline_shape, marks_of, body_length, outline_length, is_content, has_content}
 use Rattle.sizes.specs.declared.Sizes.{Sizes}
 use Rattle.grammar.specs.Machine.{Rec}
-use Rattle.sizes.specs.Sizes.{content_size, store_size, outline_size, area_size, sizes_of, no_sizes, grown, added, joined, Upto}
+use Rattle.sizes.specs.Sizes.{content_size, store_size, outline_size, area_size, sizes_of, no_sizes, added, joined, Upto}
 
 -- two sizes with equal parts are equal
 same : {z y : Sizes} → z.store ≡ y.store → z.outline ≡ y.outline → z.area ≡ y.area → z ≡ y
@@ -40,6 +40,11 @@ sizes-append a b = same (store-append a b) (outline-append a b) (area-append a b
 pub sizes-none : sizes_of [] ≡ no_sizes
 unfolding sizes_of no_sizes store_size outline_size area_size
 sizes-none = refl
+
+-- the room that is given by default
+pub default-none : {z : Sizes} → (z.store ≡ 0) × ((z.outline ≡ 0) × (z.area ≡ 0)) → z ≡ no_sizes
+unfolding no_sizes
+default-none e = same e.0 e.1.0 e.1.1
 
 -- one record
 pub sizes-one : (r : Rec) → sizes_of (r ∷ []) ≡ added no_sizes r.kind r.size
@@ -77,13 +82,16 @@ pub outline-small : (k : ℕ) → outline_length k ≤ 38
 unfolding outline_length
 outline-small k = (shape-small (shape_of (kind_of k))).1
 
-pub content-small : (k n : ℕ) → content_size k n ≤ n
-unfolding content_size
-content-small k n = by (has_content k)
+pub content-least : (k : Kind) (n : ℕ) → cond (is_content (shape_of k)) (n - marks_of k) 0 ≤ n
+content-least k n = by (is_content (shape_of k))
   where
-    by : (b : Bool) → cond b (n - marks_of (kind_of k)) 0 ≤ n
+    by : (b : Bool) → cond b (n - marks_of k) 0 ≤ n
     by true = omega arith
     by false = omega arith
+
+pub content-small : (k n : ℕ) → content_size k n ≤ n
+unfolding content_size has_content
+content-small k n = content-least (kind_of k) n
 
 -- what records of so many bytes of text take
 pub upto-none : (n : ℕ) → Upto n no_sizes
@@ -123,55 +131,30 @@ pub joined-none : (z : Sizes) → joined z no_sizes ≡ z
 unfolding joined no_sizes
 joined-none z = same (omega arith) (omega arith) (omega arith)
 
+-- a body begins with its place, and the outline has no more of it
+pub outline-least : (x : Shape) → min (shape_length x) 16 ≡ shape_length (outline_shape x)
+unfolding shape_length outline_shape
+outline-least Empty = refl
+outline-least Place = refl
+outline-least Content = refl
+outline-least Count = refl
+outline-least Parts = refl
+outline-least PartsUncertain = refl
+
+-- a shape other than Content
+pub no-content : (x : Shape) → (x ≡ Content → ⊥) → is_content x ≡ false
+unfolding is_content
+no-content Content n = absurd (n refl)
+no-content Empty n = refl
+no-content Place n = refl
+no-content Count n = refl
+no-content Parts n = refl
+no-content PartsUncertain n = refl
+
 -- as the code adds them
-pub added-steps : (z : Sizes) (k n a b d : ℕ) → a ≡ body_length k → b ≡ outline_length k → d ≡ content_size k n → record { store = z.store + 1 + a; outline = z.outline + 1 + b; area = z.area + d } ≡ added z k n
-unfolding added
-added-steps z k n a b d e f g = same (omega arith) (omega arith) (omega arith)
-
--- content by shape
-pub content-none : (k n : ℕ) → has_content k ≡ false → 0 ≡ content_size k n
-unfolding content_size
-content-none k n e = rw e
-
-pub content-some : (k n : ℕ) → has_content k ≡ true → n - marks_of (kind_of k) ≡ content_size k n
-unfolding content_size
-content-some k n e = rw e
-
-pub content-by : (k n m : ℕ) (kind : Kind) (h : Shape) → kind ≡ kind_of k → h ≡ shape_of kind → h ≡ Content → m ≡ marks_of kind → n - m ≡ content_size k n
-unfolding has_content is_content
-content-by k n m kind h a b e d = rw (d, a) (content-some k n (rw (← a, ← b, e)))
-
--- values by shape, as the code adds them
-pub grown-steps : (z : Sizes) (x : Shape) (n a : ℕ) → a ≡ shape_length x → record { store = z.store + 1 + a; outline = z.outline + 1 + 16; area = z.area + n } ≡ grown z x n
-unfolding grown shape_length
-grown-steps z x n a e = same (omega arith) (omega arith) (omega arith)
-
-is_empty : Shape → Bool
-is_empty Empty = true
-is_empty Place = false
-is_empty Content = false
-is_empty Count = false
-is_empty Parts = false
-is_empty PartsUncertain = false
-
--- a value's body is not empty
-value-body : (k : ℕ) → is_value_kind k ≡ true → is_empty (shape_of (kind_of k)) ≡ false
-unfolding is_empty kind_of shape_of
-value-body = each-value (λ k. is_empty (shape_of (kind_of k)) ≡ false) refl refl refl refl refl refl refl refl refl
-
--- one with content, and one without
-pub grown-content : (z : Sizes) (k n : ℕ) → shape_of (kind_of k) ≡ Content → grown z Content (n - marks_of (kind_of k)) ≡ added z k n
-unfolding grown added body_length outline_length content_size has_content is_content outline_shape
-grown-content z k n e = rw e
-
-grown-shape : (z : Sizes) (k n : ℕ) (x : Shape) → shape_of (kind_of k) ≡ x → is_content x ≡ false → is_empty x ≡ false → grown z x 0 ≡ added z k n
-unfolding grown added body_length outline_length content_size has_content is_content outline_shape is_empty
-grown-shape z k n Empty e c d = absurd (true≢false d)
-grown-shape z k n Content e c d = absurd (true≢false c)
-grown-shape z k n Place e c d = rw e
-grown-shape z k n Count e c d = rw e
-grown-shape z k n Parts e c d = rw e
-grown-shape z k n PartsUncertain e c d = rw e
-
-pub grown-other : (z : Sizes) (k n : ℕ) → is_value_kind k ≡ true → (x : Shape) → x ≡ shape_of (kind_of k) → is_content x ≡ false → grown z x 0 ≡ added z k n
-grown-other z k n v x e c = grown-shape z k n x (sym e) c (rw e (value-body k v))
+pub added-steps : (z : Sizes) (k n a b d : ℕ) → a ≡ shape_length (shape_of (kind_of k)) → b ≡ min a 16 → d ≡ cond (is_content (shape_of (kind_of k))) (n - marks_of (kind_of k)) 0
+    → record { store = z.store + 1 + a; outline = z.outline + 1 + b; area = z.area + d } ≡ added z k n
+unfolding added body_length outline_length content_size has_content
+added-steps z k n a b d e f g =
+    let o : b ≡ shape_length (outline_shape (shape_of (kind_of k))) = rw (f, e) (outline-least (shape_of (kind_of k))) in
+    same (omega arith) (omega arith) (omega arith)

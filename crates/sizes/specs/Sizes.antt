@@ -1,8 +1,6 @@
 -- The room that records take: in the store, in the outline's store and in the area. Assumes nothing.
 use Rattle.std.specs.Prelude.{ℕ, suc, ◌+◌, ◌-◌, ◌*◌, ◌≤◌, cond, List, [], ◌∷◌}
-use Rattle.kinds.specs.declared.Shape.{Shape}
-use Rattle.kinds.specs.declared.Shape.TheVariants.{Place}
-use Rattle.kinds.specs.Kinds.{kind_of, shape_length, marks_of, body_length, outline_length, has_content}
+use Rattle.kinds.specs.Kinds.{kind_of, marks_of, body_length, outline_length, has_content}
 use Rattle.grammar.specs.Machine.{Rec}
 use Rattle.sizes.specs.declared.Sizes.{Sizes}
 
@@ -36,15 +34,6 @@ added z k n =
       store = z.store + suc (body_length k);
       outline = z.outline + suc (outline_length k);
       area = z.area + content_size k n;
-    }
-
--- one more, of a shape that is not empty, and n bytes of content
-unfoldable pub grown : Sizes → Shape → ℕ → Sizes
-grown z x n =
-    record {
-      store = z.store + suc (shape_length x);
-      outline = z.outline + suc (shape_length Place);
-      area = z.area + n;
     }
 
 unfoldable pub joined : Sizes → Sizes → Sizes

@@ -1,15 +1,16 @@
 // The room that records take: in the store, in the outline and in the area.
 #![tactic(auto)]
 
-ghost use Rattle.std.specs.Prelude.{◌≡◌, true, ◌*◌, ◌≤◌};
-ghost use Rattle.sizes.specs.Sizes.{content_size, no_sizes, grown, added, joined, Upto};
+ghost use Rattle.std.specs.Prelude.{◌≡◌, cond, ◌*◌, ◌-◌, ◌≤◌};
+ghost use Rattle.sizes.specs.Sizes.{added, joined, Upto};
 ghost use Rattle.text.specs.Limits.{limit};
-ghost use Rattle.kinds.specs.Kinds.{kind_of, marks_of, is_value_kind};
+ghost use Rattle.kinds.specs.Kinds.{shape_of, is_content, marks_of};
 
 use kinds::{Kind, Shape};
+use std::ops::{Add, AddAssign};
 
-// The room that records take.
-#[derive(Clone, Copy)]
+// The room that records take; by default, that of no record.
+#[derive(Clone, Copy, Default)]
 pub struct Sizes {
     pub store: usize,
     pub outline: usize,
@@ -17,79 +18,55 @@ pub struct Sizes {
 }
 
 // What a token of a kind and of so many bytes puts into the area: its bytes less the marks, if the kind has content.
-fn content_length(kind: u8, size: usize) -> usize
-    ensures { result ≡ content_size kind size }
+fn content_length(kind: Kind, size: usize) -> usize
+    ensures { result ≡ cond (is_content (shape_of kind)) (size - marks_of kind) 0 }
 {
-    let kind = Kind::of(kind);
-    let shape = kind.shape();
-    let Shape::Content = shape else {
-        return 0;
-    };
-    let marks = kind.marks();
-    if size < marks {
-        return 0;
+    match kind.shape() {
+        Shape::Content => size.saturating_sub(kind.marks()),
+        _ => 0,
     }
-    size - marks
 }
 
 impl Sizes {
-    // Of no record.
-    pub fn none() -> Sizes
-        ensures { result ≡ no_sizes }
-    {
-        Sizes {
-            store: 0,
-            outline: 0,
-            area: 0,
-        }
-    }
-
-    // One record more, of a kind and of a token with so many bytes.
-    pub fn add(self, kind: u8, size: usize) -> Sizes
+    // With one record more, of a kind and of a token with so many bytes. A body begins with its place, and the outline
+    // has no more of it.
+    pub fn with(self, kind: u8, size: usize) -> Sizes
         requires { Upto (limit * limit) self × (size ≤ limit) }
         ensures { result ≡ added self kind size }
     {
+        let kind = Kind::of(kind);
+        let body = kind.shape().length();
         Sizes {
-            store: self.store + 1 + Kind::body_length(kind),
-            outline: self.outline + 1 + Kind::outline_length(kind),
+            store: self.store + 1 + body,
+            outline: self.outline + 1 + body.min(Kind::PLACE),
             area: self.area + content_length(kind, size),
         }
     }
+}
 
-    // One record more, of a shape that is not empty, and so many bytes of content.
-    fn plus(self, shape: Shape, content: usize) -> Sizes
-        requires { Upto (limit * limit) self × (content ≤ limit) }
-        ensures { result ≡ grown self shape content }
-    {
-        Sizes {
-            store: self.store + 1 + shape.length(),
-            outline: self.outline + 1 + Kind::PLACE,
-            area: self.area + content,
-        }
-    }
+// The room of both.
+impl Add for Sizes {
+    type Output = Sizes;
 
-    // One value more: as `add`, by the value's shape, which is not empty.
-    pub fn add_value(self, kind: u8, size: usize) -> Sizes
-        requires { Upto (limit * limit) self × (size ≤ limit) × (is_value_kind kind ≡ true) × (marks_of (kind_of kind) ≤ size) }
-        ensures { result ≡ added self kind size }
-    {
-        let kind = Kind::of(kind);
-        let shape = kind.shape();
-        let Shape::Content = shape else {
-            return self.plus(shape, 0);
-        };
-        self.plus(Shape::Content, size - kind.marks())
-    }
+    ghost can_add = { λ z y. Upto (limit * limit) z × Upto (limit * limit) y };
 
-    // The records of both.
-    pub fn join(self, other: Sizes) -> Sizes
-        requires { Upto (limit * limit) self × Upto (limit * limit) other }
-        ensures { result ≡ joined self other }
-    {
+    ghost add_gives = { λ z y sum. sum ≡ joined z y };
+
+    fn add(self, other: Sizes) -> Sizes {
         Sizes {
             store: self.store + other.store,
             outline: self.outline + other.outline,
             area: self.area + other.area,
         }
+    }
+}
+
+impl AddAssign for Sizes {
+    ghost can_add_assign = { λ z y. Upto (limit * limit) z × Upto (limit * limit) y };
+
+    ghost add_assign_gives = { λ z y sum. sum ≡ joined z y };
+
+    fn add_assign(&mut self, other: Sizes) {
+        *self = *self + other;
     }
 }

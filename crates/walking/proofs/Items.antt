@@ -26,6 +26,7 @@ use Rattle.grammar.specs.Tokens.{in_block, lex_in, after, Tok, tok, tokens_at, h
 use Rattle.grammar.specs.Machine.{Rec, rec, loop_end, lacks_values, last_at}
 use Rattle.grammar.specs.Descent.{name_recs, after_names, value_recs, after_values, Item, taken, failed, absent, broken, is_over, head_tag, head_joined, failed_by, rows, loop_by, loop_valued, loop_item, single, tag_valued, tag_item, item_by, item}
 use Rattle.sizes.specs.Sizes.{store_size, sizes_of}
+use Rattle.std.specs.Prelude.{Ok}
 use Rattle.items.specs.declared.Item.TheVariants.{Absent}
 use Rattle.items.specs.Answers.{item_answer, item_at}
 use Rattle.openings.specs.Openings.{name_end}
@@ -409,7 +410,7 @@ module _ (r : Reading) (full : Bool) (s : List ℕ) (d : Desk) (h : ItemHere r f
 no_other : (r : Reading) (s : List ℕ) (o : ℕ) → gap (drop o s) ≡ 0 → loop_at r s o ≡ false → tag_at r s o ≡ false → is_taken (item_of r s o) ≡ true → ⊥
 no_other r s o g e t x = read (item_of r s o) x (unfold item_at in item-none r s o g e t)
   where
-    read : (i : Item) → is_taken i ≡ true → item_answer i ≡ Absent o → ⊥
+    read : (i : Item) → is_taken i ≡ true → item_answer i ≡ Ok (Absent o) → ⊥
     read (taken true rs rest) x e = let z : ◌≡◌ {A = ℕ} 0 1 = unfold item_answer in cc in omega arith
     read (taken false rs rest) x e = let z : ◌≡◌ {A = ℕ} 0 1 = unfold item_answer in cc in omega arith
     read (failed n a d rest) x e = unfold is_taken in absurd (false≢true x)

@@ -18,8 +18,10 @@ use Rattle.words.proofs.Words.{word_size}
 use Rattle.values.specs.Values.{Class, lexed, block, loop, save, tag, value, over_limit, nothing}
 use Rattle.kinds.specs.declared.Shape.TheVariants.{Content}
 use Rattle.kinds.specs.Kinds.{kind_of, shape_of, marks_of}
+use Rattle.std.specs.Prelude.{Result, Ok, Err}
+use Rattle.grammar.specs.declared.Fault.{Fault}
 use Rattle.items.specs.declared.Item.{Item as Answered}
-use Rattle.items.specs.declared.Item.TheVariants.{Loop, Single, Failed, Absent, Broken}
+use Rattle.items.specs.declared.Item.TheVariants.{Loop, Single, Failed, Absent}
 use Rattle.grammar.specs.Causes.{cause_of, cause_number, cause_detail}
 use Rattle.grammar.specs.Tokens.{before, in_block, in_frame, lex_in, Tok, tok, tokens_at, heading_at, save_at, close_at, data_at}
 use Rattle.grammar.specs.Machine.{Rec, rec, Answer, refused, done, run, follow, move, at_item, fails, closes, is_joined, config, items}
@@ -212,12 +214,12 @@ pub next-stop : (r : Reading) (s : List ℕ) (a o p : ℕ) → o ≤ length s �
 unfolding PassedInside next_of told
 next-stop r s a o p h g d e = by (item_at r s o) (item-inside r s a o h g) e
   where
-    by : (i : Answered) → PassedInside r s a o (in_frame_of i) → next_of i ≡ Stop p → DroppedAt r s a o p
-    by (Loop n z w) x e = absurd (never p (sym e))
-    by (Single n z) x e = absurd (never p (sym e))
-    by (Failed c m q) x e = rw (stop_is q p e) at x
-    by (Absent q) x e = rw (stop_is q p e) at x
-    by (Broken c q) x e = absurd (told-not (left r 0 (some a) s o []) (cause_number c) q (cause_detail c) (x []) d)
+    by : (i : Result Answered Fault) → PassedInside r s a o (in_frame_of i) → next_of i ≡ Stop p → DroppedAt r s a o p
+    by (Ok (Loop n z w)) x e = absurd (never p (sym e))
+    by (Ok (Single n z)) x e = absurd (never p (sym e))
+    by (Ok (Failed c q)) x e = rw (stop_is q p e) at x
+    by (Ok (Absent q)) x e = rw (stop_is q p e) at x
+    by (Err f) x e = absurd (told-not (left r 0 (some a) s o []) (cause_number f.cause) f.at (cause_detail f.cause) (x []) d)
 
 -- Where all is read on and an item is expected, no value stands
 

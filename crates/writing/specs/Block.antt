@@ -1,6 +1,6 @@
 -- From item to item: what must hold before items, headings, a frame and the blocks are written, and what holds
 -- afterwards. Assumes nothing.
-use Rattle.std.specs.Prelude.{ℕ, ◌+◌, ◌≤◌, ◌<◌, ◌≡◌, Bool, true, false, List, [], length, drop}
+use Rattle.std.specs.Prelude.{ℕ, ◌+◌, ◌≤◌, ◌<◌, ◌≡◌, Bool, true, false, List, [], length, drop, Result, Ok, Err}
 use Rattle.std.proofs.Math.Option.{Option, none}
 use Rattle.rules.specs.declared.Reading.{Reading}
 use Rattle.gaps.specs.Gaps.{gap}
@@ -9,7 +9,8 @@ use Rattle.decisions.specs.Onward.{left}
 use Rattle.grammar.specs.Reading.{decided}
 use Rattle.text.specs.Limits.{limit}
 use Rattle.items.specs.declared.Item.{Item as Answered}
-use Rattle.items.specs.declared.Item.TheVariants.{Loop, Single, Failed, Absent, Broken}
+use Rattle.items.specs.declared.Item.TheVariants.{Loop, Single, Failed, Absent}
+use Rattle.grammar.specs.declared.Fault.{Fault}
 use Rattle.sizes.specs.Sizes.{area_size}
 use Rattle.desk.specs.declared.Cursor.{Cursor}
 use Rattle.writing.specs.declared.Next.{Next}
@@ -78,12 +79,12 @@ abbrev pub WroteClose : Bool → List ℕ → ℕ → Cursor → List ℕ → Cu
 WroteClose full s stop c l e m = (a : List ℕ) → WroteBeyond full s 3 stop 5 (desk c l a) (desk e m a)
 
 -- what stands next in a frame: an item that is read, or where the last one stopped
-unfoldable pub next_of : Answered → Next
-next_of (Loop n z w) = Item
-next_of (Single n z) = Item
-next_of (Failed c o p) = Stop p
-next_of (Absent o) = Stop o
-next_of (Broken c o) = Stop o
+unfoldable pub next_of : Result Answered Fault → Next
+next_of (Ok (Loop n z w)) = Item
+next_of (Ok (Single n z)) = Item
+next_of (Ok (Failed e p)) = Stop p
+next_of (Ok (Absent o)) = Stop o
+next_of (Err e) = Stop e.at
 
 -- the records of a text that is read, and what is written of them
 abbrev pub records_of : Reading → List ℕ → List Rec

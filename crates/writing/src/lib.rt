@@ -28,13 +28,14 @@ fn decide_next(reading: Reading, s: &[u8], at: usize) -> Next
     requires { Here s.now at }
     ensures { result ≡ next_of (item_at reading s.now at) }
 {
-    let item = items::parse_data_item(reading, s, at);
-    match item {
-        Item::Loop { .. } => Next::Item,
-        Item::Single { .. } => Next::Item,
-        Item::Failed { stop, .. } => Next::Stop { at: stop },
-        Item::Absent { at: here } => Next::Stop { at: here },
-        Item::Broken { at: here, .. } => Next::Stop { at: here },
+    match items::parse_data_item(reading, s, at) {
+        Ok(item) => match item {
+            Item::Loop { .. } => Next::Item,
+            Item::Single { .. } => Next::Item,
+            Item::Failed { stop, .. } => Next::Stop { at: stop },
+            Item::Absent { at: here } => Next::Stop { at: here },
+        },
+        Err(fault) => Next::Stop { at: fault.at },
     }
 }
 

@@ -7,20 +7,14 @@ use Rattle.closing.specs.Closing.{frame_end}
 use Rattle.sizes.proofs.Room.{upto-more}
 use Rattle.closing.proofs.close_frame.Goals as goal
 
-pub at_close-requires : goal.at_close-requires
-at_close-requires c = c.requires.0.within
-
-pub unclosed-requires : goal.unclosed-requires
-unclosed-requires c = c.requires.0.within
-
 pub returns-then-not-at_close : goal.returns-then-not-at_close
 unfolding frame_end
-returns-then-not-at_close c = c.unclosed.ensures ∙ rw (sym c.at_close.ensures ∙ c.if-not-at_close.true)
+returns-then-not-at_close c = rw (c.unclosed.ensures, sym c.at_close.ensures ∙ c.if-not-at_close.true)
 
-pub add-requires : goal.add-requires
+pub with-requires : goal.with-requires
 unfolding limit
-add-requires c = (upto-more limit (limit * limit) _ c.requires.1 (omega arith), omega arith)
+with-requires c = (upto-more limit (limit * limit) _ c.requires.1 (omega arith), omega arith)
 
 pub returns : goal.returns
 unfolding frame_end
-returns c = rw (c.add.ensures, c.gap_end.ensures, sym c.at_close.ensures ∙ c.if-not-at_close.false)
+returns c = rw (c.with.ensures, c.gap_end.ensures, sym c.at_close.ensures ∙ c.if-not-at_close.false)

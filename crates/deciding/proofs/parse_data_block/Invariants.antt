@@ -4,8 +4,8 @@ use lib.ListN.{length}
 use Rattle.deciding.proofs.Blocks.{Begun}
 use Rattle.deciding.proofs.parse_data_block.Given as goal
 
-abbrev pub invariant-loop-at : goal.invariant-loop-at
-invariant-loop-at l = Begun l.reading l.s l.start l.at l.sizes l.reason
+abbrev pub invariant-loop-step : goal.invariant-loop-step
+invariant-loop-step l = Begun l.reading l.s l.start l.step.next l.sizes l.step.reason
 
-abbrev pub decreases-loop-at : goal.decreases-loop-at
-decreases-loop-at l = length l.s - l.at
+abbrev pub decreases-loop-step : goal.decreases-loop-step
+decreases-loop-step l = length l.s - l.step.next

@@ -4,21 +4,9 @@ use Rattle.decisions.specs.Onward.{Framed}
 use Rattle.decisions.proofs.Onward.{further-stepped, item-stepped}
 use Rattle.deciding.proofs.parse_data_item_or_save_frame.Goals as goal
 
-pub at_save-requires : goal.at_save-requires
-at_save-requires c = c.requires.0.within
-
-pub parse_save_frame-requires : goal.parse_save_frame-requires
-parse_save_frame-requires c = (c.requires.0, sym c.at_save.ensures ∙ c.if-at_save.true)
-
 pub returns-then-at_save : goal.returns-then-at_save
 unfolding Framed
 returns-then-at_save c = c.parse_save_frame.ensures c.args.reason
-
-pub heads_block-requires : goal.heads_block-requires
-heads_block-requires c = c.requires.0.within
-
-pub parse_heading-requires : goal.parse_heading-requires
-parse_heading-requires c = let p = c.requires in record { within = p.0.within; small = p.0.small }
 
 pub returns-then-heads_block : goal.returns-then-heads_block
 unfolding Framed
@@ -26,9 +14,6 @@ returns-then-heads_block c =
     let a = c.args in
     let p = c.requires in
     rw c.parse_heading.ensures (further-stepped a.reading a.s.now a.at p.0.none (sym c.heads_block.ensures ∙ c.if-heads_block.true) a.reason)
-
-pub in_block-requires : goal.in_block-requires
-in_block-requires c = c.requires.0
 
 pub returns : goal.returns
 returns c =

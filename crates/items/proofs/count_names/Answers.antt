@@ -1,13 +1,13 @@
 -- `items::count_names`: the names counted, and those from here on, are those from the start on. Assumes nothing.
-use Prim.Native.Nat.{◌-◌, ◌*◌}
+use Prim.Native.Nat.{◌*◌}
 use native.Mathlib.Omega.{arith}
 use Rattle.text.specs.Limits.{limit}
 use Rattle.items.proofs.Lists.{names-start, names-next, names-all, name-within}
-use Rattle.sizes.proofs.Room.{upto-more}
+use Rattle.sizes.proofs.Room.{default-none, upto-more}
 use Rattle.items.proofs.count_names.Goals as goal
 
 pub loop-at-init : goal.loop-at-init
-loop-at-init c = rw (c.none-sizes.ensures, c.gap_end-at.ensures) (names-start _ _ _ c.requires.within)
+loop-at-init c = rw (default-none c.default-sizes.ensures, c.gap_end-at.ensures) (names-start _ _ _ c.requires.within)
 
 pub name_end-end-requires : goal.name_end-end-requires
 name_end-end-requires c = c.loop-at.invariant.within
@@ -20,9 +20,9 @@ returns-then-end-at c =
 pub overflow_sub-end : goal.overflow_sub-end
 overflow_sub-end c = omega (arith, c.if-end-at.false)
 
-pub add-sizes-requires : goal.add-sizes-requires
+pub with-sizes-requires : goal.with-sizes-requires
 unfolding limit
-add-sizes-requires c =
+with-sizes-requires c =
     let l = c.loop-at in
     let ready = c.requires in (
       upto-more l.at (limit * limit) l.sizes l.invariant.fits (omega (arith, l.invariant.within, ready.small)),
@@ -39,10 +39,10 @@ overflow_add-count c =
 pub loop-at-smaller : goal.loop-at-smaller
 loop-at-smaller c =
     let l = c.loop-at in
-    let n = names-next _ _ _ l.at l.count _ _ l.sizes _ l.last l.invariant c.if-end-at.false c.name_end-end.ensures c.gap_end-at-in-loop-at.ensures c.add-sizes.ensures in
+    let n = names-next _ _ _ l.at l.count _ _ l.sizes _ l.last l.invariant c.if-end-at.false c.name_end-end.ensures c.gap_end-at-in-loop-at.ensures c.with-sizes.ensures in
     omega (arith, n.0, n.1.within)
 
 pub loop-at-preserved : goal.loop-at-preserved
 loop-at-preserved c =
     let l = c.loop-at in
-    (names-next _ _ _ l.at l.count _ _ l.sizes _ l.last l.invariant c.if-end-at.false c.name_end-end.ensures c.gap_end-at-in-loop-at.ensures c.add-sizes.ensures).1
+    (names-next _ _ _ l.at l.count _ _ l.sizes _ l.last l.invariant c.if-end-at.false c.name_end-end.ensures c.gap_end-at-in-loop-at.ensures c.with-sizes.ensures).1

@@ -4,10 +4,9 @@ use Rattle.lines.proofs.Lines.{plain-long, plain-fine}
 use Rattle.judging.proofs.Judgements.{screens-fine, screens-long}
 use Rattle.judging.proofs.decide_plain.Goals as goal
 
-pub returns-then-s-long : goal.returns-then-s-long
-returns-then-s-long c =
-    let fine = plain-fine _ _ c.short_end-long.ensures c.requires.plain c.if-s-long.true in
-    c.lex_cif.ensures ∙ screens-fine _ fine
+pub returns-then-fault-s : goal.returns-then-fault-s
+returns-then-fault-s c =
+    rw c.at-fault.ensures (screens-long _ _ (plain-long _ _ c.short_end.ensures c.requires.plain (rw c.at-fault.ensures at c.if-fault-s.true)))
 
 pub returns : goal.returns
-returns c = screens-long _ _ (plain-long _ _ c.short_end-long.ensures c.requires.plain c.if-s-long.false)
+returns c = c.lex_cif.ensures ∙ screens-fine _ (plain-fine _ _ c.short_end.ensures c.requires.plain (rw c.at-fault.ensures at c.if-fault-s.false))

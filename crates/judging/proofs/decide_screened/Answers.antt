@@ -1,13 +1,13 @@
 -- `judging::decide_screened`: what is found among the bytes, or what the tokens say. Assumes nothing.
 use mathlib.Core.Path.{sym, ◌∙◌}
-use Rattle.judging.proofs.Judgements.{screens-fine, screens-long, screens-control}
+use Rattle.std.proofs.lemmas.Result.{err_from_is_err_and}
+use Rattle.judging.proofs.Judgements.{screens-fine, screens-flawed}
 use Rattle.judging.proofs.decide_screened.Goals as goal
 
-pub returns-in-Fine : goal.returns-in-Fine
-returns-in-Fine c = c.lex_cif.ensures ∙ screens-fine _ (sym c.screen_bytes-screen.ensures ∙ c.in-Fine.is)
+pub returns-in_err-screen_bytes : goal.returns-in_err-screen_bytes
+returns-in_err-screen_bytes c =
+    let e = err_from_is_err_and c.from_residual.result c.from_residual.ensures.1 in
+    rw (e.1, e.2) (screens-flawed _ _ (sym c.screen_bytes.ensures ∙ c.in_err-screen_bytes.was))
 
-pub returns-in-LongLine : goal.returns-in-LongLine
-returns-in-LongLine c = screens-long _ _ (sym c.screen_bytes-screen.ensures ∙ c.in-LongLine.is)
-
-pub returns-in-Control : goal.returns-in-Control
-returns-in-Control c = screens-control _ _ (sym c.screen_bytes-screen.ensures ∙ c.in-Control.is)
+pub returns : goal.returns
+returns c = c.lex_cif.ensures ∙ screens-fine _ (sym c.screen_bytes.ensures ∙ c.in_ok-screen_bytes.was)

@@ -1,5 +1,4 @@
 -- `lines::control_end`: behind the bytes that may stand in a text, byte by byte. Assumes nothing.
-use Prim.Native.Nat.{◌-◌}
 use mathlib.Core.Path.{sym, ◌∙◌}
 use native.Mathlib.Omega.{arith}
 use Rattle.text.proofs.Runs.{span-go, span-stop, span-over}

@@ -1,5 +1,4 @@
 -- `lines::is_printed_block`: whether a byte of another class was met among the first i. Assumes nothing.
-use Prim.Native.Nat.{◌-◌}
 use mathlib.Core.Path.{◌≡◌, sym}
 use native.Mathlib.Omega.{arith}
 use Rattle.text.proofs.Bools.{not-not}

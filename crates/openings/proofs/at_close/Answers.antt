@@ -4,10 +4,10 @@ use Rattle.keywords.specs.Keywords.{key_save}
 use Rattle.openings.proofs.Openings.{close-not, close-here}
 use Rattle.openings.proofs.at_close.Goals as goal
 
-pub returns-then-not-stands_at : goal.returns-then-not-stands_at
+pub returns-then-stands_at : goal.returns-then-stands_at
 unfolding key_save
-returns-then-not-stands_at c = close-not _ _ _ (sym c.stands_at.ensures ∙ c.if-not-stands_at.true)
+returns-then-stands_at c = c.is_parted.ensures ∙ close-here _ _ _ (sym c.stands_at.ensures ∙ c.if-stands_at.true)
 
-pub returns : goal.returns
+pub returns-else-stands_at : goal.returns-else-stands_at
 unfolding key_save
-returns c = c.is_parted.ensures ∙ close-here _ _ _ (sym c.stands_at.ensures ∙ c.if-not-stands_at.false)
+returns-else-stands_at c = c.if-stands_at.false ∙ close-not _ _ _ (sym c.stands_at.ensures ∙ c.if-stands_at.false)

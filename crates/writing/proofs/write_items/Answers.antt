@@ -1,5 +1,4 @@
 -- `writing::write_items`: at each turn what is left to read from the cursor on is what was left, less what is written. Assumes nothing.
-use Prim.Native.Nat.{◌-◌}
 use native.Mathlib.Omega.{arith}
 use Rattle.desk.specs.Desk.{desk}
 use Rattle.writing.proofs.Frames.{block_start, block-next, block-ended}

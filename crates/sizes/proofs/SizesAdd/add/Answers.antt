@@ -1,9 +1,9 @@
--- `items::Sizes::join`: length by length. Assumes nothing.
+-- `sizes::Sizes::add`: length by length. Assumes nothing.
 use mathlib.Core.Path.{refl}
 use native.Mathlib.Omega.{arith}
 use Rattle.text.specs.Limits.{limit}
 use Rattle.sizes.specs.Sizes.{joined}
-use Rattle.sizes.proofs.Sizes.join.Goals as goal
+use Rattle.sizes.proofs.SizesAdd.add.Goals as goal
 
 pub overflow_add-result : goal.overflow_add-result
 unfolding limit
