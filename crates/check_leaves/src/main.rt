@@ -4,16 +4,15 @@
 
 mod leaves;
 
-use harness::{input, lines as vectors, parts};
+use harness::{input, lines as vectors};
 use std::io;
 use std::io::Write;
 
 // What a vector's leaf answers to the text that it has.
 fn run_vector<W: Write>(out: &mut W, leaf: u8, s: &[u8]) -> io::Result<()> {
     let mut buffer = input::buffer();
-    let end = vectors::unfold(s, &mut buffer, 0);
     write!(out, " ->")?;
-    leaves::answer(out, leaf, parts::part(&buffer, 0, end))?;
+    leaves::answer(out, leaf, vectors::text(s, &mut buffer))?;
     writeln!(out)
 }
 

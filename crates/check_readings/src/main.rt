@@ -35,13 +35,12 @@ fn read<W: Write>(
     store_room: usize,
     area_room: usize,
 ) -> io::Result<()> {
-    let mut text = input::buffer();
+    let mut buffer = input::buffer();
     let mut store = [BEFORE; ROOM];
     let mut area = [BEFORE; ROOM];
-    let end = vectors::unfold(s, &mut text, 0);
     let report = reading::read(
         reading,
-        parts::part(&text, 0, end),
+        vectors::text(s, &mut buffer),
         parts::room(&mut store, store_room),
         parts::room(&mut area, area_room),
     )
@@ -59,12 +58,11 @@ fn read<W: Write>(
 
 // Outline of a vector's text, with so much room for the store.
 fn outline<W: Write>(out: &mut W, reading: Reading, s: &[u8], room: usize) -> io::Result<()> {
-    let mut text = input::buffer();
+    let mut buffer = input::buffer();
     let mut store = [BEFORE; ROOM];
-    let end = vectors::unfold(s, &mut text, 0);
     let report = outlining::outline(
         reading,
-        parts::part(&text, 0, end),
+        vectors::text(s, &mut buffer),
         parts::room(&mut store, room),
     )
     .report();

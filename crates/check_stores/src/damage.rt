@@ -102,7 +102,7 @@ fn try_store<W: Write>(
 ) -> io::Result<Tally> {
     let judge = |store: &[u8], by_all: bool| services::judge(reading, Pair { store, area }, by_all);
     let mut tally = Tally::default();
-    let mut at = 0;
+    let mut at = 0; // an offset, since the whole store is judged while a byte of it is changed
     while at < store.len() {
         let end = fields::body_end(store, at + 1, Kind::body_length(store[at]));
         tally = tally.and(try_record(out, store, at, end, &judge)?);

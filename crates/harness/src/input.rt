@@ -9,7 +9,7 @@ use std::io::{Read, Write};
 pub fn read_full<R: Read>(input: &mut R, buffer: &mut [u8]) -> io::Result<usize>
     ensures { IfOk result (λ n. n ≤ length buffer.new) }
 {
-    let mut done = 0;
+    let mut done = 0; // counted by hand: how far a read comes is told by it alone
     while done < buffer.len() {
         let n = input.read(&mut buffer[done..])?;
         if n == 0 {

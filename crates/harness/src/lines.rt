@@ -1,10 +1,14 @@
 // Lines of vectors: the numbers, texts and bytes that they stand for.
-ghost use Rattle.std.specs.Prelude.{◌≡◌, ◌≤◌, ◌<◌, ℕ, drop, length};
+ghost use Rattle.std.specs.Prelude.{◌≡◌, [], ◌∷◌, ◌≤◌, ◌<◌, ℕ, drop, take, length, IfSome};
 
+use crate::parts::part;
 use rules::{Named, Reading};
 
 // The letter that a vector starts with, and its text behind a space; an empty line and one that starts with `#` are none.
-pub fn vector(line: &[u8]) -> Option<(u8, &[u8])> {
+pub fn vector(line: &[u8]) -> Option<(u8, &[u8])>
+    ensures letter { IfSome result (λ v. take 1 line.now ≡ v.0 ∷ []) }
+    ensures text { IfSome result (λ v. v.1.now ≡ drop 2 line.now) }
+{
     match line {
         [] | [b'#', ..] => None,
         [letter] => Some((*letter, &[])),
@@ -82,6 +86,12 @@ pub fn unfold(s: &[u8], out: &mut [u8], from: usize) -> usize {
         rest = after;
     }
     end
+}
+
+// The bytes that a text stands for, as many as there is room for.
+pub fn text<'a>(s: &[u8], out: &'a mut [u8]) -> &'a [u8] {
+    let end = unfold(s, out, 0);
+    part(out, 0, end)
 }
 
 // Puts the bytes that are written by pairs of hexadecimal digits, with spaces between them, from an offset on; answers where they end.

@@ -1,8 +1,12 @@
 // Parts of slices, for callers who need not know that they lie inside.
+ghost use Rattle.std.specs.Prelude.{◌≡◌, ◌≤◌, ◌<◌, length};
+
 use places::Report;
 
 // A part; an empty one where it does not lie inside.
-pub fn part(s: &[u8], from: usize, size: usize) -> &[u8] {
+pub fn part(s: &[u8], from: usize, size: usize) -> &[u8]
+    ensures { length result.now ≤ size }
+{
     s.get(from..)
         .and_then(|rest| rest.get(..size))
         .unwrap_or(&[])
@@ -20,6 +24,9 @@ pub fn is_all(s: &[u8], from: usize, b: u8) -> bool {
 }
 
 // How much of a buffer counts behind a service's answer: so much of it, or nothing, if it is refused.
-pub fn counted(answer: Report, size: usize) -> usize {
+pub fn counted(answer: Report, size: usize) -> usize
+    ensures done { answer.number ≡ 0 → result ≡ size }
+    ensures refused { 0 < answer.number → result ≡ 0 }
+{
     if answer.number == 0 { size } else { 0 }
 }

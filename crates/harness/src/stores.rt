@@ -1,5 +1,5 @@
 // Stores with their areas, and the buffers that they lie in.
-use crate::lines::unfold;
+use crate::lines::text;
 use crate::parts::part;
 use places::Report;
 use rules::Reading;
@@ -52,9 +52,8 @@ impl Buffers {
     }
     // What Read answers to a vector's text, and what it makes of it in both buffers.
     pub fn read(&mut self, reading: Reading, s: &[u8]) -> Report {
-        let mut text = [0u8; ROOM];
-        let end = unfold(s, &mut text, 0);
-        let text = part(&text, 0, end);
+        let mut buffer = [0u8; ROOM];
+        let text = text(s, &mut buffer);
         reading::read(reading, text, &mut self.store, &mut self.area).report()
     }
 }
