@@ -55,29 +55,17 @@ fn build<W: Write>(
     Ok(())
 }
 
-// Whether the store is sound with a line's bytes in it, from an offset on.
-fn judge_store<W: Write>(
+// Whether the store is sound with a change, which its buffers don't keep.
+fn judge_changed<W: Write, F: FnOnce(&mut Buffers)>(
     out: &mut W,
     reading: Reading,
-    bytes: &[u8],
-    from: usize,
     made: &Buffers,
-) -> io::Result<()> {
+    change: F,
+) -> io::Result<()>
+    requires { F.IsAlwaysCallable change }
+{
     let mut changed = *made;
-    vectors::unhex(bytes, &mut changed.store, from);
-    answers::judged(out, reading, changed.pair())
-}
-
-// The same with a line's text in the area.
-fn judge_area<W: Write>(
-    out: &mut W,
-    reading: Reading,
-    text: &[u8],
-    from: usize,
-    made: &Buffers,
-) -> io::Result<()> {
-    let mut changed = *made;
-    vectors::unfold(text, &mut changed.area, from);
+    change(&mut changed);
     answers::judged(out, reading, changed.pair())
 }
 
@@ -104,8 +92,12 @@ fn answer<W: Write>(
     let (number, rest) = vectors::number(s);
     match letter {
         b'j' => answers::judged(out, reading, made.pair()),
-        b'x' => judge_store(out, reading, rest, number, made),
-        b'y' => judge_area(out, reading, rest, number, made),
+        b'x' => judge_changed(out, reading, made, |changed| {
+            vectors::unhex(rest, &mut changed.store, number);
+        }),
+        b'y' => judge_changed(out, reading, made, |changed| {
+            vectors::unfold(rest, &mut changed.area, number);
+        }),
         b'k' => judge_part(out, reading, rest, number, made),
         b'm' => answers::names(out, reading, made.pair()),
         b'c' => answers::content(out, reading, made.pair(), number),

@@ -37,7 +37,7 @@ fn behind_point(fraction: u64, places: u8) -> f64 {
 fn float_ten_to(power: u32) -> f64 {
     let mut square = 10.0;
     let mut product = 1.0;
-    let mut left = power;
+    let mut left = power; // halved by each step, so no range counts it
     while 0 < left {
         if left % 2 == 1 {
             product *= square;
