@@ -1,37 +1,39 @@
 // The records of a store or an outline, one to a line, each field by its bytes.
-use harness::{fields, say};
-use std::io;
+ghost use Rattle.std.specs.Prelude.{length};
+
+use harness::fields;
 use std::io::Write;
+use std::{fmt, io};
 
-fn one_record<W: Write>(out: &mut W, kind: u8, body: &[u8]) -> io::Result<()> {
-    say::kind(out, kind)?;
-    let mut at = 0;
-    while at < body.len() {
-        if fields::starts_field(kind, at) {
-            say::byte(out, b' ')?;
+// A record's kind and body, with a space before each field.
+#[derive(Clone, Copy)]
+struct Shown<'a> {
+    kind: u8,
+    body: &'a [u8],
+}
+
+impl fmt::Display for Shown<'_> {
+    fn fmt<W: fmt::Write>(&self, f: &mut fmt::Formatter<W>) -> fmt::Result {
+        let kind = self.kind;
+        write!(f, "   {kind:02x}")?;
+        for (at, b) in self.body.iter().enumerate() {
+            if fields::starts_field(kind, at) {
+                write!(f, " ")?;
+            }
+            write!(f, "{b:02x}")?;
         }
-        say::hex(out, body[at])?;
-        at += 1;
+        Ok(())
     }
-    say::byte(out, b'\n')
 }
 
-// The bytes of a body, in a store or in an outline.
-fn body_length(kind: u8, is_outline: bool) -> usize {
-    if is_outline {
-        return kinds::Kind::outline_length(kind);
-    }
-    kinds::Kind::body_length(kind)
-}
-
-pub fn records<W: Write>(out: &mut W, s: &[u8], is_outline: bool) -> io::Result<()> {
-    let mut at = 0;
-    while at < s.len() {
-        let kind = s[at];
-        let from = at + 1;
-        let end = fields::body_end(s, from, body_length(kind, is_outline));
-        one_record(out, kind, &s[from..end])?;
-        at = end;
+// The records that bytes have, whose bodies are as long as `length_of` says of their kinds.
+pub fn records<W: Write, F: Fn(u8) -> usize>(out: &mut W, s: &[u8], length_of: F) -> io::Result<()>
+    requires { F.IsAlwaysCallable length_of }
+{
+    let mut rest = s;
+    while let Some((kind, body, behind)) = fields::split_record(rest, &length_of) {
+        writeln!(out, "{}", Shown { kind, body })?;
+        rest = behind;
     }
     Ok(())
 }

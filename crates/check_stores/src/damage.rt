@@ -1,129 +1,96 @@
 // Damage: each byte of a store and of its area takes all 256 values, one at a time, and how many of them leave the store sound is written. The services must agree on each.
-ghost use Rattle.std.specs.Prelude.{◌<◌, ◌≤◌, length};
+ghost use Rattle.std.specs.Prelude.{◌≡◌, ◌<◌, ◌≤◌, length};
 
 use crate::services;
 use crate::services::Judged;
-use harness::{fields, say};
+use harness::fields;
+use harness::stores::Pair;
+use kinds::Kind;
 use rules::Reading;
 use std::io;
 use std::io::Write;
 
 // What came of a number of stores.
-#[derive(Clone, Copy)]
+#[derive(Clone, Copy, Default)]
 struct Tally {
     sound: u32,
     not_sound: u32,
     disagree: u32,
 }
 
-fn tally_of(judged: Judged) -> Tally {
-    match judged {
-        Judged::Sound => Tally {
-            sound: 1,
-            not_sound: 0,
-            disagree: 0,
-        },
-        Judged::NotSound => Tally {
-            sound: 0,
-            not_sound: 1,
-            disagree: 0,
-        },
-        Judged::Disagree => Tally {
-            sound: 0,
-            not_sound: 0,
-            disagree: 1,
-        },
+impl Tally {
+    // With one store more.
+    fn with(self, judged: Judged) -> Tally {
+        match judged {
+            Judged::Sound => Tally {
+                sound: self.sound.wrapping_add(1),
+                ..self
+            },
+            Judged::NotSound => Tally {
+                not_sound: self.not_sound.wrapping_add(1),
+                ..self
+            },
+            Judged::Disagree => Tally {
+                disagree: self.disagree.wrapping_add(1),
+                ..self
+            },
+        }
+    }
+
+    // Of these stores and others.
+    fn and(self, other: Tally) -> Tally {
+        Tally {
+            sound: self.sound.wrapping_add(other.sound),
+            not_sound: self.not_sound.wrapping_add(other.not_sound),
+            disagree: self.disagree.wrapping_add(other.disagree),
+        }
     }
 }
 
-fn nothing() -> Tally {
-    Tally {
-        sound: 0,
-        not_sound: 0,
-        disagree: 0,
-    }
-}
-
-fn sum(a: Tally, b: Tally) -> Tally {
-    Tally {
-        sound: std::num::wrapping_add_u32(a.sound, b.sound),
-        not_sound: std::num::wrapping_add_u32(a.not_sound, b.not_sound),
-        disagree: std::num::wrapping_add_u32(a.disagree, b.disagree),
-    }
-}
-
-fn say_count<W: Write>(out: &mut W, count: u32) -> io::Result<()> {
-    say::number(out, count as u64)
-}
-
-// What is damaged is the store, or the area of another one. The name check and the way back from the rendering are tried at 20 of the values.
-fn judge(reading: Reading, damaged: &[u8], other: &[u8], is_store: bool, value: u8) -> Judged {
-    let by_all = value % 13 == 1;
-    if is_store {
-        return services::judge(reading, damaged, other, by_all);
-    }
-    services::judge(reading, other, damaged, by_all)
-}
-
-// All values of the byte at an offset, which is put back then; how many are sound is written.
-fn try_byte<W: Write>(
+// All values of the byte at an offset, which is put back then; how many are sound is written. `judge` is told what is damaged, and whether to ask the name check and the way
+// back from the rendering too: they are tried at 20 of the values.
+fn try_byte<W: Write, F: Fn(&[u8], bool) -> Judged>(
     out: &mut W,
-    reading: Reading,
     damaged: &mut [u8],
     at: usize,
-    other: &[u8],
-    is_store: bool,
+    judge: F,
 ) -> io::Result<Tally>
-    requires { at < length damaged.old }
+    requires lies_inside { at < length damaged.old }
+    requires judges { F.IsAlwaysCallable judge }
 {
     let before = damaged[at];
-    let mut tally = nothing();
-    let mut value: u8 = 0;
-    let mut left: u32 = 256;
-    while 0 < left {
+    let mut tally = Tally::default();
+    for value in 0..=u8::MAX {
         damaged[at] = value;
-        tally = sum(
-            tally,
-            tally_of(judge(reading, damaged, other, is_store, value)),
-        );
-        value = std::num::wrapping_add_u8(value, 1);
-        left -= 1;
+        tally = tally.with(judge(damaged, value % 13 == 1));
     }
     damaged[at] = before;
-    say_count(out, tally.sound)?;
+    write!(out, " {}", tally.sound)?;
     Ok(tally)
 }
 
-// A mark before the first byte of a field.
-fn say_mark<W: Write>(out: &mut W, kind: u8, at: usize) -> io::Result<()> {
-    if fields::starts_field(kind, at) {
-        say::bytes(out, b" |")?;
-    }
-    Ok(())
-}
-
 // A record, a line: its kind, and the counts of its bytes, field by field.
-fn try_record<W: Write>(
+fn try_record<W: Write, F: Fn(&[u8], bool) -> Judged>(
     out: &mut W,
-    reading: Reading,
     store: &mut [u8],
-    area: &[u8],
     at: usize,
     end: usize,
+    judge: F,
 ) -> io::Result<Tally>
-    requires { (at < end) × (end ≤ length store.old) }
+    requires lies_inside { (at < end) × (end ≤ length store.old) }
+    requires judges { F.IsAlwaysCallable judge }
 {
     let kind = store[at];
-    say::kind(out, kind)?;
-    let mut tally = try_byte(out, reading, store, at, area, true)?;
+    write!(out, "   {kind:02x}")?;
+    let mut tally = try_byte(out, store, at, &judge)?;
     let body = at + 1;
-    let mut i = body;
-    while i < end {
-        say_mark(out, kind, i - body)?;
-        tally = sum(tally, try_byte(out, reading, store, i, area, true)?);
-        i += 1;
+    for i in body..end {
+        if fields::starts_field(kind, i - body) {
+            write!(out, " |")?;
+        }
+        tally = tally.and(try_byte(out, store, i, &judge)?);
     }
-    say::byte(out, b'\n')?;
+    writeln!(out)?;
     Ok(tally)
 }
 
@@ -133,11 +100,12 @@ fn try_store<W: Write>(
     store: &mut [u8],
     area: &[u8],
 ) -> io::Result<Tally> {
-    let mut tally = nothing();
-    let mut at = 0;
+    let judge = |store: &[u8], by_all: bool| services::judge(reading, Pair { store, area }, by_all);
+    let mut tally = Tally::default();
+    let mut at = 0; // an offset, since the whole store is judged while a byte of it is changed
     while at < store.len() {
-        let end = fields::body_end(store, at + 1, kinds::Kind::body_length(store[at]));
-        tally = sum(tally, try_record(out, reading, store, area, at, end)?);
+        let end = fields::body_end(store, at + 1, Kind::body_length(store[at]));
+        tally = tally.and(try_record(out, store, at, end, &judge)?);
         at = end;
     }
     Ok(tally)
@@ -149,23 +117,24 @@ fn try_area<W: Write>(
     area: &mut [u8],
     store: &[u8],
 ) -> io::Result<Tally> {
-    let mut tally = nothing();
-    let mut at = 0;
-    while at < area.len() {
-        tally = sum(tally, try_byte(out, reading, area, at, store, false)?);
-        at += 1;
+    let judge = |area: &[u8], by_all: bool| services::judge(reading, Pair { store, area }, by_all);
+    let mut tally = Tally::default();
+    for at in 0..area.len() {
+        tally = tally.and(try_byte(out, area, at, &judge)?);
     }
     Ok(tally)
 }
 
 fn say_all<W: Write>(out: &mut W, all: Tally) -> io::Result<()> {
-    say::bytes(out, b"   sound")?;
-    say_count(out, all.sound)?;
-    say::bytes(out, b", not sound")?;
-    say_count(out, all.not_sound)?;
-    say::bytes(out, b", disagreed on")?;
-    say_count(out, all.disagree)?;
-    say::byte(out, b'\n')
+    let Tally {
+        sound,
+        not_sound,
+        disagree,
+    } = all;
+    writeln!(
+        out,
+        "   sound {sound}, not sound {not_sound}, disagreed on {disagree}"
+    )
 }
 
 pub fn run<W: Write>(
@@ -175,8 +144,8 @@ pub fn run<W: Write>(
     area: &mut [u8],
 ) -> io::Result<()> {
     let stores = try_store(out, reading, store, area)?;
-    say::bytes(out, b"   area")?;
+    write!(out, "   area")?;
     let areas = try_area(out, reading, area, store)?;
-    say::byte(out, b'\n')?;
-    say_all(out, sum(stores, areas))
+    writeln!(out)?;
+    say_all(out, stores.and(areas))
 }

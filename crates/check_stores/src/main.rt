@@ -13,140 +13,60 @@ mod answers;
 mod damage;
 mod services;
 
-use harness::parts::{least, part};
-use harness::{input, lines as vectors, say};
-use rules::{Named, Reading};
+use harness::parts::room;
+use harness::say::Answer;
+use harness::stores::{Buffers, Lengths};
+use harness::{input, lines as vectors};
+use rules::Reading;
 use std::io;
 use std::io::Write;
 
-// The bytes of the store's and of the area's buffer.
-pub const ROOM: usize = 4096;
-
-// How much of them there is.
-#[derive(Clone, Copy)]
-struct Lengths {
-    store: usize,
-    area: usize,
-}
-
 // The store and the area that Read makes of a text.
-fn read<W: Write>(
-    out: &mut W,
-    reading: Reading,
-    s: &[u8],
-    store: &mut [u8; ROOM],
-    area: &mut [u8; ROOM],
-) -> io::Result<Lengths> {
-    let mut buffer = [0u8; ROOM];
-    let end = vectors::unfold(s, &mut buffer, 0);
-    let read = reading::read(reading, part(&buffer, 0, end), store, area).report();
-    say::arrow(out)?;
-    say::report(out, read)?;
-    Ok(Lengths {
+fn read<W: Write>(out: &mut W, reading: Reading, s: &[u8], made: &mut Buffers) -> io::Result<()> {
+    let read = made.read(reading, s);
+    made.have = Lengths {
         store: read.first,
         area: read.second,
-    })
+    };
+    write!(out, " ->{}", Answer(read))
 }
 
-// The reading that a number names, or else the one before.
-fn named(number: usize, before: Reading) -> Reading {
-    match Reading::of(number as u64) {
-        Named::Known { reading } => reading,
-        Named::Unknown => before,
-    }
-}
-
-// The reading behind a line, which names one or leaves it.
-fn reading_behind(s: &[u8], before: Reading) -> Reading {
-    let from = vectors::text_start(s);
-    if from == 0 {
-        return before;
-    }
-    if s[0] != b'g' {
-        return before;
-    }
-    let asked = vectors::number(s, from);
-    named(asked.number, before)
-}
-
-// The store and the area behind a line that builds them.
+// A line that builds the store and the area; any other leaves them.
 fn build<W: Write>(
     out: &mut W,
     letter: u8,
     reading: Reading,
     s: &[u8],
-    store: &mut [u8; ROOM],
-    area: &mut [u8; ROOM],
-    have: Lengths,
-) -> io::Result<Lengths> {
+    made: &mut Buffers,
+) -> io::Result<()> {
     match letter {
-        b'n' => Ok(Lengths { store: 0, area: 0 }),
-        b's' => Ok(Lengths {
-            store: vectors::unhex(s, store, have.store),
-            area: have.area,
-        }),
-        b'a' => Ok(Lengths {
-            store: have.store,
-            area: vectors::unfold(s, area, have.area),
-        }),
-        b't' => read(out, reading, s, store, area),
-        _ => Ok(have),
+        b'n' => made.have = Lengths::default(),
+        b's' => {
+            let end = made.have.store;
+            made.have.store = vectors::unhex(s, &mut made.store, end);
+        }
+        b'a' => {
+            let end = made.have.area;
+            made.have.area = vectors::unfold(s, &mut made.area, end);
+        }
+        b't' => return read(out, reading, s, made),
+        _ => (),
     }
+    Ok(())
 }
 
-fn judge_all<W: Write>(
+// Whether the store is sound with a change, which its buffers don't keep.
+fn judge_changed<W: Write, F: FnOnce(&mut Buffers)>(
     out: &mut W,
     reading: Reading,
-    store: &[u8; ROOM],
-    area: &[u8; ROOM],
-    have: Lengths,
-) -> io::Result<()> {
-    answers::judged(
-        out,
-        reading,
-        part(store, 0, have.store),
-        part(area, 0, have.area),
-    )
-}
-
-// Puts a line's bytes into a store, from the offset on that stands before them.
-fn put_bytes(s: &[u8], store: &mut [u8; ROOM]) {
-    let offset = vectors::number(s, 0);
-    let from = offset.next;
-    vectors::unhex(&s[from..], store, offset.number);
-}
-
-fn put_text(s: &[u8], area: &mut [u8; ROOM]) {
-    let offset = vectors::number(s, 0);
-    let from = offset.next;
-    vectors::unfold(&s[from..], area, offset.number);
-}
-
-// Whether the store is sound with some of its bytes replaced.
-fn judge_store<W: Write>(
-    out: &mut W,
-    reading: Reading,
-    s: &[u8],
-    store: &[u8; ROOM],
-    area: &[u8; ROOM],
-    have: Lengths,
-) -> io::Result<()> {
-    let mut changed = *store;
-    put_bytes(s, &mut changed);
-    judge_all(out, reading, &changed, area, have)
-}
-
-fn judge_area<W: Write>(
-    out: &mut W,
-    reading: Reading,
-    s: &[u8],
-    store: &[u8; ROOM],
-    area: &[u8; ROOM],
-    have: Lengths,
-) -> io::Result<()> {
-    let mut changed = *area;
-    put_text(s, &mut changed);
-    judge_all(out, reading, store, &changed, have)
+    made: &Buffers,
+    change: F,
+) -> io::Result<()>
+    requires { F.IsAlwaysCallable change }
+{
+    let mut changed = *made;
+    change(&mut changed);
+    answers::judged(out, reading, changed.pair())
 }
 
 // Whether so much of the store and of the area is sound.
@@ -154,91 +74,47 @@ fn judge_part<W: Write>(
     out: &mut W,
     reading: Reading,
     s: &[u8],
-    store: &[u8; ROOM],
-    area: &[u8; ROOM],
+    store: usize,
+    made: &Buffers,
 ) -> io::Result<()> {
-    let stores = vectors::number(s, 0);
-    let areas = vectors::number(s, stores.next);
-    let some = Lengths {
-        store: stores.number,
-        area: areas.number,
-    };
-    judge_all(out, reading, store, area, some)
+    let (area, _) = vectors::number(s);
+    answers::judged(out, reading, made.first(Lengths { store, area }))
 }
 
-fn judge<W: Write>(
-    out: &mut W,
-    letter: u8,
-    reading: Reading,
-    s: &[u8],
-    store: &[u8; ROOM],
-    area: &[u8; ROOM],
-    have: Lengths,
-) -> io::Result<()> {
-    match letter {
-        b'j' => judge_all(out, reading, store, area, have),
-        b'x' => judge_store(out, reading, s, store, area, have),
-        b'y' => judge_area(out, reading, s, store, area, have),
-        b'k' => judge_part(out, reading, s, store, area),
-        _ => Ok(()),
-    }
-}
-
-fn ask<W: Write>(
-    out: &mut W,
-    letter: u8,
-    reading: Reading,
-    s: &[u8],
-    store: &[u8],
-    area: &[u8],
-) -> io::Result<()> {
-    let asked = vectors::number(s, 0);
-    let number = asked.number;
-    match letter {
-        b'm' => answers::names(out, reading, store, area),
-        b'c' => answers::content(out, reading, store, area, number),
-        b'r' => answers::rendered(out, reading, store, area, number),
-        b'w' => answers::walked(out, store, area, number),
-        _ => Ok(()),
-    }
-}
-
-fn damage_all<W: Write>(
-    out: &mut W,
-    letter: u8,
-    reading: Reading,
-    store: &mut [u8],
-    area: &mut [u8],
-    have: Lengths,
-) -> io::Result<()> {
-    if letter != b'd' {
-        return Ok(());
-    }
-    let stores = least(have.store, store.len());
-    let areas = least(have.area, area.len());
-    damage::run(out, reading, &mut store[..stores], &mut area[..areas])
-}
-
-// What a line asks for: whether the store is sound, or another answer.
+// What a line asks for; most start with a number.
 fn answer<W: Write>(
     out: &mut W,
     letter: u8,
     reading: Reading,
     s: &[u8],
-    store: &[u8; ROOM],
-    area: &[u8; ROOM],
-    have: Lengths,
+    made: &Buffers,
 ) -> io::Result<()> {
-    judge(out, letter, reading, s, store, area, have)?;
-    ask(
+    let (number, rest) = vectors::number(s);
+    match letter {
+        b'j' => answers::judged(out, reading, made.pair()),
+        b'x' => judge_changed(out, reading, made, |changed| {
+            vectors::unhex(rest, &mut changed.store, number);
+        }),
+        b'y' => judge_changed(out, reading, made, |changed| {
+            vectors::unfold(rest, &mut changed.area, number);
+        }),
+        b'k' => judge_part(out, reading, rest, number, made),
+        b'm' => answers::names(out, reading, made.pair()),
+        b'c' => answers::content(out, reading, made.pair(), number),
+        b'r' => answers::rendered(out, reading, made.pair(), number),
+        b'w' => answers::walked(out, made.pair(), number),
+        _ => Ok(()),
+    }
+}
+
+fn damage_all<W: Write>(out: &mut W, reading: Reading, made: &mut Buffers) -> io::Result<()> {
+    let have = made.have;
+    damage::run(
         out,
-        letter,
         reading,
-        s,
-        part(store, 0, have.store),
-        part(area, 0, have.area),
-    )?;
-    say::byte(out, b'\n')
+        room(&mut made.store, have.store),
+        room(&mut made.area, have.area),
+    )
 }
 
 fn run_vector<W: Write>(
@@ -246,51 +122,24 @@ fn run_vector<W: Write>(
     letter: u8,
     reading: Reading,
     s: &[u8],
-    store: &mut [u8; ROOM],
-    area: &mut [u8; ROOM],
-    have: Lengths,
-) -> io::Result<Lengths> {
-    let then = build(out, letter, reading, s, store, area, have)?;
-    answer(out, letter, reading, s, store, area, then)?;
-    damage_all(out, letter, reading, store, area, then)?;
-    Ok(then)
-}
-
-fn run_line<W: Write>(
-    out: &mut W,
-    reading: Reading,
-    s: &[u8],
-    store: &mut [u8; ROOM],
-    area: &mut [u8; ROOM],
-    have: Lengths,
-) -> io::Result<Lengths> {
-    say::bytes(out, s)?;
-    let from = vectors::text_start(s);
-    if from == 0 {
-        say::byte(out, b'\n')?;
-        return Ok(have);
+    made: &mut Buffers,
+) -> io::Result<()> {
+    build(out, letter, reading, s, made)?;
+    answer(out, letter, reading, s, made)?;
+    writeln!(out)?;
+    match letter {
+        b'd' => damage_all(out, reading, made),
+        _ => Ok(()),
     }
-    run_vector(out, s[0], reading, &s[from..], store, area, have)
-}
-
-fn run<W: Write>(out: &mut W, s: &[u8]) -> io::Result<()> {
-    let mut store = [0u8; ROOM];
-    let mut area = [0u8; ROOM];
-    let mut have = Lengths { store: 0, area: 0 };
-    let mut reading = Reading::First;
-    let mut at = 0;
-    while at < s.len() {
-        let end = vectors::line_end(s, at);
-        let line = &s[at..end];
-        reading = reading_behind(line, reading);
-        have = run_line(out, reading, line, &mut store, &mut area, have)?;
-        at = end + 1;
-    }
-    Ok(())
 }
 
 fn main(rt: HostRuntime) -> io::Result<()> {
-    let mut input = input::large_buffer();
-    let n = input::read_full(&mut rt.stdin(), &mut input)?;
-    run(&mut rt.stdout(), &input[..n])
+    let mut made = Buffers::empty();
+    let mut reading = Reading::First;
+    input::each_vector(&mut rt.stdin(), &mut rt.stdout(), |out, letter, s| {
+        if letter == b'g' {
+            reading = vectors::reading(s, reading);
+        }
+        run_vector(out, letter, reading, s, &mut made)
+    })
 }

@@ -1,4 +1,4 @@
-// What the programs that check the services share: lines of vectors, parts of slices, fields of records, what is read from standard input and what is written to standard output. None of it is a service.
+// What the programs that check the services share: lines of vectors, parts of slices, records and their fields, stores with their areas, what is read from standard input and how values are written to standard output. None of it is a service.
 #![tactic(auto)]
 
 pub mod fields;
@@ -6,3 +6,4 @@ pub mod input;
 pub mod lines;
 pub mod parts;
 pub mod say;
+pub mod stores;

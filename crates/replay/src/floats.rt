@@ -7,22 +7,17 @@ const NAN: u64 = 9221120237041090560;
 // 10 to a power, as far as it fits.
 fn ten_to(power: u8) -> u64 {
     let mut product: u64 = 1;
-    let mut left = power;
-    while 0 < left {
+    for _ in 0..power {
         if product <= 1000000000000000000 {
             product *= 10;
         }
-        left -= 1;
     }
     product
 }
 
 // A digit by its unit.
 fn digit(fraction: u64, unit: u64) -> u64 {
-    if unit == 0 {
-        return 0;
-    }
-    fraction / unit % 10
+    fraction.checked_div(unit).unwrap_or(0) % 10
 }
 
 // Each digit behind the point is divided by its own power of ten, and they are added from the left.
@@ -30,12 +25,10 @@ fn behind_point(fraction: u64, places: u8) -> f64 {
     let mut unit = ten_to(places);
     let mut power = 1.0;
     let mut sum = 0.0;
-    let mut left = places;
-    while 0 < left {
-        unit = unit / 10;
-        power = power * 10.0;
-        sum = sum + std::num::nearest_u64_to_f64(digit(fraction, unit)) / power;
-        left -= 1;
+    for _ in 0..places {
+        unit /= 10;
+        power *= 10.0;
+        sum += std::num::nearest_u64_to_f64(digit(fraction, unit)) / power;
     }
     sum
 }
@@ -44,13 +37,13 @@ fn behind_point(fraction: u64, places: u8) -> f64 {
 fn float_ten_to(power: u32) -> f64 {
     let mut square = 10.0;
     let mut product = 1.0;
-    let mut left = power;
+    let mut left = power; // halved by each step, so no range counts it
     while 0 < left {
         if left % 2 == 1 {
-            product = product * square;
+            product *= square;
         }
-        square = square * square;
-        left = left / 2;
+        square *= square;
+        left /= 2;
     }
     product
 }
@@ -58,21 +51,19 @@ fn float_ten_to(power: u32) -> f64 {
 // Times 10 to an exponent that is kept in two's complement.
 fn scaled(number: f64, exponent: u32) -> f64 {
     if exponent < 2147483648 {
-        return number * float_ten_to(exponent);
+        number * float_ten_to(exponent)
+    } else {
+        number * (1.0 / float_ten_to(exponent.wrapping_neg()))
     }
-    number * (1.0 / float_ten_to(4294967295 - exponent + 1))
 }
 
 fn signed(number: f64, sign: u8) -> f64 {
-    if sign == 1 {
-        return -number;
-    }
-    number
+    if sign == 1 { -number } else { number }
 }
 
 fn rebuilt(parts: Parts) -> f64 {
     let fraction = behind_point(parts.fraction, parts.places);
-    let whole = std::num::nearest_u64_to_f64(parts.integer as u64) + fraction;
+    let whole = std::num::nearest_u64_to_f64(u64::from(parts.integer)) + fraction;
     scaled(signed(whole, parts.sign), parts.exponent)
 }
 

@@ -1,97 +1,60 @@
-// The fixed list of the source's answers; the README of compare-with-source has its bytes. Nothing here asks that a list is whole: bytes that lie outside count as 0.
-ghost use Rattle.std.specs.Prelude.{◌≤◌};
+// The fixed list of the source's answers; the README of compare-with-source has its bytes.
+ghost use Rattle.std.specs.Prelude.{◌+◌, ◌≤◌, length, IfSome};
 
-use harness::parts::part;
+// The bytes that an entry starts with.
+const HEAD: usize = 16;
 
-// The bytes before the first entry, and an entry's own before its text.
-pub const HEAD: usize = 16;
-
-fn wide(b: u8) -> u32
-    ensures { result ≤ 255 }
-{
-    b as u32
+// An entry: a text, the source's answer to it, what the source leaves of it in records of five bytes and an area, and the numbers among the records, of eight bytes each.
+#[derive(Clone, Copy)]
+pub struct Entry<'a> {
+    pub text: &'a [u8],
+    pub number: usize,
+    pub line: usize,
+    pub column: usize,
+    pub detail: usize,
+    pub records: &'a [u8],
+    pub area: &'a [u8],
+    pub numbers: &'a [u8],
 }
 
-fn byte_at(s: &[u8], at: usize) -> u32
-    ensures { result ≤ 255 }
-{
-    if at < s.len() {
-        return wide(s[at]);
-    }
-    0
-}
-
-// The number that four bytes give, the lowest first.
-pub fn word_at(s: &[u8], at: usize) -> u32 {
-    if s.len() < at {
-        return 0;
-    }
-    if s.len() - at < 4 {
-        return 0;
-    }
-    let low = byte_at(s, at) + byte_at(s, at + 1) * 256;
-    low + byte_at(s, at + 2) * 65536 + byte_at(s, at + 3) * 16777216
-}
-
-// The number that eight bytes give.
-pub fn long_at(s: &[u8], at: usize) -> u64 {
-    if s.len() < at {
-        return 0;
-    }
-    if s.len() - at < 8 {
-        return 0;
-    }
-    word_at(s, at) as u64 + word_at(s, at + 4) as u64 * 4294967296
-}
-
-// Whether a list is one of the length that it says.
-pub fn is_list(s: &[u8]) -> bool {
-    if s.len() < HEAD {
-        return false;
-    }
-    if !check::same(part(s, 0, 8), b"cifreads") {
-        return false;
-    }
-    word_at(s, 12) as usize == s.len() - HEAD
-}
-
-// One of an entry's eight numbers, of two bytes each.
-pub fn field(entry: &[u8], number: usize) -> usize
+// One of the eight numbers that an entry starts with, of two bytes each.
+fn field(head: &[u8; HEAD], number: usize) -> usize
     requires { number ≤ 7 }
     ensures { result ≤ 65535 }
 {
-    let at = number * 2;
-    (byte_at(entry, at) + byte_at(entry, at + 1) * 256) as usize
+    usize::from(u16::from_le_bytes([head[2 * number], head[2 * number + 1]]))
 }
 
-// How many bytes the entry takes that a slice starts with.
-pub fn entry_size(rest: &[u8]) -> usize
-    ensures { 16 ≤ result }
-{
-    HEAD + field(rest, 0) + field(rest, 5) * 5 + field(rest, 6) + field(rest, 7) * 8
+impl<'a> Entry<'a> {
+    // The entry that bytes start with, and what stands behind it; none where it is cut off.
+    pub fn split(s: &'a [u8]) -> Option<(Entry<'a>, &'a [u8])>
+        ensures { IfSome result (λ r. length r.1.now + 16 ≤ length s.now) }
+    {
+        let (head, rest) = s.split_first_chunk::<HEAD>()?;
+        let (text, rest) = rest.split_at_checked(field(head, 0))?;
+        let (records, rest) = rest.split_at_checked(field(head, 5) * 5)?;
+        let (area, rest) = rest.split_at_checked(field(head, 6))?;
+        let (numbers, rest) = rest.split_at_checked(field(head, 7) * 8)?;
+        let entry = Entry {
+            text,
+            number: field(head, 1),
+            line: field(head, 2),
+            column: field(head, 3),
+            detail: field(head, 4),
+            records,
+            area,
+            numbers,
+        };
+        Some((entry, rest))
+    }
 }
 
-// An entry's four runs of bytes: the text, five for each record, the area, and eight for each number.
-pub fn text_of(entry: &[u8]) -> &[u8] {
-    part(entry, HEAD, field(entry, 0))
-}
-
-pub fn records_of(entry: &[u8]) -> &[u8] {
-    part(entry, HEAD + field(entry, 0), field(entry, 5) * 5)
-}
-
-pub fn area_of(entry: &[u8]) -> &[u8] {
-    part(
-        entry,
-        HEAD + field(entry, 0) + field(entry, 5) * 5,
-        field(entry, 6),
-    )
-}
-
-pub fn numbers_of(entry: &[u8]) -> &[u8] {
-    part(
-        entry,
-        HEAD + field(entry, 0) + field(entry, 5) * 5 + field(entry, 6),
-        field(entry, 7) * 8,
-    )
+// The entries of a list, and how many it says that they are; none where it isn't as long as it says.
+pub fn entries(list: &[u8]) -> Option<(u32, &[u8])> {
+    let (told, rest) = list.strip_prefix(b"cifreads")?.split_first_chunk::<4>()?;
+    let (size, entries) = rest.split_first_chunk::<4>()?;
+    if u32::from_le_bytes(*size) as usize != entries.len() {
+        return None;
+    }
+    Some((u32::from_le_bytes(*told), entries))
 }

@@ -14,7 +14,7 @@ few : (w : List ℕ) (d : Decimal) → number_of First w ≡ Is d → d.places <
 few w d e = omega (arith, (number-facts First w d e).places)
 
 pub write_uncertain-requires : goal.write_uncertain-requires
-write_uncertain-requires g c = (omega arith, few _ _ (sym c.parse_numeric-n.ensures ∙ c.in-Is.is))
+write_uncertain-requires g c = (omega arith, few _ _ (sym c.parse_numeric.ensures ∙ c.in-Is.is))
 
 pub write_number-requires : goal.write_number-requires
-write_number-requires g c = (omega arith, few _ _ (sym c.parse_numeric-n.ensures ∙ c.in-Is.is))
+write_number-requires g c = (omega arith, few _ _ (sym c.parse_numeric.ensures ∙ c.in-Is.is))

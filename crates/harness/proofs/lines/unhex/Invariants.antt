@@ -1,9 +1,6 @@
--- `harness::lines::unhex`: each step stays within the line, and what is written keeps its length. Assumes nothing.
-use Rattle.std.proofs.Common.{◌≡◌, ◌-◌, ◌≤◌, length}
+-- `harness::lines::unhex`: each step leaves less of the text. Assumes nothing.
+use Rattle.std.proofs.Common.{length}
 use Rattle.harness.proofs.lines.unhex.Given as goal
 
-abbrev pub invariant-loop-at : goal.invariant-loop-at
-invariant-loop-at l = (l.at ≤ length l.s) × (length l.out ≡ length l.initial.out)
-
-abbrev pub decreases-loop-at : goal.decreases-loop-at
-decreases-loop-at l = length l.s - l.at
+abbrev pub decreases-loop-rest : goal.decreases-loop-rest
+decreases-loop-rest l = length l.rest

@@ -1,5 +1,0 @@
--- `replay::floats::ten_to`: nothing but that it ends. Assumes nothing.
-use Rattle.replay.proofs.floats.ten_to.Given as goal
-
-abbrev pub decreases-loop-left : goal.decreases-loop-left
-decreases-loop-left l = l.left
