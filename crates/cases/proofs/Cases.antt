@@ -7,8 +7,6 @@ use native.Mathlib.Omega.{arith}
 use borrow.Author.Tests.{eqb-false, leb-true}
 use lib.Dec.{leb}
 use lib.ListN.{drop}
-use Rattle.text.specs.Parts.{part}
-use Rattle.text.proofs.Parts.{part_none, part-cons}
 use Rattle.kinds.specs.declared.Kind.{Kind}
 use Rattle.kinds.specs.declared.Kind.TheVariants.{Bare, SingleQuoted, DoubleQuoted, Multiline, Quoted}
 use Rattle.kinds.specs.Kinds.{number_of}
@@ -17,13 +15,10 @@ use Rattle.entries.specs.declared.Fields.{Fields}
 use Rattle.entries.specs.declared.Entry.{Entry}
 use Rattle.entries.specs.Entries.{whole}
 use Rattle.amounts.specs.Exact.{Kept}
-use Rattle.names.specs.declared.Named.{Named}
-use Rattle.names.specs.Parts.{Inside}
 use Rattle.steps.specs.Steps.{held_by}
 use Rattle.number_cases.specs.declared.Case.TheVariants.{Same, Different}
 use Rattle.number_cases.specs.Numbers.{numbers_case}
 use Rattle.cases.specs.Cases.{is_number, is_text, unmarked, agree, others_case, case_of, Orderly}
-use Rattle.cases.specs.Texts.{Unmarks}
 use Rattle.std.specs.Prelude.{Option, None}
 
 -- any other kind is no text
@@ -45,28 +40,6 @@ other-text k a b c d e =
         let low = leb-true 10 n p in
         let high = leb-true n 13 q in
         absurd (omega arith)
-
--- a text without marks
-pub unmarked-other : (ar : List ℕ) (k : Kind) (x : Named) → Inside ar x → (k ≡ Quoted → ⊥) → Unmarks ar (number_of k) x x
-unfolding unmarked
-unmarked-other ar k x i d = record { bytes = rw (other-number k Quoted d); inside = i }
-
-pub unmarked-none : (ar : List ℕ) (k : Kind) (x : Named) → Inside ar x → k ≡ Quoted → x.size ≡ 0 → Unmarks ar (number_of k) x x
-unfolding unmarked
-unmarked-none ar k x i e z = record { bytes = rw (e, z, part_none ar x.from); inside = i }
-
-pub unmarked-quoted :
-    (ar : List ℕ) (k : Kind) (x : Named) → Inside ar x → k ≡ Quoted → (x.size ≡ 0 → ⊥) →
-    Unmarks ar (number_of k) x (record { at = x.at; number = x.number; scope = x.scope; from = x.from + 1; size = x.size - 1 })
-unfolding unmarked
-unmarked-quoted ar k x i e z =
-    let a : x.from + 1 ≡ suc x.from = omega arith in
-    let b : x.size ≡ suc (x.size - 1) = omega arith in
-    let c : part ar x.from x.size ≡ part ar x.from (suc (x.size - 1)) = ap (part ar x.from) b in
-    record {
-      bytes = rw (e, a) (sym (ap (drop 1) (c ∙ part-cons ar x.from (x.size - 1) (omega arith))));
-      inside = omega arith;
-    }
 
 -- the parts of a number
 pub orderly-parts : (e : Option Entry) (k : Kind) (f : Fields) (n : ℕ) → e ≡ whole k f n → Orderly e → is_number (number_of k) ≡ true → Kept f.parts
@@ -94,7 +67,7 @@ module _ (ar ar' : List ℕ) (e e' : Option Entry) where
       case-texts t = rw (q, p, t)
 
       pub case-others :
-          (is_number (number_of k) && is_number (number_of j)) ≡ false → (x y : Named) → part ar x.from x.size ≡ held_by ar e → part ar' y.from y.size ≡ held_by ar' e' → (v : Bool) →
-          v ≡ agree (number_of k) (number_of j) (part ar x.from x.size) (part ar' y.from y.size) → cond v Same Different ≡ case_of ar ar' e e'
+          (is_number (number_of k) && is_number (number_of j)) ≡ false → (x y : List ℕ) → x ≡ held_by ar e → y ≡ held_by ar' e' → (v : Bool) →
+          v ≡ agree (number_of k) (number_of j) x y → cond v Same Different ≡ case_of ar ar' e e'
       unfolding others_case
       case-others t x y a b v w = sym (case-texts t ∙ rw (← a, ← b, w))

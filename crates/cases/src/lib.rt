@@ -2,16 +2,12 @@
 #![tactic(auto)]
 
 ghost use Rattle.std.specs.Prelude.{◌≡◌, ◌&&◌};
-ghost use Rattle.text.specs.Parts.{part};
 ghost use Rattle.kinds.specs.Kinds.{number_of};
 ghost use Rattle.entries.specs.Entries.{entry_at};
-ghost use Rattle.names.specs.Parts.{Inside};
-ghost use Rattle.cases.specs.Cases.{is_number, is_text, agree, case_of, Orderly};
-ghost use Rattle.cases.specs.Texts.{Unmarks};
+ghost use Rattle.cases.specs.Cases.{is_number, is_text, unmarked, agree, case_of, Orderly};
 
 use cells::Side;
 use kinds::Kind;
-use names::Named;
 use number_cases::Case;
 
 // Numbers, with or without uncertainty.
@@ -45,33 +41,22 @@ fn are_texts(kind: Kind, kind2: Kind) -> bool
     is_text(kind) && is_text(kind2)
 }
 
-// The part of a text without marks.
-fn text_of(area: &[u8], kind: Kind, x: Named) -> Named
-    requires { Inside area.now x }
-    ensures { Unmarks area.now (number_of kind) x result }
+// A text without marks.
+fn text_of(kind: Kind, x: &[u8]) -> &[u8]
+    ensures { result.now ≡ unmarked (number_of kind) x.now }
 {
-    let Kind::Quoted = kind else {
-        return x;
-    };
-    if x.size == 0 {
-        return x;
-    }
-    Named {
-        from: x.from + Kind::QUOTE_OPENING,
-        size: x.size - Kind::QUOTE_OPENING,
-        ..x
+    match kind {
+        Kind::Quoted => x.get(Kind::QUOTE_OPENING..).unwrap_or(&[]),
+        _ => x,
     }
 }
 
 // Whether two values that are not both numbers are the same.
-fn do_agree(area: &[u8], kind: Kind, x: Named, area2: &[u8], kind2: Kind, y: Named) -> bool
-    requires { Inside area.now x × Inside area2.now y }
-    ensures { result ≡ agree (number_of kind) (number_of kind2) (part area.now x.from x.size) (part area2.now y.from y.size) }
+fn do_agree(kind: Kind, x: &[u8], kind2: Kind, y: &[u8]) -> bool
+    ensures { result ≡ agree (number_of kind) (number_of kind2) x.now y.now }
 {
     if are_texts(kind, kind2) {
-        let a = text_of(area, kind, x);
-        let b = text_of(area2, kind2, y);
-        equal::same_bytes(area, a.from, a.size, area2, b.from, b.size)
+        equal::same_bytes(text_of(kind, x), text_of(kind2, y))
     } else {
         kind.number() == kind2.number()
     }
@@ -92,9 +77,9 @@ pub fn case_of(here: Side<'_>, at: usize, there: Side<'_>, at2: usize) -> Case
         let (k, j) = (old.kind.number(), new.kind.number());
         return number_cases::numbers_case(k, j, old.fields.parts, new.fields.parts);
     }
-    let x = steps::name_at(here.store, here.area, at);
-    let y = steps::name_at(there.store, there.area, at2);
-    if do_agree(here.area, old.kind, x, there.area, new.kind, y) {
+    let x = steps::bytes_at(here.store, here.area, at);
+    let y = steps::bytes_at(there.store, there.area, at2);
+    if do_agree(old.kind, x, new.kind, y) {
         Case::Same
     } else {
         Case::Different

@@ -25,17 +25,14 @@ returns-then-are_numbers c =
     c.numbers_case.ensures
     ∙ rw (c.number-k.ensures, c.number-j.ensures) (sym (case-numbers _ _ _ _ _ _ _ (sym c.read_record.ensures ∙ c.in-Some.is) _ _ _ (sym c.read_record-2.ensures ∙ c.in-Some-read_record.is) (sym c.are_numbers.ensures ∙ c.if-are_numbers.true)))
 
-pub do_agree-requires : goal.do_agree-requires
-do_agree-requires c = (c.name_at-x.ensures.inside, c.name_at-y.ensures.inside)
-
 pub returns-then-do_agree : goal.returns-then-do_agree
 unfolding held_at
 returns-then-do_agree c =
-    let o = case-others _ _ _ _ _ _ _ (sym c.read_record.ensures ∙ c.in-Some.is) _ _ _ (sym c.read_record-2.ensures ∙ c.in-Some-read_record.is) (sym c.are_numbers.ensures ∙ c.if-are_numbers.false) c.name_at-x.result c.name_at-y.result c.name_at-x.ensures.bytes c.name_at-y.ensures.bytes _ c.do_agree.ensures in
+    let o = case-others _ _ _ _ _ _ _ (sym c.read_record.ensures ∙ c.in-Some.is) _ _ _ (sym c.read_record-2.ensures ∙ c.in-Some-read_record.is) (sym c.are_numbers.ensures ∙ c.if-are_numbers.false) _ _ c.bytes_at-x.ensures c.bytes_at-y.ensures _ c.do_agree.ensures in
     rw c.if-do_agree.true at o
 
 pub returns-else-do_agree : goal.returns-else-do_agree
 unfolding held_at
 returns-else-do_agree c =
-    let o = case-others _ _ _ _ _ _ _ (sym c.read_record.ensures ∙ c.in-Some.is) _ _ _ (sym c.read_record-2.ensures ∙ c.in-Some-read_record.is) (sym c.are_numbers.ensures ∙ c.if-are_numbers.false) c.name_at-x.result c.name_at-y.result c.name_at-x.ensures.bytes c.name_at-y.ensures.bytes _ c.do_agree.ensures in
+    let o = case-others _ _ _ _ _ _ _ (sym c.read_record.ensures ∙ c.in-Some.is) _ _ _ (sym c.read_record-2.ensures ∙ c.in-Some-read_record.is) (sym c.are_numbers.ensures ∙ c.if-are_numbers.false) _ _ c.bytes_at-x.ensures c.bytes_at-y.ensures _ c.do_agree.ensures in
     rw c.if-do_agree.false at o

@@ -2,12 +2,9 @@
 use Rattle.cases.specs.Cases.{agree}
 use Rattle.cases.proofs.do_agree.Goals as goal
 
-pub same_bytes-requires : goal.same_bytes-requires
-same_bytes-requires c = (c.text_of-a.ensures.inside, c.text_of-b.ensures.inside)
-
 pub returns-then-are_texts : goal.returns-then-are_texts
 unfolding agree
-returns-then-are_texts c = rw (← c.are_texts.ensures, c.if-are_texts.true, ← c.text_of-a.ensures.bytes, ← c.text_of-b.ensures.bytes) c.same_bytes.ensures
+returns-then-are_texts c = rw (← c.are_texts.ensures, c.if-are_texts.true, ← c.text_of.ensures, ← c.text_of-2.ensures) c.same_bytes.ensures
 
 pub returns-else-are_texts : goal.returns-else-are_texts
 unfolding agree
