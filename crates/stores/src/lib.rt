@@ -61,7 +61,8 @@ fn is_filled(reading: Reading, store: &[u8], area: &[u8]) -> bool
     from == area.len()
 }
 
-// Whether a store is sound, of any bytes.
+// Whether a store is sound, of any bytes. A store and its area stay two slices: exported functions lend them one by
+// one, and the theorems of what Read wrote speak of each alone.
 #[tactic(auto, unfolding(crate::specs::Soundness::sound))]
 pub fn is_sound(reading: Reading, store: &[u8], area: &[u8]) -> bool
     ensures { result ≡ sound reading store.now area.now }
