@@ -1,8 +1,8 @@
 -- Laws of a record that keeps its own rule: where its content lies, what its bytes are, and what limits its decimal
 -- parts keep. Assumes nothing.
 use Prim.Native.Nat.{ℕ, ◌+◌, ◌-◌, ◌^◌, ◌≤◌, ◌<◌}
-use mathlib.Core.Path.{◌≡◌, refl, ap, ◌∙◌}
-use mathlib.Core.Bool.{Bool, true, false, cond, ◌&&◌, ◌||◌}
+use mathlib.Core.Path.{◌≡◌, refl}
+use mathlib.Core.Bool.{true, false, cond}
 use mathlib.Core.List.{List}
 use native.Mathlib.Omega.{arith}
 use borrow.Author.Tests.{leb-true, ltb-true, le-leb, lt-leb}
@@ -48,17 +48,17 @@ content-size ar k f h =
 
 -- the own rule as it is judged: by the parts where there is no content, else by where it lies and then by its bytes
 module _ (r : Reading) (ar : List ℕ) (k : Kind) (f : Fields) where
-  pub rule-parts : is_content (shape_of k) ≡ false → own_rule r ar k f ≡ parts_kept f.parts
+  pub rule_parts : is_content (shape_of k) ≡ false → own_rule r ar k f ≡ parts_kept f.parts
   unfolding own_rule is_inside is_readable
-  rule-parts e = rw e
+  rule_parts e = rw e
 
-  pub rule-outside : is_content (shape_of k) ≡ true → lies (length ar) k f ≡ false → own_rule r ar k f ≡ false
+  pub rule_outside : is_content (shape_of k) ≡ true → lies (length ar) k f ≡ false → own_rule r ar k f ≡ false
   unfolding own_rule is_inside
-  rule-outside e o = rw (e, o)
+  rule_outside e o = rw (e, o)
 
-  pub rule-read : is_content (shape_of k) ≡ true → lies (length ar) k f ≡ true → own_rule r ar k f ≡ readable r k (content_bytes ar k f)
+  pub rule_read : is_content (shape_of k) ≡ true → lies (length ar) k f ≡ true → own_rule r ar k f ≡ readable r k (content_bytes ar k f)
   unfolding own_rule is_inside is_readable
-  rule-read e o = rw (e, o)
+  rule_read e o = rw (e, o)
 
 -- what the own rule of a record with content says, and what that of any other
 module _ (r : Reading) (ar : List ℕ) (k : Kind) (f : Fields) (h : own_rule r ar k f ≡ true) where

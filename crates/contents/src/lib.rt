@@ -13,6 +13,7 @@ use kinds::{Kind, Shape};
 use rules::Reading;
 
 // Whether a content could be read as its kind: only ASCII is.
+#[tactic(auto, unfolding(readable::specs::Readable::readable))]
 fn is_readable(reading: Reading, kind: Kind, content: &[u8]) -> bool
     requires { length content.now < 2 ^ 32 }
     ensures { result ≡ readable reading kind content.now }
@@ -27,103 +28,80 @@ fn is_readable(reading: Reading, kind: Kind, content: &[u8]) -> bool
 }
 
 // Within nine digits, as it is stored in two's complement.
+#[tactic(auto, unfolding(crate::specs::Contents::exponent_kept))]
 fn keeps_exponent(exponent: u32) -> bool
     ensures { result ≡ exponent_kept exponent }
 {
-    if exponent < 1000000000 {
-        return true;
-    }
-    3294967296 < exponent
+    exponent < 1000000000 || 3294967296 < exponent
 }
 
 // 10 to a power that fits.
+#[tactic(auto, using(crate::proofs::Contents::ten_below))]
 pub fn ten_to(places: u8) -> u64
     requires { places ≤ 18 }
     ensures { result ≡ 10 ^ places }
 {
-    let mut power: u64 = 1;
-    let mut at: u8 = 0;
-    while at < places {
-        power *= 10;
-        at += 1;
-    }
-    power
+    10_u64.pow(places as u32)
 }
 
 // Whether decimal parts keep the limits.
+#[tactic(auto, unfolding(crate::specs::Contents::parts_kept))]
 fn keeps_parts(parts: Parts) -> bool
     ensures { result ≡ parts_kept parts }
 {
-    if 1 < parts.sign {
-        return false;
-    }
-    if 1000000000 <= parts.integer {
-        return false;
-    }
-    if 18 < parts.places {
-        return false;
-    }
-    if ten_to(parts.places) <= parts.fraction {
-        return false;
-    }
-    if !keeps_exponent(parts.exponent) {
-        return false;
-    }
-    parts.uncertainty < 1000000000
+    parts.sign <= 1
+        && parts.integer < 1000000000
+        && parts.places <= 18
+        && parts.fraction < ten_to(parts.places)
+        && keeps_exponent(parts.exponent)
+        && parts.uncertainty < 1000000000
 }
 
 // Whether records of a kind have content.
+#[tactic(auto, unfolding(kinds::specs::Kinds::is_content))]
 pub fn has_content(kind: Kind) -> bool
     ensures { result ≡ is_content (shape_of kind) }
 {
-    let shape = kind.shape();
-    let Shape::Content = shape else {
-        return false;
-    };
-    true
+    matches!(kind.shape(), Shape::Content)
 }
 
 // P's length less the marks, and 0 where it is below them.
+#[tactic(auto, unfolding(crate::specs::Contents::content_length))]
 pub fn content_length(kind: Kind, fields: Fields) -> usize
     ensures { result ≡ content_length kind fields }
 {
-    let token = fields.token;
-    let length = token.length as usize;
-    let marks = kind.marks();
-    if length < marks {
-        return 0;
-    }
-    length - marks
+    (fields.token.length as usize).saturating_sub(kind.marks())
 }
 
 // Whether a record's content lies inside an area of so many bytes.
+#[tactic(auto, unfolding(crate::specs::Contents::lies, crate::specs::Contents::content_length))]
 pub fn lies_inside(size: usize, kind: Kind, fields: Fields) -> bool
     ensures { result ≡ lies size kind fields }
 {
-    let token = fields.token;
-    let length = token.length as usize;
-    let marks = kind.marks();
-    if length < marks {
-        return false;
-    }
+    kind.marks() <= fields.token.length as usize
+        && fields.number as usize + content_length(kind, fields) <= size
+}
+
+// The content that lies inside the area.
+fn content_of<'a>(area: &'a [u8], kind: Kind, fields: Fields) -> &'a [u8]
+    requires { lies (length area.now) kind fields ≡ true }
+    ensures { result.now ≡ content_bytes area.now kind fields }
+{
     let from = fields.number as usize;
-    from + (length - marks) <= size
+    &area[from..from + content_length(kind, fields)]
 }
 
 // A record's own rule: its content lies inside the area and could be read as its kind; its decimal parts keep the
 // limits.
+#[tactic(auto, using(crate::proofs::Kept::rule_parts, crate::proofs::Kept::rule_outside, crate::proofs::Kept::rule_read))]
 pub fn keeps_rule(reading: Reading, area: &[u8], kind: Kind, fields: Fields) -> bool
     ensures { result ≡ own_rule reading area.now kind fields }
 {
     if !has_content(kind) {
         return keeps_parts(fields.parts);
     }
-    if !lies_inside(area.len(), kind, fields) {
-        return false;
-    }
-    let from = fields.number as usize;
-    let end = from + content_length(kind, fields);
-    is_readable(reading, kind, &area[from..end])
+    lies_inside(area.len(), kind, fields)
+        && is_readable(reading, kind, content_of(area, kind, fields))
 }
 
 // Whether rendering puts a space before a record's token.
@@ -131,10 +109,6 @@ pub fn is_led(reading: Reading, area: &[u8], kind: Kind, fields: Fields) -> bool
     requires { own_rule reading area.now kind fields ≡ true }
     ensures { result ≡ is_led reading kind (content_bytes area.now kind fields) }
 {
-    let Kind::Bare = kind else {
-        return false;
-    };
-    let from = fields.number as usize;
-    let end = from + content_length(kind, fields);
-    readable_strict::is_led(reading, kind, &area[from..end])
+    matches!(kind, Kind::Bare)
+        && readable_strict::is_led(reading, kind, content_of(area, kind, fields))
 }

@@ -1,12 +1,11 @@
 -- What C and Rust see: document 01's numbers of an answer, a part of an area, and one record of a store, each as numbers of 64
 -- bits; and the answers to a call whose number names no reading. Assumes nothing.
-use Rattle.std.specs.Prelude.{ℕ, ◌-◌, Bool, cond, eqb, leb}
+use Rattle.std.specs.Prelude.{ℕ, ◌-◌, Bool, cond, eqb, leb, Option, Some, None, Result, Ok, Err}
 use Rattle.places.specs.declared.Report.{Report}
 use Rattle.entries.specs.declared.Fields.{Fields}
-use Rattle.stores.specs.declared.Content.{Content}
-use Rattle.stores.specs.declared.Content.TheVariants.{Part as Found, NotSound, NoContent}
+use Rattle.stores.specs.declared.Part.{Part as Found}
+use Rattle.stores.specs.declared.ContentError.{ContentError}
 use Rattle.stores.specs.declared.Walked.{Walked}
-use Rattle.stores.specs.declared.Walked.TheVariants.{Record as Met, NoRecord}
 use Rattle.exports.specs.declared.Answer.{Answer}
 use Rattle.exports.specs.declared.Part.{Part}
 use Rattle.exports.specs.declared.Record.{Record}
@@ -25,10 +24,9 @@ unfoldable pub no_part : Part
 no_part = record { start = 0; length = 0 }
 
 -- a content's part, the empty one on refusal
-unfoldable pub exported_part : Content → Part
-exported_part (Found from size) = record { start = from; length = size }
-exported_part NotSound = no_part
-exported_part NoContent = no_part
+unfoldable pub exported_part : Result Found ContentError → Part
+exported_part (Ok p) = record { start = p.from; length = p.size }
+exported_part (Err e) = no_part
 
 -- an exponent is stored in two's complement
 unfoldable pub is_negative : ℕ → Bool
@@ -85,6 +83,6 @@ no_record n =
     }
 
 -- what a walk met; 14 where no record stands
-unfoldable pub exported_record : Walked → Record
-exported_record NoRecord = no_record 14
-exported_record (Met k f from size next) = exported_fields k f from size next
+unfoldable pub exported_record : Option Walked → Record
+exported_record None = no_record 14
+exported_record (Some w) = exported_fields w.number w.fields w.from w.size w.next

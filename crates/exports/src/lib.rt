@@ -8,7 +8,7 @@ ghost use Rattle.exports.specs.Exports.{no_reading, no_part, no_record, is_negat
 use entries::Fields;
 use kinds::Kind;
 use places::Report;
-use stores::{Content, Walked};
+use stores::{ContentError, Part as Found, Walked};
 
 // chuntarek_answer.
 #[repr(C)]
@@ -55,6 +55,7 @@ pub struct Record {
 }
 
 // A report, number for number.
+#[tactic(auto, unfolding(crate::specs::Exports::exported))]
 pub fn numbers_of(r: Report) -> Answer
     ensures { result ≡ exported r }
 {
@@ -73,6 +74,7 @@ pub fn numbers_of(r: Report) -> Answer
 const NO_READING: u64 = 24;
 
 // The answer to a call that names no reading.
+#[tactic(auto, unfolding(crate::specs::Exports::no_reading))]
 pub fn no_reading() -> Answer
     ensures { result ≡ no_reading }
 {
@@ -88,6 +90,7 @@ pub fn no_reading() -> Answer
 }
 
 // An empty part at 0.
+#[tactic(auto, unfolding(crate::specs::Exports::no_part))]
 pub fn no_part() -> Part
     ensures { result ≡ no_part }
 {
@@ -98,30 +101,29 @@ pub fn no_part() -> Part
 }
 
 // Where a content stands in the area; the empty part where there is none.
-pub fn part_of(c: Content) -> Part
-    ensures { result ≡ exported_part c }
+#[tactic(auto, unfolding(crate::specs::Exports::exported_part))]
+pub fn part_of(answer: Result<Found, ContentError>) -> Part
+    ensures { result ≡ exported_part answer }
 {
-    match c {
-        Content::Part { from, size } => Part {
+    match answer {
+        Ok(Found { from, size }) => Part {
             start: from as u64,
             length: size as u64,
         },
-        Content::NotSound => no_part(),
-        Content::NoContent => no_part(),
+        Err(_) => no_part(),
     }
 }
 
 // Whether four bytes in two's complement are below 0, as a number.
+#[tactic(auto, unfolding(crate::specs::Exports::is_negative))]
 fn negative(e: u32) -> u64
     ensures { result ≡ cond (is_negative e) 1 0 }
 {
-    if 2147483648 <= e {
-        return 1;
-    }
-    0
+    (2147483648 <= e) as u64
 }
 
 // The number without its sign.
+#[tactic(auto, unfolding(crate::specs::Exports::magnitude, crate::specs::Exports::is_negative))]
 fn size_of(e: u32) -> u64
     ensures { result ≡ magnitude e }
 {
@@ -135,13 +137,11 @@ fn size_of(e: u32) -> u64
 fn tags_of(kind: u8, number: u32) -> u64
     ensures { result ≡ cond (eqb kind 5) number 0 }
 {
-    if kind == Kind::LOOP {
-        return number as u64;
-    }
-    0
+    if kind == Kind::LOOP { number as u64 } else { 0 }
 }
 
 // A record that was met, field by field.
+#[tactic(auto, unfolding(crate::specs::Exports::exported_fields))]
 fn met(kind: u8, f: Fields, from: usize, size: usize, next: usize) -> Record
     ensures { result ≡ exported_fields kind f from size next }
 {
@@ -170,6 +170,7 @@ fn met(kind: u8, f: Fields, from: usize, size: usize, next: usize) -> Record
 }
 
 // No record, for the reason of this number, and all else 0.
+#[tactic(auto, unfolding(crate::specs::Exports::no_record))]
 fn none(number: u64) -> Record
     ensures { result ≡ no_record number }
 {
@@ -195,18 +196,21 @@ fn none(number: u64) -> Record
 }
 
 // What a walk met.
-pub fn record_of(w: Walked) -> Record
-    ensures { result ≡ exported_record w }
+#[tactic(auto, unfolding(crate::specs::Exports::exported_record))]
+pub fn record_of(walked: Option<Walked>) -> Record
+    ensures { result ≡ exported_record walked }
 {
-    match w {
-        Walked::Record {
-            number,
-            fields,
-            from,
-            size,
-            next,
-        } => met(number, fields, from, size, next),
-        Walked::NoRecord => none(14),
+    match walked {
+        Some(
+            Walked {
+                number,
+                fields,
+                from,
+                size,
+                next,
+            },
+        ) => met(number, fields, from, size, next),
+        None => none(14),
     }
 }
 

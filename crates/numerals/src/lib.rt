@@ -114,7 +114,8 @@ pub fn put_number(out: &mut [u8], at: usize, d: Decimal) -> usize
     put_uncertainty(out, uncertainty, d.uncertain, d.uncertainty)
 }
 
-// The lengths of a number's pieces.
+// The lengths of a number's pieces. No sink that counts or writes: the writing needs room for what the counting tells,
+// so each piece's length is a clause of its own that the writer's `requires` cites.
 fn sign_length(minus: bool) -> usize
     ensures { result ≡ length (sign_bytes minus) }
 {

@@ -14,8 +14,9 @@ use Rattle.grammar.specs.declared.Cause.TheVariants.{NotAscii, NoData, OpenFrame
 use Rattle.grammar.specs.Causes.{cause_number, cause_detail}
 use Rattle.grammar.proofs.Causes.{cause-has-place}
 use Rattle.decisions.specs.Decisions.{Told, refusal, room, told}
-use Rattle.rendering.specs.declared.Rendered.{Rendered}
-use Rattle.rendering.specs.declared.Rendered.TheVariants.{Done as DoneText, NotSound, TooLong as TooLongText, NoRoom as NoRoomText}
+use Rattle.std.specs.Prelude.{Result, Ok, Err}
+use Rattle.rendering.specs.declared.RenderError.{RenderError}
+use Rattle.rendering.specs.declared.RenderError.TheVariants.{NotSound, TooLong as TooLongText, NoRoom as NoRoomText}
 use Rattle.rendering.specs.Rendering.{rendered_report}
 use Rattle.refusals.specs.declared.Refusal.{Refusal}
 use Rattle.refusals.specs.declared.Refusal.TheVariants.{TooLong, At}
@@ -116,17 +117,17 @@ outlined-back (Declined (At c p)) = rw ((cause-low c).0, (cause-low c).1) (ap De
 pub one-outlined : (a b : Outlined) → outlined_report a ≡ outlined_report b → a ≡ b
 one-outlined a b e = sym (outlined-back a) ∙ ap outlined_in e ∙ outlined-back b
 
-unfoldable rendered_in : Report → Rendered
-rendered_in p = cond (eqb p.number 0) (DoneText p.first) (cond (eqb p.number 12) NotSound (cond (eqb p.number 1) TooLongText (NoRoomText p.first)))
+unfoldable rendered_in : Report → Result ℕ RenderError
+rendered_in p = cond (eqb p.number 0) (Ok p.first) (cond (eqb p.number 12) (Err NotSound) (cond (eqb p.number 1) (Err TooLongText) (Err (NoRoomText p.first))))
 
-rendered-back : (r : Rendered) → rendered_in (rendered_report r) ≡ r
+rendered-back : (r : Result ℕ RenderError) → rendered_in (rendered_report r) ≡ r
 unfolding rendered_in rendered_report success refused_bare no_room
-rendered-back (DoneText n) = refl
-rendered-back NotSound = refl
-rendered-back TooLongText = refl
-rendered-back (NoRoomText n) = refl
+rendered-back (Ok n) = refl
+rendered-back (Err NotSound) = refl
+rendered-back (Err TooLongText) = refl
+rendered-back (Err (NoRoomText n)) = refl
 
-pub one-rendered : (a b : Rendered) → rendered_report a ≡ rendered_report b → a ≡ b
+pub one-rendered : (a b : Result ℕ RenderError) → rendered_report a ≡ rendered_report b → a ≡ b
 one-rendered a b e = sym (rendered-back a) ∙ ap rendered_in e ∙ rendered-back b
 
 unfoldable decision_in : Told → Decision

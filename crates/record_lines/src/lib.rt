@@ -29,13 +29,15 @@ fn put_part(out: &mut [u8], at: usize, source: &[u8], from: usize, size: usize) 
 }
 
 // The size of an exponent that is kept in two's complement.
+#[tactic(auto, unfolding(crate::specs::Writing::size_of))]
 fn size_of(exponent: u32) -> u32
     ensures { result ≡ size_of exponent }
 {
     if 2147483648 <= exponent {
-        return 4294967295 - exponent + 1;
+        4294967295 - exponent + 1
+    } else {
+        exponent
     }
-    exponent
 }
 
 // The decimal that stored parts stand for.
@@ -58,16 +60,15 @@ fn decimal_of(uncertain: bool, parts: Parts) -> Decimal
 }
 
 // A loop's end has no line.
+#[tactic(auto, unfolding(crate::specs::Lines::is_end))]
 fn is_end(kind: Kind) -> bool
     ensures { result ≡ is_end kind }
 {
-    match kind {
-        Kind::NoKind | Kind::LoopEnd => true,
-        _ => false,
-    }
+    matches!(kind, Kind::NoKind | Kind::LoopEnd)
 }
 
 // The byte that opens a token of one mark or two.
+#[tactic(auto, unfolding(crate::specs::Writing::mark_of))]
 fn mark_of(kind: Kind) -> u8
     ensures { result ≡ mark_of kind }
 {
@@ -182,7 +183,8 @@ pub fn write_line(
     put_token(out, at, area, kind, fields)
 }
 
-// The length of a token and LF: that of one with content stands in the record.
+// The length of a token and LF: that of one with content stands in the record. It is no twin of put_token: Render needs
+// it before it may write, and to add up what is written would go over each content a second time.
 fn plain_length(kind: Kind, fields: Fields) -> usize
     requires { keeps_digits kind fields ≡ true }
     ensures { result ≡ plain_length kind fields }

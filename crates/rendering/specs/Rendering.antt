@@ -1,6 +1,6 @@
 -- RENDER (document 01): the lines of a sound store's records. Order: 12, 1, 11. The rendered length on success, the
 -- needed one on 11; a refusal writes nothing. Assumes nothing.
-use Rattle.std.specs.Prelude.{ℕ, ◌+◌, cond, List, [], ◌∷◌, ◌++◌, eqb, ltb, length, Option}
+use Rattle.std.specs.Prelude.{ℕ, ◌+◌, cond, List, [], ◌∷◌, ◌++◌, eqb, ltb, length, Option, Result, Ok, Err}
 use Rattle.rules.specs.declared.Reading.{Reading}
 use Rattle.places.specs.declared.Report.{Report}
 use Rattle.places.specs.Reports.{success, refused_bare, no_room}
@@ -9,8 +9,8 @@ use Rattle.records.specs.Put.{front}
 use Rattle.entries.specs.Walk.{entries}
 use Rattle.stores.specs.Soundness.{sound}
 use Rattle.record_lines.specs.Lines.{line_of}
-use Rattle.rendering.specs.declared.Rendered.{Rendered}
-use Rattle.rendering.specs.declared.Rendered.TheVariants.{Done, NotSound, TooLong, NoRoom}
+use Rattle.rendering.specs.declared.RenderError.{RenderError}
+use Rattle.rendering.specs.declared.RenderError.TheVariants.{NotSound, TooLong, NoRoom}
 
 -- the lines of entries, one behind the other
 unfoldable pub lines_of : Reading → List ℕ → List (Option Entry) → List ℕ
@@ -39,8 +39,8 @@ render_answer r st ar m = cond (sound r st ar) (render_room (length (rendering r
 unfoldable pub render_out : Reading → List ℕ → List ℕ → List ℕ → List ℕ
 render_out r st ar l = cond (eqb (render_answer r st ar (length l)).number 0) (front (rendering r st ar) l) l
 
-unfoldable pub rendered_report : Rendered → Report
-rendered_report (Done n) = success n 0
-rendered_report NotSound = refused_bare 12
-rendered_report TooLong = refused_bare 1
-rendered_report (NoRoom n) = no_room 11 n 0
+unfoldable pub rendered_report : Result ℕ RenderError → Report
+rendered_report (Ok n) = success n 0
+rendered_report (Err NotSound) = refused_bare 12
+rendered_report (Err TooLong) = refused_bare 1
+rendered_report (Err (NoRoom n)) = no_room 11 n 0

@@ -2,7 +2,6 @@
 #![tactic(auto)]
 
 ghost use Rattle.std.specs.Prelude.{◌≡◌, ◌+◌, ◌-◌, ◌≤◌, ◌<◌, length};
-ghost use Rattle.places.specs.Reports.{no_room};
 ghost use Rattle.records.specs.Put.{front};
 ghost use Rattle.entries.specs.Walk.{entries};
 ghost use Rattle.rendering.specs.Rendering.{rendering, capped, render_answer, render_out, rendered_report};
@@ -12,41 +11,24 @@ use entries::Entry;
 use places::Report;
 use rules::Reading;
 
-// Render's answer: done, with the length written; 12; 1; or 11 with the length needed.
+// Why nothing is rendered: 12; 1; or 11 with the length needed.
 #[derive(Clone, Copy)]
-pub enum Rendered {
-    Done { length: usize },
+pub enum RenderError {
     NotSound,
     TooLong,
     NoRoom { length: usize },
 }
 
-// A refusal number and a length, without a place.
-fn answer(number: usize, first: usize) -> Report
-    ensures { result ≡ no_room number first 0 }
+// The answer in document 01's numbers: the length that was written, or why none was.
+#[tactic(auto, unfolding(crate::specs::Rendering::rendered_report, places::specs::Reports::success, places::specs::Reports::refused_bare, places::specs::Reports::no_room))]
+pub fn report(answer: Result<usize, RenderError>) -> Report
+    ensures { result ≡ rendered_report answer }
 {
-    Report {
-        number,
-        offset: 0,
-        line: 0,
-        column: 0,
-        detail: 0,
-        first,
-        second: 0,
-    }
-}
-
-impl Rendered {
-    // The answer in document 01's numbers.
-    pub fn report(self) -> Report
-        ensures { result ≡ rendered_report self }
-    {
-        match self {
-            Rendered::Done { length } => answer(0, length),
-            Rendered::NotSound => answer(12, 0),
-            Rendered::TooLong => answer(1, 0),
-            Rendered::NoRoom { length } => answer(11, length),
-        }
+    match answer {
+        Ok(length) => Report::lengths(0, length, 0),
+        Err(RenderError::NotSound) => Report::bare(12),
+        Err(RenderError::TooLong) => Report::bare(1),
+        Err(RenderError::NoRoom { length }) => Report::lengths(11, length, 0),
     }
 }
 
@@ -91,19 +73,24 @@ fn write_lines(reading: Reading, store: &[u8], area: &[u8], out: &mut [u8])
 }
 
 // A store and its area as a text: the store is judged, then the length, then the room.
-pub fn render(reading: Reading, store: &[u8], area: &[u8], out: &mut [u8]) -> Rendered
+pub fn render(
+    reading: Reading,
+    store: &[u8],
+    area: &[u8],
+    out: &mut [u8],
+) -> Result<usize, RenderError>
     ensures { (rendered_report result ≡ render_answer reading store.now area.now (length out.old)) × (out.new ≡ render_out reading store.now area.now out.old) }
 {
     if !stores::is_sound(reading, store, area) {
-        return Rendered::NotSound;
+        return Err(RenderError::NotSound);
     }
     let length = rendered_length(reading, store, area);
     if LIMIT < length {
-        return Rendered::TooLong;
+        return Err(RenderError::TooLong);
     }
     if out.len() < length {
-        return Rendered::NoRoom { length };
+        return Err(RenderError::NoRoom { length });
     }
     write_lines(reading, store, area, out);
-    Rendered::Done { length }
+    Ok(length)
 }

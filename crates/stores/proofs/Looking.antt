@@ -1,11 +1,8 @@
 -- Laws of looking a content up: record by record, and that a sound store's contents lie inside the area. Assumes nothing.
 use Prim.Native.Nat.{ℕ, zero, suc, ◌+◌, ◌-◌, ◌≤◌, ◌<◌}
-use mathlib.Core.Path.{◌≡◌, refl}
+use mathlib.Core.Path.{◌≡◌, refl, ap}
 use mathlib.Core.Bool.{Bool, true, false, cond}
 use mathlib.Core.List.{List, [], ◌∷◌}
-use mathlib.Core.Logic.{inl, inr}
-use types.Run.{OneOf}
-use denote.Enum.Declared.{tag_of}
 use native.Mathlib.Omega.{arith}
 use lib.ListN.{length}
 use Rattle.rules.specs.declared.Reading.{Reading}
@@ -18,27 +15,26 @@ use Rattle.entries.specs.Walk.{entries}
 use Rattle.contents.specs.Contents.{content_length}
 use Rattle.contents.proofs.Kept.{content-length, own-inside}
 use Rattle.stores.specs.Soundness.{sound, Owned, more}
-use Rattle.stores.specs.Content.{nth, part_of, content_at, part_bytes}
-use Rattle.stores.specs.declared.Content.{Content}
-use Rattle.stores.specs.declared.Content.TheVariants.{Part, NotSound, NoContent}
-use Rattle.stores.specs.contracts.Content.{the_type as content-type}
+use Rattle.stores.specs.Content.{nth, found, part_of, content_at}
+use Rattle.stores.specs.declared.Part.{Part}
+use Rattle.stores.specs.declared.ContentError.TheVariants.{NotSound, NoContent}
 use Rattle.entries.proofs.Walking.{rest, rest_all, rest_over, rest-none, next-at}
 use Rattle.stores.proofs.Filling.{owned-sound}
-use Rattle.std.specs.Prelude.{Option, Some, None}
+use Rattle.std.specs.Prelude.{Option, Some, None, Err}
 
 pub part-all : (st : List ℕ) (i : ℕ) → part_of (nth (entries st) i) ≡ part_of (nth (rest st 0) i)
 part-all st i = rw rest_all
 
 module _ (st : List ℕ) (at : ℕ) where
-  pub part_end : (i : ℕ) → length st ≤ at → part_of (nth (rest st at) i) ≡ NoContent
+  pub part_end : (i : ℕ) → length st ≤ at → part_of (nth (rest st at) i) ≡ Err NoContent
   unfolding nth part_of
   part_end i h = rw (rest_over st at h)
 
-  pub part_none : (i : ℕ) → at < length st → entry_at st at ≡ None → part_of (nth (rest st at) i) ≡ NoContent
+  pub part_none : (i : ℕ) → at < length st → entry_at st at ≡ None → part_of (nth (rest st at) i) ≡ Err NoContent
   unfolding nth part_of
   part_none i h e = rw (rest-none st at h e) (by i)
     where
-      by : (i : ℕ) → part_of (nth (None ∷ []) i) ≡ NoContent
+      by : (i : ℕ) → part_of (nth (None ∷ []) i) ≡ Err NoContent
       by zero = refl
       by (suc i) = refl
 
@@ -54,39 +50,40 @@ module _ (st : List ℕ) (at : ℕ) where
         let less : suc i - 1 ≡ i = omega arith in
         rw ((next-at st at k f next h e).here, less)
 
+-- two parts that are one start and end alike
+record Same (a b n m : ℕ) : Type 0 where
+  from : a ≡ b
+  size : n ≡ m
+
+one : (a b n m : ℕ) → found a n ≡ found b m → Same a b n m
+one a b n m e =
+    let r : ◌≡◌ {A = Part} (record { from = a; size = n }) (record { from = b; size = m }) = cc in
+    record { from = ap (λ (p : Part). p.from) r; size = ap (λ (p : Part). p.size) r }
+
 -- a content of a filled area lies inside
-part-inside : (r : Reading) (es : List (Option Entry)) (ar : List ℕ) (i from size : ℕ) → Owned r ar es → part_of (nth es i) ≡ Part from size → from + size ≤ length ar
+part-inside : (r : Reading) (es : List (Option Entry)) (ar : List ℕ) (i from size : ℕ) → Owned r ar es → part_of (nth es i) ≡ found from size → from + size ≤ length ar
 unfolding nth part_of
 part-inside r [] ar i from size o p =
     let z : ◌≡◌ {A = ℕ} 0 1 = cc in
     absurd (omega arith)
 part-inside r (Some e ∷ es) ar zero from size (more h o) p = by (is_content (shape_of e.kind)) refl p
   where
-    by : (t : Bool) → is_content (shape_of e.kind) ≡ t → cond t (Part e.fields.number (content_length e.kind e.fields)) NoContent ≡ Part from size → from + size ≤ length ar
+    by : (t : Bool) → is_content (shape_of e.kind) ≡ t → cond t (found e.fields.number (content_length e.kind e.fields)) (Err NoContent) ≡ found from size → from + size ≤ length ar
     by true q p =
-        let start : e.fields.number ≡ from = cc in
-        let long : content_length e.kind e.fields ≡ size = cc in
-        omega (arith, (own-inside r ar e.kind e.fields h q).inside, content-length e.kind e.fields)
+        let w = one _ from _ size p in
+        omega (arith, w.from, w.size, (own-inside r ar e.kind e.fields h q).inside, content-length e.kind e.fields)
     by false q p =
         let z : ◌≡◌ {A = ℕ} 0 1 = cc in
         absurd (omega arith)
 part-inside r (Some e ∷ es) ar (suc i) from size (more h o) p = part-inside r es ar i from size o p
 part-inside r (None ∷ es) ar i from size o p = elim o [ ]
 
-pub content-inside : (r : Reading) (st ar : List ℕ) (i from size : ℕ) → content_at r st ar i ≡ Part from size → from + size ≤ length ar
+pub content-inside : (r : Reading) (st ar : List ℕ) (i from size : ℕ) → content_at r st ar i ≡ found from size → from + size ≤ length ar
 unfolding content_at
 content-inside r st ar i from size p = by (sound r st ar) refl p
   where
-    by : (t : Bool) → sound r st ar ≡ t → cond t (part_of (nth (entries st) i)) NotSound ≡ Part from size → from + size ≤ length ar
+    by : (t : Bool) → sound r st ar ≡ t → cond t (part_of (nth (entries st) i)) (Err NotSound) ≡ found from size → from + size ≤ length ar
     by true q p = part-inside r (entries st) ar i from size (owned-sound r st ar q) p
     by false q p =
         let z : ◌≡◌ {A = ℕ} 0 1 = cc in
         absurd (omega arith)
-
--- a refusal's part is empty
-pub part-refused : (ar : List ℕ) (a : Content) → OneOf (1 ∷ 2 ∷ []) (tag_of content-type a) → part_bytes ar a ≡ []
-unfolding part_bytes
-part-refused ar (Part from size) (inl e) = absurd (omega arith)
-part-refused ar (Part from size) (inr e) = absurd (omega arith)
-part-refused ar NotSound e = refl
-part-refused ar NoContent e = refl

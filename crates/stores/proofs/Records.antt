@@ -18,9 +18,8 @@ use Rattle.entries.specs.Walk.{entries}
 use Rattle.contents.specs.Contents.{content_length, lies, own_rule}
 use Rattle.contents.proofs.Kept.{own-lies}
 use Rattle.stores.specs.Soundness.{sound, Owned, none, more}
-use Rattle.stores.specs.Records.{answered, walked_of, walked_at, Walks, over, onto, answers}
+use Rattle.stores.specs.Records.{answered, walked_of, walked_at, Walks, over, onto, answers, met}
 use Rattle.stores.specs.declared.Walked.{Walked}
-use Rattle.stores.specs.declared.Walked.TheVariants.{Record, NoRecord}
 use Rattle.entries.proofs.Walking.{rest, rest_all, rest_over, rest-none, next-at}
 use Rattle.stores.proofs.Filling.{owned-sound}
 use Rattle.std.specs.Prelude.{Option, Some, None}
@@ -76,16 +75,16 @@ kept-answered : (r : Reading) (ar : List ℕ) (k : Kind) (f : Fields) (next : �
 unfolding walked_of
 kept-answered r ar k f next o = by (is_content (shape_of k)) refl
   where
-    by : (t : Bool) → is_content (shape_of k) ≡ t → cond t (cond (lies (length ar) k f) (answered k f next) NoRecord) (answered k f next) ≡ answered k f next
+    by : (t : Bool) → is_content (shape_of k) ≡ t → cond t (cond (lies (length ar) k f) (answered k f next) None) (answered k f next) ≡ answered k f next
     by false q = refl
     by true q = rw (own-lies r ar k f o q)
 
 -- one step of the walk, whether or not there is content
-step : (st ar : List ℕ) (at next : ℕ) (k : Kind) (f : Fields) (ws : List Walked) → walked_at st ar at ≡ answered k f next → Walks st ar next ws → Walks st ar at (answered k f next ∷ ws)
+step : (st ar : List ℕ) (at next : ℕ) (k : Kind) (f : Fields) (ws : List (Option Walked)) → walked_at st ar at ≡ answered k f next → Walks st ar next ws → Walks st ar at (answered k f next ∷ ws)
 unfolding answered
 step st ar at next k f ws e w = by (is_content (shape_of k)) e
   where
-    by : (t : Bool) → walked_at st ar at ≡ cond t (Record (number_of k) f f.number (content_length k f) next) (Record (number_of k) f 0 0 next) → Walks st ar at (cond t (Record (number_of k) f f.number (content_length k f) next) (Record (number_of k) f 0 0 next) ∷ ws)
+    by : (t : Bool) → walked_at st ar at ≡ cond t (met (number_of k) f f.number (content_length k f) next) (met (number_of k) f 0 0 next) → Walks st ar at (cond t (met (number_of k) f f.number (content_length k f) next) (met (number_of k) f 0 0 next) ∷ ws)
     by true e = onto e w
     by false e = onto e w
 

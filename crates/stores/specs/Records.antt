@@ -11,28 +11,31 @@ use Rattle.kinds.specs.Kinds.{number_of, shape_of, is_content}
 use Rattle.entries.specs.Entries.{entry_at}
 use Rattle.contents.specs.Contents.{content_length, lies}
 use Rattle.stores.specs.declared.Walked.{Walked}
-use Rattle.stores.specs.declared.Walked.TheVariants.{Record, NoRecord}
+
+-- a record that was met, its content's part this one
+abbrev pub met : ℕ → Fields → ℕ → ℕ → ℕ → Option Walked
+met k f from size next = Some (record { number = k; fields = f; from = from; size = size; next = next })
 
 -- a record with its content's part; one that has none has an empty part at 0
-unfoldable pub answered : Kind → Fields → ℕ → Walked
+unfoldable pub answered : Kind → Fields → ℕ → Option Walked
 answered k f next =
-    cond (is_content (shape_of k)) (Record (number_of k) f f.number (content_length k f) next) (Record (number_of k) f 0 0 next)
+    cond (is_content (shape_of k)) (met (number_of k) f f.number (content_length k f) next) (met (number_of k) f 0 0 next)
 
-unfoldable pub walked_of : ℕ → Option Entry → Walked
-walked_of size None = NoRecord
-walked_of size (Some e) = cond (is_content (shape_of e.kind)) (cond (lies size e.kind e.fields) (answered e.kind e.fields e.next) NoRecord) (answered e.kind e.fields e.next)
+unfoldable pub walked_of : ℕ → Option Entry → Option Walked
+walked_of size None = None
+walked_of size (Some e) = cond (is_content (shape_of e.kind)) (cond (lies size e.kind e.fields) (answered e.kind e.fields e.next) None) (answered e.kind e.fields e.next)
 
 -- the record at an offset
-unfoldable pub walked_at : List ℕ → List ℕ → ℕ → Walked
+unfoldable pub walked_at : List ℕ → List ℕ → ℕ → Option Walked
 walked_at st ar at = walked_of (length ar) (entry_at st at)
 
 -- a caller asks at an offset, and again at each answer's `next`, to the store's end, and meets these records
-pub data Walks (st ar : List ℕ) : ℕ → List Walked → Type 0 where
+pub data Walks (st ar : List ℕ) : ℕ → List (Option Walked) → Type 0 where
   over : {at : ℕ} → length st ≤ at → Walks st ar at []
-  onto : {at k from size next : ℕ} {f : Fields} {ws : List Walked} → walked_at st ar at ≡ Record k f from size next → Walks st ar next ws → Walks st ar at (Record k f from size next ∷ ws)
+  onto : {at : ℕ} {w : Walked} {ws : List (Option Walked)} → walked_at st ar at ≡ Some w → Walks st ar w.next ws → Walks st ar at (Some w ∷ ws)
 
 -- entries as the walk answers them, from an offset on
-unfoldable pub answers : ℕ → List (Option Entry) → List Walked
+unfoldable pub answers : ℕ → List (Option Entry) → List (Option Walked)
 answers at [] = []
-answers at (None ∷ es) = NoRecord ∷ []
+answers at (None ∷ es) = None ∷ []
 answers at (Some e ∷ es) = answered e.kind e.fields (at + e.next) ∷ answers (at + e.next) es

@@ -14,34 +14,32 @@ use places::Report;
 use rules::Reading;
 
 // Whether a record's content, if it has one, starts at an offset of the area.
+#[tactic(auto, unfolding(crate::specs::Soundness::follows))]
 fn starts_there(from: usize, kind: Kind, fields: Fields) -> bool
     ensures { result ≡ follows from kind fields }
 {
-    if contents::has_content(kind) {
-        return fields.number as usize == from;
-    }
-    true
+    !contents::has_content(kind) || fields.number as usize == from
 }
 
 // Whether a record's content starts where the one before it ends, and it keeps its own rule. In this order: a content
 // that lies over another is not looked at, so that a walk's time stays in proportion to store and area.
+#[tactic(auto, unfolding(crate::specs::Soundness::kept))]
 fn is_kept(reading: Reading, area: &[u8], from: usize, kind: Kind, fields: Fields) -> bool
     ensures { result ≡ kept reading area.now from kind fields }
 {
-    if !starts_there(from, kind, fields) {
-        return false;
-    }
-    contents::keeps_rule(reading, area, kind, fields)
+    starts_there(from, kind, fields) && contents::keeps_rule(reading, area, kind, fields)
 }
 
 // How much of the area a record's content takes.
+#[tactic(auto, unfolding(crate::specs::Soundness::takes))]
 fn taken(kind: Kind, fields: Fields) -> usize
     ensures { result ≡ takes kind fields }
 {
     if contents::has_content(kind) {
-        return contents::content_length(kind, fields);
+        contents::content_length(kind, fields)
+    } else {
+        0
     }
-    0
 }
 
 // Whether each content is readable and inside the area, and they fill it in order.
@@ -63,60 +61,63 @@ fn is_filled(reading: Reading, store: &[u8], area: &[u8]) -> bool
     from == area.len()
 }
 
-// Whether a store is sound, of any bytes.
+// Whether a store is sound, of any bytes. A store and its area stay two slices: exported functions lend them one by
+// one, and the theorems of what Read wrote speak of each alone.
+#[tactic(auto, unfolding(crate::specs::Soundness::sound))]
 pub fn is_sound(reading: Reading, store: &[u8], area: &[u8]) -> bool
     ensures { result ≡ sound reading store.now area.now }
 {
-    if !nesting::is_nested(reading, store) {
-        return false;
-    }
-    is_filled(reading, store, area)
+    nesting::is_nested(reading, store) && is_filled(reading, store, area)
 }
 
-// Content's answer: the part of the area that holds it, 12, or 14.
+// The part of the area that holds a content.
 #[derive(Clone, Copy)]
-pub enum Content {
-    Part { from: usize, size: usize },
+pub struct Part {
+    pub from: usize,
+    pub size: usize,
+}
+
+// Why there is none: 12, or 14.
+#[derive(Clone, Copy)]
+pub enum ContentError {
     NotSound,
     NoContent,
 }
 
 // The record at an offset: its kind's number, what it holds, the part of the area that holds its content, and where
-// the next one starts; or 14.
+// the next one starts.
 #[derive(Clone, Copy)]
-pub enum Walked {
-    Record {
-        number: u8,
-        fields: Fields,
-        from: usize,
-        size: usize,
-        next: usize,
-    },
-    NoRecord,
+pub struct Walked {
+    pub number: u8,
+    pub fields: Fields,
+    pub from: usize,
+    pub size: usize,
+    pub next: usize,
 }
 
 // The part of the area that a record's content takes.
-fn part_of(kind: Kind, fields: Fields) -> Content
+#[tactic(auto, unfolding(crate::specs::Content::part_of))]
+fn part_of(kind: Kind, fields: Fields) -> Result<Part, ContentError>
     ensures { result ≡ part_of (whole kind fields 0) }
 {
-    if contents::has_content(kind) {
-        return Content::Part {
-            from: fields.number as usize,
-            size: contents::content_length(kind, fields),
-        };
+    if !contents::has_content(kind) {
+        return Err(ContentError::NoContent);
     }
-    Content::NoContent
+    Ok(Part {
+        from: fields.number as usize,
+        size: contents::content_length(kind, fields),
+    })
 }
 
 // The part of a record by its number, the store not being judged.
-fn part_at(store: &[u8], number: usize) -> Content
+fn part_at(store: &[u8], number: usize) -> Result<Part, ContentError>
     ensures { result ≡ part_of (nth (entries store.now) number) }
 {
     let mut left = number;
     let mut at = 0;
     while at < store.len() {
         let Some(Entry { kind, fields, next }) = entries::read_record(store, at) else {
-            return Content::NoContent;
+            return Err(ContentError::NoContent);
         };
         if left == 0 {
             return part_of(kind, fields);
@@ -124,15 +125,21 @@ fn part_at(store: &[u8], number: usize) -> Content
         left -= 1;
         at = next;
     }
-    Content::NoContent
+    Err(ContentError::NoContent)
 }
 
 // CONTENT: where the content of a record, by its number from 0, stands.
-pub fn find_content(reading: Reading, store: &[u8], area: &[u8], number: usize) -> Content
+#[tactic(auto, unfolding(crate::specs::Content::content_at))]
+pub fn find_content(
+    reading: Reading,
+    store: &[u8],
+    area: &[u8],
+    number: usize,
+) -> Result<Part, ContentError>
     ensures { result ≡ content_at reading store.now area.now number }
 {
     if !is_sound(reading, store, area) {
-        return Content::NotSound;
+        return Err(ContentError::NotSound);
     }
     part_at(store, number)
 }
@@ -141,62 +148,50 @@ pub fn find_content(reading: Reading, store: &[u8], area: &[u8], number: usize) 
 pub fn content_part<'a>(reading: Reading, store: &[u8], area: &'a [u8], number: usize) -> &'a [u8]
     ensures { result.now ≡ part_bytes area.now (content_at reading store.now area.now number) }
 {
-    let found = find_content(reading, store, area, number);
-    let Content::Part { from, size } = found else {
+    let Ok(part) = find_content(reading, store, area, number) else {
         return &area[0..0];
     };
-    let behind = from + size;
-    &area[from..behind]
+    &area[part.from..part.from + part.size]
 }
 
-impl Content {
-    // The answer in document 01's numbers.
-    pub fn report(self) -> Report
-        ensures { result ≡ content_report self }
-    {
-        let number = match self {
-            Content::Part { from: _, size: _ } => 0,
-            Content::NotSound => 12,
-            Content::NoContent => 14,
-        };
-        Report {
-            number,
-            offset: 0,
-            line: 0,
-            column: 0,
-            detail: 0,
-            first: 0,
-            second: 0,
-        }
-    }
+// The answer in document 01's numbers.
+#[tactic(auto, unfolding(crate::specs::Content::content_report, places::specs::Reports::refused_bare, places::specs::Reports::success))]
+pub fn report(answer: Result<Part, ContentError>) -> Report
+    ensures { result ≡ content_report answer }
+{
+    Report::bare(match answer {
+        Ok(_) => 0,
+        Err(ContentError::NotSound) => 12,
+        Err(ContentError::NoContent) => 14,
+    })
 }
 
 // The record at an offset of any bytes.
-pub fn record_at(store: &[u8], area: &[u8], at: usize) -> Walked
+#[tactic(auto, unfolding(crate::specs::Records::walked_at, crate::specs::Records::walked_of, crate::specs::Records::answered))]
+pub fn record_at(store: &[u8], area: &[u8], at: usize) -> Option<Walked>
     ensures { result ≡ walked_at store.now area.now at }
 {
-    let found = entries::read_record(store, at);
-    let Some(Entry { kind, fields, next }) = found else {
-        return Walked::NoRecord;
+    let Some(Entry { kind, fields, next }) = entries::read_record(store, at) else {
+        return None;
     };
     let number = kind.number();
     if !contents::has_content(kind) {
-        return Walked::Record {
+        return Some(Walked {
             number,
             fields,
             from: 0,
             size: 0,
             next,
-        };
+        });
     }
     if !contents::lies_inside(area.len(), kind, fields) {
-        return Walked::NoRecord;
+        return None;
     }
-    Walked::Record {
+    Some(Walked {
         number,
         fields,
         from: fields.number as usize,
         size: contents::content_length(kind, fields),
         next,
-    }
+    })
 }

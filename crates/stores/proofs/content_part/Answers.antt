@@ -1,28 +1,30 @@
 -- `stores::content_part`: a content found lies inside the area. Assumes nothing.
-use borrow.Enum.Refused.{opened}
-use Prim.Native.Nat.{◌+◌, ◌-◌}
+use Prim.Native.Nat.{◌+◌, ◌-◌, ◌≤◌}
 use mathlib.Core.Path.{◌≡◌, sym, ◌∙◌}
 use native.Mathlib.Omega.{arith}
+use lib.ListN.{length}
 use Rattle.stores.specs.Content.{part_bytes}
-use Rattle.stores.proofs.Looking.{content-inside, part-refused}
+use Rattle.stores.proofs.Looking.{content-inside}
 use Rattle.stores.proofs.content_part.Goals as goal
 
 pub returns-in_default : goal.returns-in_default
-returns-in_default c = rw (← c.find_content-found.ensures) (sym (part-refused _ c.find_content-found.result (opened c.in_default.in_default-own.keys2)))
+unfolding part_bytes
+returns-in_default c = rw (← c.find_content.ensures, c.in_default.is)
 
-pub overflow_add-behind : goal.overflow_add-behind
-overflow_add-behind c =
+pub overflow_add-result : goal.overflow_add-result
+overflow_add-result c =
     let given = c.args in
-    let inside = content-inside given.reading given.store.now given.area.now given.number c.in-Part.from c.in-Part.size (sym c.find_content-found.ensures ∙ c.in-Part.is) in
+    let inside : c.in-Ok.part.from + c.in-Ok.part.size ≤ length given.area.now = content-inside given.reading given.store.now given.area.now given.number _ _ (sym c.find_content.ensures ∙ c.in-Ok.is) in
     omega (arith, inside)
 
 pub slice_bounds-result-end-2 : goal.slice_bounds-result-end-2
 slice_bounds-result-end-2 c =
     let given = c.args in
-    content-inside given.reading given.store.now given.area.now given.number c.in-Part.from c.in-Part.size (sym c.find_content-found.ensures ∙ c.in-Part.is)
+    content-inside given.reading given.store.now given.area.now given.number _ _ (sym c.find_content.ensures ∙ c.in-Ok.is)
 
 pub returns : goal.returns
 unfolding part_bytes
 returns c =
-    let size : c.in-Part.from + c.in-Part.size - c.in-Part.from ≡ c.in-Part.size = omega arith in
-    rw (← c.find_content-found.ensures, c.in-Part.is, size)
+    let part = c.in-Ok.part in
+    let size : part.from + part.size - part.from ≡ part.size = omega arith in
+    rw (← c.find_content.ensures, c.in-Ok.is, size)
