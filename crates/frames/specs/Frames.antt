@@ -1,22 +1,16 @@
 -- Frames of a store: their names, which may not stand twice (document 02, Four: "then 13, for frame names too"), and the blocks. Records count from 0 over the whole store.
 -- A frame's name and a tag's are never alike. Assumes nothing.
-use Rattle.std.specs.Prelude.{ℕ, suc, ◌+◌, ◌≤◌, ◌≡◌, Bool, cond, List, [], ◌∷◌, eqb, ltb, drop, Option as Maybe, Some, None}
-use Rattle.std.proofs.Math.Option.{Option, none, some}
+use Rattle.std.specs.Prelude.{ℕ, suc, ◌≤◌, Bool, cond, List, [], ◌∷◌, eqb, ltb, drop, Option, Some, None}
 use Rattle.kinds.specs.Kinds.{number_of}
 use Rattle.entries.specs.declared.Entry.{Entry}
 use Rattle.entries.specs.Walk.{entries_from, entries}
 use Rattle.contents.specs.Contents.{content_bytes}
 use Rattle.names.specs.Names.{Name, names}
-use Rattle.names.specs.Parts.{name_of, Inside}
 use Rattle.naming.specs.Names.{Repeat, fresh, repeats, first_repeat}
 use Rattle.frames.specs.declared.Mark.{Mark}
-use Rattle.frames.specs.declared.Frame.{Frame}
-use Rattle.frames.specs.declared.Frame.TheVariants.{Met, End}
-use Rattle.frames.specs.declared.Seen.{Seen}
-use Rattle.frames.specs.declared.Seen.TheVariants.{At, Missing}
 
 -- the names of frames, all in one scope, among entries of which the first has the number i
-unfoldable pub frames_from : List (Maybe Entry) → List ℕ → ℕ → List Name
+unfoldable pub frames_from : List (Option Entry) → List ℕ → ℕ → List Name
 frames_from [] ar i = []
 frames_from (None ∷ es) ar i = []
 frames_from (Some e ∷ es) ar i =
@@ -38,7 +32,7 @@ unfoldable pub first_twice : List ℕ → List ℕ → Repeat
 first_twice st ar = earlier (first_repeat (names st ar)) (first_repeat (frames st ar))
 
 -- how many blocks
-unfoldable pub blocks_in : List (Maybe Entry) → ℕ
+unfoldable pub blocks_in : List (Option Entry) → ℕ
 blocks_in [] = 0
 blocks_in (None ∷ es) = 0
 blocks_in (Some e ∷ es) = let more = blocks_in es in cond (eqb (number_of e.kind) 1) (suc more) more
@@ -56,21 +50,3 @@ first = record { at = 0; number = 0; count = 0 }
 -- no more frames than records, no more records than bytes
 unfoldable pub Counted : Mark → Type 0
 Counted m = (m.count ≤ m.number) × (m.number ≤ m.at)
-
-unfoldable pub listed : List ℕ → List ℕ → Frame → List Name
-listed st ar (Met x after) = name_of ar x ∷ frames_at st ar after
-listed st ar End = []
-
-unfoldable pub Kept : List ℕ → ℕ → Frame → Type 0
-Kept ar n (Met x after) = Inside ar x × (after.count ≡ n + 1) × Counted after
-Kept ar n End = Unit
-
--- a step to the next frame
-pub record Ahead (st ar : List ℕ) (m : Mark) (r : Frame) : Type 0 where
-  pub names : frames_at st ar m ≡ listed st ar r
-  pub kept : Kept ar m.count r
-
--- a search's answer
-unfoldable pub seen_of : Option ℕ → Seen
-seen_of (some i) = At i
-seen_of none = Missing

@@ -1,138 +1,78 @@
 // Frames and blocks of a store: whether a frame's name stands twice, and whether there is one block only.
 #![tactic(auto)]
 
-ghost use Rattle.std.specs.Prelude.{◌≡◌, cond, eqb, take};
-ghost use Rattle.names.specs.Parts.{name_of, Inside};
-ghost use Rattle.naming.specs.Names.{first_same, first_repeat, naming_of};
-ghost use Rattle.frames.specs.Frames.{frames, Counted, Ahead, first, seen_of, is_single};
+ghost use Rattle.std.specs.Prelude.{◌≡◌, cond, eqb};
+ghost use Rattle.naming.specs.Names.{first_repeat, naming_of};
+ghost use Rattle.frames.specs.Frames.{frames, first, is_single};
 
-use entries::Entry;
 use kinds::Kind;
 use names::Named;
-use naming::Naming;
+use naming::{NameError, Walk};
 
 // Where a walk over frames stands: a record's offset and number, and how many frames stand before it.
-#[derive(Clone, Copy)]
+#[derive(Clone, Copy, Default)]
 pub struct Mark {
     pub at: usize,
     pub number: usize,
     pub count: usize,
 }
 
-// A step of the walk: the next frame's name, and the mark behind it.
-#[derive(Clone, Copy)]
-pub enum Frame {
-    Met { name: Named, after: Mark },
-    End,
-}
+impl Walk for Mark {
+    ghost use Rattle.frames.specs.Frames.{frames_at, Counted};
 
-// The record number of an earlier frame of the same name.
-#[derive(Clone, Copy)]
-enum Seen {
-    At(usize),
-    Missing,
+    ghost rest = { frames_at };
+
+    ghost ready = { Counted };
+
+    ghost passed = { λ m. m.count };
+
+    fn next<'a>(self, store: &[u8], area: &'a [u8]) -> Option<(Named<'a>, Mark)> {
+        let mut here = self;
+        while let Some(entry) = entries::read_record(store, here.at) {
+            let after = Mark {
+                at: entry.next,
+                number: here.number + 1,
+                count: here.count,
+            };
+            if entry.kind.number() == Kind::FRAME_OPEN {
+                let name = Named {
+                    at: here.at,
+                    number: here.number,
+                    scope: 0,
+                    bytes: steps::bytes_at(store, area, here.at),
+                };
+                let count = here.count + 1;
+                return Some((name, Mark { count, ..after }));
+            }
+            here = after;
+        }
+        None
+    }
+
+    fn passed(self) -> usize {
+        self.count
+    }
 }
 
 // The mark of the first record.
 fn start() -> Mark
     ensures { result ≡ first }
 {
-    Mark {
-        at: 0,
-        number: 0,
-        count: 0,
-    }
-}
-
-// The next frame at or behind a mark.
-fn next_frame(store: &[u8], area: &[u8], mark: Mark) -> Frame
-    requires { Counted mark }
-    ensures { Ahead store.now area.now mark result }
-{
-    let mut at = mark.at;
-    let mut number = mark.number;
-    while at < store.len() {
-        let Some(
-            Entry {
-                kind,
-                fields: _,
-                next,
-            },
-        ) = entries::read_record(store, at)
-        else {
-            return Frame::End;
-        };
-        if kind.number() == Kind::FRAME_OPEN {
-            let held = steps::name_at(store, area, at);
-            return Frame::Met {
-                name: Named {
-                    at,
-                    number,
-                    scope: 0,
-                    from: held.from,
-                    size: held.size,
-                },
-                after: Mark {
-                    at: next,
-                    number: number + 1,
-                    count: mark.count + 1,
-                },
-            };
-        }
-        number += 1;
-        at = next;
-    }
-    Frame::End
-}
-
-// The first of so many frames that has the same name.
-fn first_same(store: &[u8], area: &[u8], x: Named, count: usize) -> Seen
-    requires { Inside area.now x }
-    ensures { result ≡ seen_of (first_same (take count (frames store.now area.now)) (name_of area.now x)) }
-{
-    let mut mark = start();
-    let mut passed = 0;
-    while passed < count {
-        let Frame::Met { name, after } = next_frame(store, area, mark) else {
-            return Seen::Missing;
-        };
-        if names::same_both(area, name, x) {
-            return Seen::At(name.number);
-        }
-        mark = after;
-        passed += 1;
-    }
-    Seen::Missing
+    Mark::default()
 }
 
 // The earliest frame whose name stands before it.
-pub fn check_frames(store: &[u8], area: &[u8]) -> Naming
+pub fn check_frames(store: &[u8], area: &[u8]) -> Result<(), NameError>
     ensures { result ≡ naming_of (first_repeat (frames store.now area.now)) }
 {
-    let mut mark = start();
-    loop {
-        let Frame::Met { name, after } = next_frame(store, area, mark) else {
-            return Naming::Distinct;
-        };
-        let seen = first_same(store, area, name, mark.count);
-        if let Seen::At(first) = seen {
-            return Naming::Repeated {
-                first,
-                again: name.number,
-            };
-        }
-        mark = after;
-    }
+    naming::first_repeat(store, area, start(), start())
 }
 
 // 1 for a block's record, 0 for any other.
 fn block_in(kind: u8) -> usize
     ensures { result ≡ cond (eqb kind 1) 1 0 }
 {
-    if kind == Kind::BLOCK {
-        return 1;
-    }
-    0
+    if kind == Kind::BLOCK { 1 } else { 0 }
 }
 
 // Whether a store has one block.
@@ -141,19 +81,9 @@ pub fn is_single(store: &[u8]) -> bool
 {
     let mut blocks = 0;
     let mut at = 0;
-    while at < store.len() {
-        let Some(
-            Entry {
-                kind,
-                fields: _,
-                next,
-            },
-        ) = entries::read_record(store, at)
-        else {
-            return blocks == 1;
-        };
-        blocks += block_in(kind.number());
-        at = next;
+    while let Some(entry) = entries::read_record(store, at) {
+        blocks += block_in(entry.kind.number());
+        at = entry.next;
     }
     blocks == 1
 }

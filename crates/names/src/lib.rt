@@ -33,6 +33,7 @@ pub fn is_before(u: &[u8], v: &[u8]) -> bool
     if u.len() != v.len() {
         return u.len() < v.len();
     }
+    // An index into the other name: of what a `zip` gives a proof knows too little.
     for (i, x) in u.iter().enumerate() {
         let x = folding::to_lower(*x);
         let y = folding::to_lower(v[i]);
@@ -43,7 +44,7 @@ pub fn is_before(u: &[u8], v: &[u8]) -> bool
     false
 }
 
-// Whether records of a kind hold a name.
+// Whether records of a kind hold a name. Kinds by their numbers here and below: `Kind` would take fewer of them.
 #[tactic(auto, unfolding(crate::specs::Names::is_name_kind))]
 pub fn is_name(kind: u8) -> bool
     ensures { result ≡ is_name_kind kind }

@@ -63,11 +63,11 @@ fn first_same<W: Walk>(
     let mut here = start;
     for _passed in 0..count {
         let met = here.next(store, area)?;
-        let name = met.0;
+        let (name, after) = met;
         if names::same_both(name, x) {
             return Some(name.number);
         }
-        here = met.1;
+        here = after;
     }
     None
 }
@@ -79,12 +79,12 @@ pub fn first_repeat<W: Walk>(store: &[u8], area: &[u8], start: W, from: W) -> Re
 {
     let mut here = from;
     while let Some(met) = here.next(store, area) {
-        let name = met.0;
+        let (name, after) = met;
         if let Some(first) = first_same(store, area, start, name, here.passed()) {
             let again = name.number;
             return Err(NameError::Repeated { first, again });
         }
-        here = met.1;
+        here = after;
     }
     Ok(())
 }

@@ -47,7 +47,8 @@ fn pass(store: &[u8], area: &[u8], table: &[u32], at: usize, half: usize, x: &[u
     }
 }
 
-// How many entries come before a name, found by halving.
+// How many entries come before a name, found by halving. Not by `partition_point`, which promises nothing of a table that is not sorted:
+// names that are the same have one place here whatever the table is.
 fn place_of(store: &[u8], area: &[u8], table: &[u32], x: &[u8]) -> usize
     ensures { result ≡ place_of store.now area.now table.now x.now }
 {

@@ -46,7 +46,7 @@ content-is ar e from n p q = by (leb e.fields.number (length ar)) refl
         rw (size, content-bytes ar e.kind e.fields, none) (sym (take-nil (e.fields.token.length - marks_of e.kind)))
 
 -- where a record stands, the store goes on
-some-within : (st : List ℕ) (at : ℕ) (e : Entry) → entry_at st at ≡ Some e → at < length st
+pub some-within : (st : List ℕ) (at : ℕ) (e : Entry) → entry_at st at ≡ Some e → at < length st
 unfolding entry_at entry_of
 some-within st at e q = by (leb (length st) at) refl
   where

@@ -1,4 +1,5 @@
-// The walk from name to name through a store, and the name of the record at an offset.
+// The walk from name to name through a store, and the name of the record at an offset. Store and area come as two slices, as they do from
+// C: a struct of both would be taken apart again in each contract.
 #![tactic(auto)]
 
 ghost use Rattle.std.specs.Prelude.{◌≡◌, ℕ, ◌+◌, ◌^◌, ◌<◌};

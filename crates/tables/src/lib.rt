@@ -81,7 +81,8 @@ fn enter(table: &mut [u32; SLOTS], many: bool, scope: usize, x: Named<'_>) -> bo
     !slots::is_known(table, many, h)
 }
 
-// Enters names of the scope up to one that may be there already or finds no room; its spot, or the one behind so many names.
+// Enters names of the scope up to one that may be there already or finds no room; its spot, or the one behind so many names. Its own loop, as
+// each of these three has: what a closure did to a table is not known behind the loop that called it.
 pub fn enter_names(scope: Scope<'_>, table: &mut [u32; SLOTS], many: bool, from: Spot) -> Spot
     requires { Starts scope from }
     ensures { Owned scope.entry (marked_with table.new many scope.entry.number) from result }

@@ -56,6 +56,7 @@ fn gather(scope: Scope<'_>, table: &mut [u32; SLOTS], from: Spot) -> usize
 {
     let mut here = from;
     let mut n = 0;
+    // `n` counts the names that were kept, not those that were passed.
     while n < SLOTS {
         let Some(Met { name, after }) = scope.next(here) else {
             return n;
