@@ -239,7 +239,11 @@ module _ (old : Bool) (st ar st' ar' : List ℕ) where
         }
 
 -- ONE VALUE
-other-same : (c : Case) → (c ≡ Same → ⊥) → eqb (case_number c) 0 ≡ false
+pub same-number : (c : Case) → c ≡ Same → case_number c ≡ 0
+unfolding case_number
+same-number c e = ap case_number e
+
+pub other-same : (c : Case) → (c ≡ Same → ⊥) → eqb (case_number c) 0 ≡ false
 unfolding case_number
 other-same Same d = absurd (d refl)
 other-same OnlyOld d = refl

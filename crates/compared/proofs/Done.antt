@@ -7,26 +7,28 @@ use native.Mathlib.Omega.{arith}
 use lib.Dec.{leb}
 use lib.ListN.{length, take}
 use Rattle.rules.specs.declared.Reading.{Reading}
-use Rattle.places.specs.Reports.{success, refused_bare, no_room}
+use Rattle.places.specs.Reports.{success, refused_bare, of_records, no_room}
 use Rattle.records.proofs.Putting.{take-front}
 use Rattle.naming.specs.declared.Naming.{Naming}
 use Rattle.naming.specs.declared.Naming.TheVariants.{Distinct, NotSound, Repeated}
-use Rattle.comparing.specs.declared.Comparing.TheVariants.{Compared, NoRoom}
+use Rattle.std.specs.Prelude.{Result, Ok, Err}
+use Rattle.comparing.specs.declared.CompareError.{CompareError}
+use Rattle.comparing.specs.declared.CompareError.TheVariants.{NoRoom}
 use Rattle.comparing.specs.Comparing.{bytes_of, judged, refusal_of, fitted, answered, comparing, list_after, comparing_report}
 
 pub record Done (r : Reading) (st ar st' ar' : List ℕ) (room : ℕ) : Type 0 where
   pub old : judged r st ar ≡ Distinct
   pub new : judged r st' ar' ≡ Distinct
-  pub answer : comparing r st ar st' ar' room ≡ Compared (length (bytes_of st ar st' ar'))
+  pub answer : comparing r st ar st' ar' room ≡ Ok (length (bytes_of st ar st' ar'))
 
 pub done : (r : Reading) (st ar st' ar' : List ℕ) (room : ℕ) → (comparing_report (comparing r st ar st' ar' room)).number ≡ 0 → Done r st ar st' ar' room
-unfolding comparing answered refusal_of fitted comparing_report success refused_bare no_room
+unfolding comparing answered refusal_of fitted comparing_report success refused_bare of_records no_room
 done r st ar st' ar' room h = both (judged r st ar) (judged r st' ar') refl refl h
   where
     needed : ℕ
     needed = length (bytes_of st ar st' ar')
 
-    fits : (t : Bool) → (comparing_report (cond t (Compared needed) (NoRoom needed))).number ≡ 0 → cond t (Compared needed) (NoRoom needed) ≡ Compared needed
+    fits : (t : Bool) → (comparing_report (cond t (Ok needed) (Err (NoRoom needed)))).number ≡ 0 → ◌≡◌ {A = Result ℕ CompareError} (cond t (Ok needed) (Err (NoRoom needed))) (Ok needed)
     fits true q = refl
     fits false q = absurd (omega (arith, q))
 

@@ -9,7 +9,7 @@ use Rattle.rules.specs.declared.Reading.{Reading}
 use Rattle.records.specs.Put.{front}
 use Rattle.naming.specs.declared.Naming.TheVariants.{Distinct}
 use Rattle.changes.specs.Changes.{changes_bytes}
-use Rattle.comparing.specs.declared.Comparing.TheVariants.{Compared}
+use Rattle.std.specs.Prelude.{Ok}
 use Rattle.comparing.specs.Comparing.{bytes_of, judged, refusal_of, fitted, answered, comparing, list_after}
 use Rattle.comparing.proofs.Answers.{judged-singular}
 use Rattle.soles.specs.Members.{Sole}
@@ -26,7 +26,7 @@ itself-empty r st ar e = rw (self-empty st ar (judged-sole r st ar e))
 
 -- where the list of two stores that may be compared is empty, any room will do, and the lent list stays as it was
 module _ (r : Reading) (st ar st' ar' : List ℕ) (e : judged r st ar ≡ Distinct) (e' : judged r st' ar' ≡ Distinct) (none : bytes_of st ar st' ar' ≡ []) where
-  pub empty-compared : (room : ℕ) → comparing r st ar st' ar' room ≡ Compared 0
+  pub empty-compared : (room : ℕ) → comparing r st ar st' ar' room ≡ Ok 0
   unfolding comparing refusal_of answered fitted
   empty-compared room = rw (e, e', none, le-leb 0 room (omega arith))
 

@@ -24,6 +24,7 @@ use Rattle.names.specs.Names.{Name, block_after, scope_after, names_from, names}
 use Rattle.naming.specs.declared.Naming.TheVariants.{Distinct}
 use Rattle.frames.specs.Frames.{frames_from, frames}
 use Rattle.cells.specs.Cells.{Cell, cells, name_of}
+use Rattle.number_cases.specs.declared.Case.TheVariants.{Same}
 use Rattle.cases.specs.Cases.{is_text, case_of}
 use Rattle.changes.specs.Changes.{changes}
 use Rattle.comparing.specs.Comparing.{judged}
@@ -114,7 +115,7 @@ text-shape Uncertain e = absurd (true≢false (sym e))
 text-shape Quoted e = refl
 
 -- values
-value_same : (ar ar' : List ℕ) (e e' : Option Entry) → IsRecord e → saying ar e ≡ saying ar' e' → case_of ar ar' e e' ≡ 0
+value_same : (ar ar' : List ℕ) (e e' : Option Entry) → IsRecord e → saying ar e ≡ saying ar' e' → case_of ar ar' e e' ≡ Same
 value_same ar ar' (Some e) e' met q =
     let a = alike ar ar' e.kind e.fields e.next e' q in
     ap (case_of ar ar' (Some e)) a.is ∙ case_twin ar ar' e.kind e.fields a.fields e.next a.end a.parts (λ t. shown ar ar' e.kind e.fields a.fields (text-shape e.kind t) a.content)

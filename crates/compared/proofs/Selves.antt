@@ -18,10 +18,11 @@ use Rattle.entries.specs.declared.Entry.{Entry}
 use Rattle.entries.specs.Walk.{entries}
 use Rattle.kinds.specs.Kinds.{is_value_kind}
 use Rattle.stores.specs.Content.{nth}
-use Rattle.number_cases.specs.Numbers.{same_parts, numbers_case}
+use Rattle.number_cases.specs.declared.Case.TheVariants.{Same}
+use Rattle.number_cases.specs.Numbers.{case_number, same_parts, numbers_case}
 use Rattle.number_cases.proofs.Cases.{same_none}
 use Rattle.cells.specs.Cells.{Cell, Under, outset, under, cell, cells_from, cells, name_of}
-use Rattle.cases.specs.Cases.{is_number, is_text, unmarked, others_case, case_of}
+use Rattle.cases.specs.Cases.{is_number, is_text, unmarked, agree, others_case, case_of}
 use Rattle.partners.specs.Partners.{same_frame, meets, partner_in, partner}
 use Rattle.changes.specs.declared.Change.{Change}
 use Rattle.changes.specs.Changes.{change, of_old, of_new, of_side, of_all, side_of, changes}
@@ -36,22 +37,22 @@ parts_self p =
     rw (eq-eqb p.sign p.sign refl, eq-eqb p.integer p.integer refl, eq-eqb p.fraction p.fraction refl, eq-eqb p.places p.places refl, eq-eqb p.exponent p.exponent refl)
     (eq-eqb p.uncertainty p.uncertainty refl)
 
-pub numbers-self : (k : ℕ) (p : Parts) → numbers_case k k p p ≡ 0
+pub numbers-self : (k : ℕ) (p : Parts) → numbers_case k k p p ≡ Same
 numbers-self k p = sym (same_none k k p p (ap₂ (λ (a b : Bool). a && b) (eq-eqb k k refl) (parts_self p)))
 
 either : (t : Bool) → cond t true true ≡ true
 either true = refl
 either false = refl
 
-pub others-self : (k : ℕ) (c : List ℕ) → others_case k k c c ≡ 0
-unfolding others_case
+pub others-self : (k : ℕ) (c : List ℕ) → others_case k k c c ≡ Same
+unfolding others_case agree
 others-self k c = rw (bytes_same (unmarked k c), eq-eqb k k refl, either (is_text k && is_text k))
 
-pub case-self : (ar : List ℕ) (k : Kind) (f : Fields) (n : ℕ) → case_of ar ar (whole k f n) (whole k f n) ≡ 0
+pub case-self : (ar : List ℕ) (k : Kind) (f : Fields) (n : ℕ) → case_of ar ar (whole k f n) (whole k f n) ≡ Same
 unfolding case_of
 case-self ar k f n = rw (numbers-self (number_of k) f.parts, others-self (number_of k) _) (by (is_number (number_of k) && is_number (number_of k)))
   where
-    by : (t : Bool) → ◌≡◌ {A = ℕ} (cond t 0 0) 0
+    by : (t : Bool) → cond t Same Same ≡ Same
     by true = refl
     by false = refl
 
@@ -89,7 +90,7 @@ value-record st x m =
     let z : x.number - 0 ≡ x.number = omega arith in
     rw z at s.whole
 
-case-record : (ar : List ℕ) (e : Maybe Entry) → IsRecord e → case_of ar ar e e ≡ 0
+case-record : (ar : List ℕ) (e : Maybe Entry) → IsRecord e → case_of ar ar e e ≡ Same
 case-record ar (Some e) met = case-self ar e.kind e.fields e.next
 case-record ar None x' = elim x' [ ]
 
@@ -124,7 +125,7 @@ partner-self st ar s x m = partner-in st ar x (cells st) m (λ y q e. s x y m q 
 -- and gives no entry
 module _ (st ar : List ℕ) (s : Sole st ar) where
   side-self : (old : Bool) (x : Cell) → In x (cells st) → of_side old st ar st ar x ≡ []
-  unfolding of_side of_old of_new change
+  unfolding of_side of_old of_new change case_number
   side-self true x m = rw (partner-self st ar s x m, case-record ar (nth (entries st) x.number) (value-record st x m))
   side-self false x m = rw (partner-self st ar s x m)
 

@@ -5,8 +5,7 @@ use mathlib.Core.Path.{◌≡◌, refl, sym, ap, subst, ◌∙◌}
 use mathlib.Core.Bool.{Bool, true, false, cond}
 use mathlib.Core.List.{List, [], ◌∷◌, ◌++◌}
 use mathlib.Core.Option.{Option, none, some}
-use native.Mathlib.Omega.{arith}
-use borrow.Author.Tests.{eqb-true, eqb-false, ne_eqb}
+use borrow.Author.Tests.{eqb-false}
 use lib.Dec.{eqb}
 use Rattle.rules.specs.declared.Reading.{Reading}
 use Rattle.entries.specs.Walk.{entries}
@@ -15,6 +14,10 @@ use Rattle.naming.specs.declared.Naming.TheVariants.{Distinct}
 use Rattle.cells.specs.Cells.{Cell, cells}
 use Rattle.cases.specs.Cases.{case_of}
 use Rattle.partners.specs.Partners.{partner}
+use Rattle.number_cases.specs.declared.Case.{Case}
+use Rattle.number_cases.specs.declared.Case.TheVariants.{Same, OnlyOld, OnlyNew, Different, OldLarger, NewLarger, Uncertainty, Rewritten}
+use Rattle.number_cases.specs.Numbers.{case_number}
+use Rattle.changes.proofs.Changes.{other-same, same-number}
 use Rattle.changes.specs.declared.Change.{Change}
 use Rattle.changes.specs.Changes.{change, of_old, of_new, of_side, of_all, side_of, changes}
 use Rattle.comparing.specs.Comparing.{judged}
@@ -71,37 +74,41 @@ module _ (old : Bool) (st ar st' ar' : List ℕ) (c : Change) where
   to-all [] x x4 m = elim x4 [ ]
 
 -- the one entry of a case
-record One (n i j : ℕ) (c : Change) : Type 0 where
-  some : n ≡ 0 → ⊥
+record One (n : Case) (i j : ℕ) (c : Change) : Type 0 where
+  some : n ≡ Same → ⊥
   is : record { case = n; old = i; new = j } ≡ c
 
-one_of : (n i j : ℕ) (c : Change) → In c (change n i j) → One n i j c
+one_of : (n : Case) (i j : ℕ) (c : Change) → In c (change n i j) → One n i j c
 unfolding change
-one_of n i j c m = by (eqb n 0) refl m
+one_of n i j c m = by (eqb (case_number n) 0) refl m
   where
     it : Change
     it = record { case = n; old = i; new = j }
 
-    by : (t : Bool) → eqb n 0 ≡ t → In c (cond t [] (it ∷ [])) → One n i j c
-    by false q (here e) = record { some = eqb-false n 0 q; is = e }
+    by : (t : Bool) → eqb (case_number n) 0 ≡ t → In c (cond t [] (it ∷ [])) → One n i j c
+    by false q (here e) = record { some = λ z. eqb-false (case_number n) 0 q (same-number n z); is = e }
     by false q (there x5) = elim x5 [ ]
     by true q x3 = elim x3 [ ]
 
-one-to : (n i j : ℕ) (c : Change) → One n i j c → In c (change n i j)
+one-to : (n : Case) (i j : ℕ) (c : Change) → One n i j c → In c (change n i j)
 unfolding change
-one-to n i j c o = rw (ne_eqb n 0 o.some) (here o.is)
+one-to n i j c o = rw (other-same n o.some) (here o.is)
 
--- a case that is none stays none
-turned-some : (n : ℕ) → (n ≡ 0 → ⊥) → turned_case n ≡ 0 → ⊥
+-- turning twice changes nothing, so a case that is an entry's stays one
+twice-case : (n : Case) → turned_case (turned_case n) ≡ n
 unfolding turned_case
-turned-some n d e = by (eqb n 1) (eqb n 2) (eqb n 4) (eqb n 5) e
-  where
-    by : (p q r s : Bool) → cond p 2 (cond q 1 (cond r 5 (cond s 4 n))) ≡ 0 → ⊥
-    by true q r s e = omega arith
-    by false true r s e = omega arith
-    by false false true s e = omega arith
-    by false false false true e = omega arith
-    by false false false false e = d e
+twice-case Same = refl
+twice-case OnlyOld = refl
+twice-case OnlyNew = refl
+twice-case Different = refl
+twice-case OldLarger = refl
+twice-case NewLarger = refl
+twice-case Uncertainty = refl
+twice-case Rewritten = refl
+
+turned-some : (n : Case) → (n ≡ Same → ⊥) → turned_case n ≡ Same → ⊥
+unfolding turned_case
+turned-some n d e = d (sym (twice-case n) ∙ ap turned_case e)
 
 module _ (st ar st' ar' : List ℕ) (s : Sole st ar) where
   -- the partner of x has x for its own
@@ -117,11 +124,11 @@ module _ (st ar st' ar' : List ℕ) (s : Sole st ar) where
   partner-among x y e = (partner-some st ar st' ar' x (cells st') y e).among
 
   -- the entry of a value that the old store alone has
-  lone : (x : Cell) → partner st ar st' ar' x ≡ none → (c : Change) → In c (change 1 x.number 0) → In (turned c) (of_side false st ar st' ar' x)
+  lone : (x : Cell) → partner st ar st' ar' x ≡ none → (c : Change) → In c (change OnlyOld x.number 0) → In (turned c) (of_side false st ar st' ar' x)
   unfolding of_side of_new turned turned_case
   lone x e c q =
-      let o = one_of 1 x.number 0 c q in
-      rw e (one-to 2 0 x.number (turned c) (record { some = λ (z : ◌≡◌ {A = ℕ} 2 0). omega arith; is = ap turned o.is }))
+      let o = one_of OnlyOld x.number 0 c q in
+      rw e (one-to OnlyNew 0 x.number (turned c) (record { some = λ (z : OnlyNew ≡ Same). cc; is = ap turned o.is }))
 
   -- of one that both have
   paired :
@@ -129,16 +136,16 @@ module _ (st ar st' ar' : List ℕ) (s : Sole st ar) where
       In c (change (case_of ar ar' (nth (entries st) x.number) (nth (entries st') y.number)) x.number y.number) → In (turned c) (of_side true st' ar' st ar y)
   unfolding of_side of_old turned
   paired x y m e c q =
-      let n : ℕ = case_of ar ar' (nth (entries st) x.number) (nth (entries st') y.number) in
-      let n' : ℕ = case_of ar' ar (nth (entries st') y.number) (nth (entries st) x.number) in
+      let n : Case = case_of ar ar' (nth (entries st) x.number) (nth (entries st') y.number) in
+      let n' : Case = case_of ar' ar (nth (entries st') y.number) (nth (entries st) x.number) in
       let o = one_of n x.number y.number c q in
       let t : n' ≡ turned_case n = case-turned ar ar' (nth (entries st) x.number) (nth (entries st') y.number) in
       let back : partner st' ar' st ar y ≡ some x = partner-back x y m e in
       rw back
       (one-to n' y.number x.number (turned c)
       (record {
-        some = λ (z : n' ≡ 0). turned-some n o.some (sym t ∙ z);
-        is = ap (λ (i : ℕ). record { case = i; old = y.number; new = x.number }) t ∙ ap turned o.is;
+        some = λ (z : n' ≡ Same). turned-some n o.some (sym t ∙ z);
+        is = ap (λ (i : Case). record { case = i; old = y.number; new = x.number }) t ∙ ap turned o.is;
       }))
 
   old-turned : (x : Cell) (o : Option Cell) → partner st ar st' ar' x ≡ o → In x (cells st) → (c : Change) → In c (of_old st ar st' ar' x o) → In (turned c) (changes st' ar' st ar)
@@ -147,11 +154,11 @@ module _ (st ar st' ar' : List ℕ) (s : Sole st ar) where
   old-turned x (some y) e m c q = in_left (of_all false st ar st' ar' (cells st)) (to-all true st' ar' st ar (turned c) (cells st') y (partner-among x y e) (paired x y m e c q))
 
   -- of one that the new store alone has
-  fresh-turned : (y : Cell) → partner st' ar' st ar y ≡ none → (c : Change) → In c (change 2 0 y.number) → In (turned c) (of_side true st' ar' st ar y)
+  fresh-turned : (y : Cell) → partner st' ar' st ar y ≡ none → (c : Change) → In c (change OnlyNew 0 y.number) → In (turned c) (of_side true st' ar' st ar y)
   unfolding of_side of_old turned turned_case
   fresh-turned y e c q =
-      let o = one_of 2 0 y.number c q in
-      rw e (one-to 1 y.number 0 (turned c) (record { some = λ (z : ◌≡◌ {A = ℕ} 1 0). omega arith; is = ap turned o.is }))
+      let o = one_of OnlyNew 0 y.number c q in
+      rw e (one-to OnlyOld y.number 0 (turned c) (record { some = λ (z : OnlyOld ≡ Same). cc; is = ap turned o.is }))
 
   new-turned : (y : Cell) (o : Option Cell) → partner st' ar' st ar y ≡ o → In y (cells st') → (c : Change) → In c (of_new y o) → In (turned c) (changes st' ar' st ar)
   unfolding of_new changes side_of
@@ -179,17 +186,6 @@ pub swapped : (r : Reading) (st ar st' ar' : List ℕ) → judged r st ar ≡ Di
 swapped r st ar st' ar' e = swap-sole st ar st' ar' (judged-sole r st ar e)
 
 -- and turning twice changes nothing
-twice-case : (n : ℕ) → turned_case (turned_case n) ≡ n
-unfolding turned_case
-twice-case n = by (eqb n 1) (eqb n 2) (eqb n 4) (eqb n 5) refl refl refl refl
-  where
-    by : (p q r s : Bool) → eqb n 1 ≡ p → eqb n 2 ≡ q → eqb n 4 ≡ r → eqb n 5 ≡ s → turned_case (turned_case n) ≡ n
-    by true q r s a b c d = let e : n ≡ 1 = eqb-true n 1 a in rw e
-    by false true r s a b c d = let e : n ≡ 2 = eqb-true n 2 b in rw e
-    by false false true s a b c d = let e : n ≡ 4 = eqb-true n 4 c in rw e
-    by false false false true a b c d = let e : n ≡ 5 = eqb-true n 5 d in rw e
-    by false false false false a b c d = let e : turned_case n ≡ n = rw (a, b, c, d) in ap turned_case e ∙ e
-
 pub turned-twice : (c : Change) → turned (turned c) ≡ c
 unfolding turned
-turned-twice c = ap (λ (n : ℕ). record { case = n; old = c.old; new = c.new }) (twice-case c.case)
+turned-twice c = ap (λ (n : Case). record { case = n; old = c.old; new = c.new }) (twice-case c.case)

@@ -10,13 +10,15 @@ use Rattle.equal.proofs.Bytes.{bytes-turned}
 use Rattle.kinds.specs.Kinds.{number_of}
 use Rattle.entries.specs.declared.Parts.{Parts}
 use Rattle.entries.specs.declared.Entry.{Entry}
-use Rattle.orders.specs.declared.Order.{Order}
-use Rattle.orders.specs.declared.Order.TheVariants.{Less, Same, More}
-use Rattle.orders.specs.Order.{flipped}
+use Rattle.std.specs.Ordering.{ordering_reverse}
+use Rattle.std.specs.declared.cmp.Ordering.{Ordering}
+use Rattle.std.specs.declared.cmp.Ordering.TheVariants.{Less, Equal, Greater}
+use Rattle.number_cases.specs.declared.Case.{Case}
+use Rattle.number_cases.specs.declared.Case.TheVariants.{Same, Different}
 use Rattle.amounts.specs.Exact.{value_order, uncertainty_order}
 use Rattle.amounts.proofs.Laws.{value-turned, doubt-turned}
 use Rattle.number_cases.specs.Numbers.{same_parts, numbers_case, number_case, equal_case}
-use Rattle.cases.specs.Cases.{is_number, is_text, unmarked, others_case, case_of}
+use Rattle.cases.specs.Cases.{is_number, is_text, unmarked, agree, others_case, case_of}
 use Rattle.compared.specs.Turned.{turned_case}
 use Rattle.std.specs.Prelude.{Option, Some, None}
 
@@ -39,25 +41,25 @@ parts-turned p q =
     rw (eqb-turned p.sign q.sign, eqb-turned p.integer q.integer, eqb-turned p.fraction q.fraction, eqb-turned p.places q.places, eqb-turned p.exponent q.exponent, eqb-turned p.uncertainty q.uncertainty)
 
 -- the table of cases
-table : (o w : Order) (t : Bool) → number_case (flipped o) (equal_case (flipped w) t) ≡ turned_case (number_case o (equal_case w t))
-unfolding number_case equal_case flipped turned_case
+table : (o w : Ordering) (t : Bool) → number_case (ordering_reverse o) (equal_case (ordering_reverse w) t) ≡ turned_case (number_case o (equal_case w t))
+unfolding number_case equal_case turned_case
 table Less w t = refl
-table More w t = refl
-table Same Less t = refl
-table Same More t = refl
-table Same Same true = refl
-table Same Same false = refl
+table Greater w t = refl
+table Equal Less t = refl
+table Equal Greater t = refl
+table Equal Equal true = refl
+table Equal Equal false = refl
 
 numbers-turned : (k j : ℕ) (p q : Parts) → numbers_case j k q p ≡ turned_case (numbers_case k j p q)
 unfolding numbers_case
 numbers-turned k j p q = rw (← value-turned p q, ← doubt-turned p q, eqb-turned j k, parts-turned q p) (table (value_order p q) (uncertainty_order p q) (eqb k j && same_parts p q))
 
 others-turned : (k j : ℕ) (c d : List ℕ) → others_case j k d c ≡ turned_case (others_case k j c d)
-unfolding others_case turned_case
+unfolding others_case agree turned_case
 others-turned k j c d =
     rw (and-turned (is_text j) (is_text k), bytes-turned (unmarked j d) (unmarked k c), eqb-turned j k) (by (cond (is_text k && is_text j) (equal_bytes (unmarked k c) (unmarked j d)) (eqb k j)))
   where
-    by : (t : Bool) → cond t 0 3 ≡ turned_case (cond t 0 3)
+    by : (t : Bool) → cond t Same Different ≡ turned_case (cond t Same Different)
     by true = refl
     by false = refl
 
@@ -69,6 +71,6 @@ case-turned ar ar' (Some e) None = refl
 case-turned ar ar' (Some e) (Some x) =
     rw (and-turned (is_number (number_of x.kind)) (is_number (number_of e.kind)), numbers-turned (number_of e.kind) (number_of x.kind) e.fields.parts x.fields.parts, others-turned (number_of e.kind) (number_of x.kind) _ _) (by (is_number (number_of e.kind) && is_number (number_of x.kind)) _ _)
   where
-    by : (t : Bool) (a b : ℕ) → cond t (turned_case a) (turned_case b) ≡ turned_case (cond t a b)
+    by : (t : Bool) (a b : Case) → cond t (turned_case a) (turned_case b) ≡ turned_case (cond t a b)
     by true a b = refl
     by false a b = refl

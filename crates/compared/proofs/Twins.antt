@@ -14,7 +14,9 @@ use Rattle.entries.specs.declared.Fields.{Fields}
 use Rattle.contents.specs.Contents.{content_bytes}
 use Rattle.naming.specs.declared.Naming.TheVariants.{Distinct}
 use Rattle.cells.specs.Cells.{Cell, cells, name_of}
-use Rattle.cases.specs.Cases.{is_number, is_text, unmarked, others_case, case_of}
+use Rattle.number_cases.specs.declared.Case.TheVariants.{Same, Different}
+use Rattle.number_cases.specs.Numbers.{case_number}
+use Rattle.cases.specs.Cases.{is_number, is_text, unmarked, agree, others_case, case_of}
 use Rattle.partners.specs.Partners.{same_frame, meets, partner}
 use Rattle.changes.specs.declared.Change.{Change}
 use Rattle.changes.specs.Changes.{change, of_old, of_new, of_side, of_all, side_of, changes}
@@ -63,7 +65,7 @@ module _ (st ar st' ar' : List ℕ) (s : Sole st ar) (t : Twins st ar st' ar') w
       (λ z p e. s x z m p (meets-through st ar st' ar' st ar x x z (meets-twin x m) e))
 
   old-none : (x : Cell) → In x (cells st) → of_side true st ar st' ar' x ≡ []
-  unfolding of_side of_old change
+  unfolding of_side of_old change case_number
   old-none x m = rw (partner-twin x m, t.values x m)
 
   new_none : (x : Cell) → In x (cells st) → of_side false st' ar' st ar x ≡ []
@@ -84,18 +86,18 @@ pub twins-empty : (r : Reading) (st ar st' ar' : List ℕ) → judged r st ar �
 twins-empty r st ar st' ar' e t = twins-sole st ar st' ar' (judged-sole r st ar e) t
 
 -- records of one kind with equal parts and, if they are texts, equal contents are the same
-texts-twin : (k : ℕ) (c d : List ℕ) → (is_text k ≡ true → c ≡ d) → others_case k k c d ≡ 0
-unfolding others_case
+texts-twin : (k : ℕ) (c d : List ℕ) → (is_text k ≡ true → c ≡ d) → others_case k k c d ≡ Same
+unfolding others_case agree
 texts-twin k c d h = by (is_text k) refl
   where
-    by : (b : Bool) → is_text k ≡ b → ◌≡◌ {A = ℕ} (cond (cond (is_text k && is_text k) (equal_bytes (unmarked k c) (unmarked k d)) (eqb k k)) 0 3) 0
+    by : (b : Bool) → is_text k ≡ b → cond (cond (is_text k && is_text k) (equal_bytes (unmarked k c) (unmarked k d)) (eqb k k)) Same Different ≡ Same
     by true q = ap (λ (l : List ℕ). others_case k k c l) (sym (h q)) ∙ others-self k c
     by false q = rw q (rw q at (others-self k c))
 
-pub case_twin : (ar ar' : List ℕ) (k : Kind) (f g : Fields) (n m : ℕ) → f.parts ≡ g.parts → (is_text (number_of k) ≡ true → content_bytes ar k f ≡ content_bytes ar' k g) → case_of ar ar' (whole k f n) (whole k g m) ≡ 0
+pub case_twin : (ar ar' : List ℕ) (k : Kind) (f g : Fields) (n m : ℕ) → f.parts ≡ g.parts → (is_text (number_of k) ≡ true → content_bytes ar k f ≡ content_bytes ar' k g) → case_of ar ar' (whole k f n) (whole k g m) ≡ Same
 unfolding case_of
 case_twin ar ar' k f g n m p h = rw (texts-twin (number_of k) (content_bytes ar k f) (content_bytes ar' k g) h, ← p, numbers-self (number_of k) f.parts) (by (is_number (number_of k) && is_number (number_of k)))
   where
-    by : (t : Bool) → ◌≡◌ {A = ℕ} (cond t 0 0) 0
+    by : (t : Bool) → cond t Same Same ≡ Same
     by true = refl
     by false = refl

@@ -91,6 +91,7 @@ fn write_list(old: Side<'_>, new: Side<'_>, list: &mut [u8]) -> Result<usize, Co
 }
 
 // COMPARE: 12, 13, 10. The list is lent; a refusal writes nothing.
+// Stores and areas come as they are lent: sides, built by each caller, would be no plainer.
 pub fn compare(
     reading: Reading,
     store: &[u8],

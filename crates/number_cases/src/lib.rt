@@ -41,6 +41,7 @@ fn equal_case(uncertainties: Ordering) -> Case
 }
 
 // The case of two numbers; most are the same, which is told first.
+// Kinds come as numbers: the type of kinds has fewer values, and would ask more.
 pub fn numbers_case(kind: u8, kind2: u8, p: Parts, q: Parts) -> Case
     requires { Kept p × Kept q }
     ensures { result ≡ numbers_case kind kind2 p q }

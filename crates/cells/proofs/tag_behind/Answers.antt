@@ -1,13 +1,7 @@
 -- `cells::tag_behind`: behind the last column comes the first again, behind any other the next tag. Assumes nothing.
 use native.Mathlib.Omega.{arith}
-use native.Mathlib.Nat.{mod-le}
 use Rattle.cells.proofs.Cells.{tag-again, tag-next}
 use Rattle.cells.proofs.tag_behind.Goals as goal
-
-pub overflow_add-column : goal.overflow_add-column
-overflow_add-column c =
-    let h = c.args.here in
-    record { fits = omega (arith, c.column_of-column.ensures, mod-le h.count h.tags, c.requires.1) }
 
 pub returns-then-column-here : goal.returns-then-column-here
 returns-then-column-here c =
