@@ -8,4 +8,4 @@ pub returns-then-x-y : goal.returns-then-x-y
 returns-then-x-y c = same-other _ _ (λ e. omega arith)
 
 pub returns : goal.returns
-returns c = c.same_name.ensures ∙ same-within _ _ (omega arith)
+returns c = c.same_name.ensures ∙ rw (c.part.ensures, c.part-2.ensures) (same-within _ _ (omega arith))
