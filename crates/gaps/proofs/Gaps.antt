@@ -18,6 +18,7 @@ use Rattle.gaps.specs.Gaps.{gap_byte, gap_then, gap_in, gap, gap_end, shows_no_g
 use Rattle.text.specs.Runs.{span, span_end}
 use Rattle.places.specs.Lines.{in_line, line_end}
 use Rattle.text.proofs.Bools.{or_l, or_r, or_cases}
+use Rattle.text.proofs.Blocks.{span-keeps}
 use Rattle.places.proofs.Lines.{line-go, line-from}
 
 -- byte by byte
@@ -131,6 +132,10 @@ eol-space b e = or_cases (eqb b 10) (eqb b 13) (λ t. by 10 (eqb-true b 10 t) re
 pub gap-space : (s : List ℕ) (o : ℕ) → o < length s → is_space (get_or s o 0) ≡ true → gap_end s o ≡ gap_end s (o + 1)
 unfolding gap_end gap gap_then
 gap-space s o h e = gap-go false s o h (space-gap (get_or s o 0) e) ∙ rw (space-plain (get_or s o 0) e)
+
+-- over the run of space that it starts with
+pub gap-run : (s : List ℕ) (o : ℕ) → gap_end s o ≡ gap_end s (span_end is_space s o)
+gap-run s o = span-keeps (gap_end s) is_space s o (λ k l h t. gap-space s k h t)
 
 pub gap_other : (s : List ℕ) (o : ℕ) → o < length s → is_space (get_or s o 0) ≡ false → ¬ (get_or s o 0 ≡ 35) → gap_end s o ≡ o
 unfolding gap_end gap gap_byte is

@@ -14,43 +14,29 @@ fn comments_end(s: &[u8], from: usize) -> usize
     ensures { result ≡ gap_end s.now from }
 {
     let mut at = from;
-    while at < s.len() {
-        let b = s[at];
-        if b == b'#' {
-            at = places::line_end(s, at);
-            continue;
-        }
-        if !text::is_space(b) {
+    loop {
+        at = text::run_end(s, at, text::is_space);
+        if s.len() <= at || s[at] != b'#' {
             return at;
         }
-        at += 1;
+        at = places::line_end(s, at);
     }
-    at
 }
 
 // Where the run of space bytes at an offset ends.
 pub fn spaces_end(s: &[u8], from: usize) -> usize
     ensures { result ≡ span_end (is space) s.now from }
 {
-    let mut at = from;
-    while at < s.len() {
-        if s[at] != b' ' {
-            return at;
-        }
-        at += 1;
-    }
-    at
+    text::run_end(s, from, |b| b == b' ')
 }
 
 // Whether one look shows that no space or comment starts at an offset; most bytes that start something else are above
 // `#`.
+#[tactic(auto, unfolding(crate::specs::Gaps::shows_no_gap))]
 pub fn shows_no_gap(s: &[u8], at: usize) -> bool
     ensures { result ≡ shows_no_gap s.now at }
 {
-    if s.len() <= at {
-        return true;
-    }
-    b'#' < s[at]
+    s.len() <= at || b'#' < s[at]
 }
 
 // The end of the space and comments that start at an offset. Most often there are only space bytes: the loop calls
@@ -60,9 +46,10 @@ pub fn gap_end(s: &[u8], from: usize) -> usize
 {
     let at = spaces_end(s, from);
     if shows_no_gap(s, at) {
-        return at;
+        at
+    } else {
+        comments_end(s, at)
     }
-    comments_end(s, at)
 }
 
 // The place behind the space and comments at a place: where there is only space, end and place are found in one loop.

@@ -1,7 +1,8 @@
 // What the strict reading asks of a text before it reads tokens: no line is too long, and no control byte stands in it.
 #![tactic(auto)]
 
-ghost use Rattle.std.specs.Prelude.{◌≡◌, ◌+◌, ◌≤◌, ◌<◌, length};
+ghost use Rattle.std.specs.Prelude.{◌≡◌, true, ◌+◌, ◌≤◌, ◌<◌, length};
+ghost use Rattle.text.specs.Blocks.{clear};
 ghost use Rattle.text.specs.Runs.{span, runs};
 ghost use Rattle.lines.specs.Ends.{behind_last};
 ghost use Rattle.lines.specs.Lines.{is_control, no_control, is_plain, is_printed, short, screened, fits as fits_behind};
@@ -20,54 +21,29 @@ pub enum Flaw {
 }
 
 // A control byte, but for tab, LF and CR.
+#[tactic(auto, unfolding(crate::specs::Lines::is_control))]
 fn is_control(b: u8) -> bool
     ensures { result ≡ is_control b }
 {
-    if b == b'\t' {
-        return false;
-    }
-    if b == b'\n' {
-        return false;
-    }
-    if b == b'\r' {
-        return false;
-    }
-    if b < b' ' {
-        return true;
-    }
-    b == DELETE
+    !matches!(b, b'\t' | b'\n' | b'\r') && (b < b' ' || b == DELETE)
 }
 
-// Whether 32 bytes stand at an offset, each of them printed, LF or one of two others. Every byte is looked at, so that
-// they are compared many at once.
-fn is_printed_block(s: &[u8], at: usize, one: u8, other: u8) -> bool
-    ensures { result ≡ runs (is_printed one other) 32 s.now at }
+// Whether a byte is printed, LF or one of two others: all is always asked, so that a block of bytes is compared at once.
+#[tactic(auto, unfolding(crate::specs::Lines::is_printed, text::specs::Bytes::is))]
+fn is_printed(b: u8, one: u8, other: u8) -> bool
+    ensures { result ≡ is_printed one other b }
 {
-    if s.len() < 32 {
-        return false;
-    }
-    if s.len() - 32 < at {
-        return false;
-    }
-    let mut met = false;
-    let mut i = 0;
-    while i < 32 {
-        let b = s[at + i];
-        met = met | (((b < b' ') | (DELETE <= b)) & (b != b'\n') & (b != one) & (b != other));
-        i += 1;
-    }
-    !met
+    (b == b'\n') | (b == one) | (b == other) | ((b' ' <= b) & (b < DELETE))
 }
 
 // Whether 32 bytes stand at an offset that may stand in a text: first by fewer comparisons, as most blocks have
 // neither tab nor CR.
 fn is_plain_block(s: &[u8], at: usize) -> bool
-    ensures { result ≡ runs is_plain 32 s.now at }
+    ensures fits { result ≡ true → at + 32 ≤ length s.now }
+    ensures plain { result ≡ runs is_plain 32 s.now at }
 {
-    if is_printed_block(s, at, b'\n', b'\n') {
-        return true;
-    }
-    is_printed_block(s, at, b'\t', b'\r')
+    text::is_block::<32, _>(s, at, &|b| is_printed(b, b'\n', b'\n'))
+        || text::is_block::<32, _>(s, at, &|b| is_printed(b, b'\t', b'\r'))
 }
 
 // How many bytes stand before the first that is no ASCII, or a control byte that may not stand in a text: both in one
@@ -79,17 +55,7 @@ pub fn plain_end(s: &[u8]) -> usize
     while is_plain_block(s, at) {
         at += 32;
     }
-    while at < s.len() {
-        let b = s[at];
-        if is_control(b) {
-            return at;
-        }
-        if 128 <= b {
-            return at;
-        }
-        at += 1;
-    }
-    at
+    text::run_end(s, at, |b| b < 128 && !is_control(b))
 }
 
 // How many bytes stand before the first control byte that may not stand in a text. Most texts are ASCII, so that few
@@ -97,14 +63,14 @@ pub fn plain_end(s: &[u8]) -> usize
 fn control_end(s: &[u8]) -> usize
     ensures { result ≡ span no_control s.now }
 {
-    let mut at = plain_end(s);
-    while at < s.len() {
-        if is_control(s[at]) {
-            return at;
-        }
-        at += 1;
-    }
-    at
+    text::run_end(s, plain_end(s), |b| !is_control(b))
+}
+
+// Whether 16 bytes stand at an offset, none of which ends a line.
+fn ends_no_line(s: &[u8], at: usize) -> bool
+    ensures { result ≡ runs (clear 14 0) 16 s.now at }
+{
+    text::is_block::<16, _>(s, at, &|b| text::is_clear(b, text::ABOVE_LINE_ENDS, 0))
 }
 
 // Behind the last line end of so many bytes at an offset, or the offset where they have none: from their end back, by
@@ -114,16 +80,12 @@ fn behind_last(s: &[u8], from: usize, count: usize) -> usize
     ensures { result ≡ behind_last s.now from count }
 {
     let mut n = count;
-    while 16 <= n {
-        if !text::is_clear(s, from + n - 16, 16, text::ABOVE_LINE_ENDS, 0) {
-            break;
-        }
+    while 16 <= n && ends_no_line(s, from + n - 16) {
         n -= 16;
     }
-    while 0 < n {
-        n -= 1;
-        if text::is_eol(s[from + n]) {
-            return from + n + 1;
+    for i in (from..from + n).rev() {
+        if text::is_eol(s[i]) {
+            return i + 1;
         }
     }
     from

@@ -72,15 +72,19 @@ pub fn part(s: &[u8], from: usize, size: usize) -> &[u8]
     &s[from..from + size]
 }
 
-// The same, if so many stand there.
+// The same, if so many stand there: one comparison in a loop over blocks, where `get` twice makes two.
 #[tactic(auto, unfolding(crate::specs::Parts::part))]
 pub fn part_at(s: &[u8], from: usize, size: usize) -> Option<&[u8]>
     ensures { MatchOption result (length s.now < from + size) (λ b. (from + size ≤ length s.now) × (b.now ≡ part s.now from size)) }
 {
-    s.get(from..)?.get(..size)
+    if size <= s.len() && from <= s.len() - size {
+        Some(part(s, from, size))
+    } else {
+        None
+    }
 }
 
-// Where the run of bytes that pass a test ends, from an offset on.
+// Where the run of bytes that pass a test ends, from an offset on. (As `take_while` and `count` its proof did not close.)
 pub fn run_end<P: Fn(u8) -> bool>(s: &[u8], from: usize, passes: P) -> usize
     requires { P.IsAlwaysCallable passes }
     ensures { (p : ℕ → Bool) → Tells (P.post passes) p → result ≡ span_end p s.now from }

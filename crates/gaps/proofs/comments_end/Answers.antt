@@ -1,33 +1,33 @@
--- `gaps::comments_end`: over spaces byte by byte, over comments to their line's end. Assumes nothing.
-use Prim.Native.Nat.{◌-◌}
-use mathlib.Core.Path.{refl, sym, ◌∙◌}
-use native.Mathlib.Omega.{arith}
-use Rattle.gaps.proofs.Gaps.{gap-space, gap_other, gap-comment, comment-goes, gap-past}
+-- `gaps::comments_end`: over space bytes, and over a comment to its line's end. Assumes nothing.
+use Rattle.std.proofs.Common.{◌≡◌, sym, ap, ◌∙◌, arith, rules}
+use Rattle.text.specs.Bytes.{is_space}
+use Rattle.text.specs.Runs.{span_end, Tells}
+use Rattle.text.proofs.Runs.{span-from, span-ends}
+use Rattle.gaps.specs.Gaps.{gap_end}
+use Rattle.gaps.proofs.Gaps.{gap-run, gap_other, gap-comment, comment-goes, gap-past}
 use Rattle.gaps.proofs.comments_end.Goals as goal
+use Rattle.gaps.proofs.comments_end.Goals.{then-s-at-via-then-s-at, then-s-at-via-else-s-at+then-s-at-ne35, After-run_end-at}
 
-pub loop-at-init : goal.loop-at-init
-loop-at-init c = refl
+ran : (c : After-run_end-at) → c.run_end-at.result ≡ span_end is_space c.args.s.now c.loop-at.at
+unfolding Tells
+ran c = c.run_end-at.ensures is_space (λ b r h. search rules)
 
-pub bounds-s-at : goal.bounds-s-at
-bounds-s-at c = omega arith
+here : (c : After-run_end-at) → gap_end c.args.s.now c.args.from ≡ gap_end c.args.s.now c.run_end-at.result
+here c = c.loop-at.invariant ∙ gap-run _ _ ∙ ap (gap_end c.args.s.now) (sym (ran c))
 
-pub loop-at-smaller-then-b-eq35 : goal.loop-at-smaller-then-b-eq35
-loop-at-smaller-then-b-eq35 c = omega (arith, c.line_end-at.ensures, comment-goes c.args.s.now c.loop-at.at c.loop-at-test.true c.if-b-eq35.true)
-
-pub loop-at-preserved-then-b-eq35 : goal.loop-at-preserved-then-b-eq35
-loop-at-preserved-then-b-eq35 c = c.loop-at.invariant ∙ gap-comment _ _ c.loop-at-test.true c.if-b-eq35.true ∙ rw c.line_end-at.ensures
-
-pub returns-then-not-is_space : goal.returns-then-not-is_space
-returns-then-not-is_space c = sym (c.loop-at.invariant ∙ gap_other _ _ c.loop-at-test.true (sym c.is_space.ensures ∙ c.if-not-is_space.true) c.if-b-eq35.false)
-
-pub overflow_add-at : goal.overflow_add-at
-overflow_add-at c = omega arith
+pub returns-then-s-at : goal.returns-then-s-at
+returns-then-s-at c =
+    let p = (goal.at.returns-then-s-at c).After-run_end-at in
+    let e = ran p in
+    sym (here p ∙ elim c.then-s-at.branch [
+      | then-s-at-via-then-s-at w ↦ gap-past _ _ w.if-s-at.true
+      | then-s-at-via-else-s-at+then-s-at-ne35 w ↦ gap_other _ _ w.if-s-at.false (rw e (span-ends is_space c.args.s.now c.loop-at.at (rw e at w.if-s-at.false))) w.if-s-at-ne35.true
+    ])
 
 pub loop-at-smaller : goal.loop-at-smaller
-loop-at-smaller c = omega arith
+loop-at-smaller c =
+    let e = ran (goal.at.loop-at-smaller c).After-run_end-at in
+    omega (arith, e, span-from is_space c.args.s.now c.loop-at.at, c.line_end-at.ensures, comment-goes c.args.s.now c.run_end-at.result c.if-s-at.false c.if-s-at-ne35.false)
 
 pub loop-at-preserved : goal.loop-at-preserved
-loop-at-preserved c = c.loop-at.invariant ∙ gap-space _ _ c.loop-at-test.true (sym c.is_space.ensures ∙ c.if-not-is_space.false)
-
-pub returns : goal.returns
-returns c = sym (c.loop-at.invariant ∙ gap-past _ _ c.loop-at-test.false)
+loop-at-preserved c = here (goal.at.loop-at-preserved c).After-run_end-at ∙ gap-comment _ _ c.if-s-at.false c.if-s-at-ne35.false ∙ rw c.line_end-at.ensures

@@ -1,7 +1,5 @@
--- `gaps::comments_end`: over spaces byte by byte, over comments to their line's end. Assumes nothing.
-use Prim.Native.Nat.{◌-◌}
-use mathlib.Core.Path.{◌≡◌}
-use lib.ListN.{length}
+-- `gaps::comments_end`: over space bytes, and over a comment to its line's end. Assumes nothing.
+use Rattle.std.proofs.Common.{◌≡◌, ◌-◌, length}
 use Rattle.gaps.specs.Gaps.{gap_end}
 use Rattle.gaps.proofs.comments_end.Given as goal
 

@@ -7,5 +7,5 @@ use Rattle.gaps.proofs.gap_end.Goals as goal
 pub returns-then-shows_no_gap : goal.returns-then-shows_no_gap
 returns-then-shows_no_gap c = sym (gap-shown _ _ (sym c.shows_no_gap.ensures ∙ c.if-shows_no_gap.true)) ∙ ap (gap_end _) c.spaces_end-at.ensures ∙ gap-spaces _ _
 
-pub returns : goal.returns
-returns c = c.comments_end.ensures ∙ ap (gap_end _) c.spaces_end-at.ensures ∙ gap-spaces _ _
+pub returns-else-shows_no_gap : goal.returns-else-shows_no_gap
+returns-else-shows_no_gap c = c.comments_end.ensures ∙ ap (gap_end _) c.spaces_end-at.ensures ∙ gap-spaces _ _

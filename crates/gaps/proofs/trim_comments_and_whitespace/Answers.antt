@@ -1,5 +1,4 @@
 -- `gaps::trim_comments_and_whitespace`: over spaces, with the place so far, to the first comment. Assumes nothing.
-use Prim.Native.Nat.{◌-◌}
 use mathlib.Core.Path.{refl, sym, ap, ◌∙◌}
 use native.Mathlib.Omega.{arith}
 use Rattle.places.specs.Places.{place_at}

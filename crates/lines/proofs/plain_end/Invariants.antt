@@ -1,7 +1,5 @@
 -- `lines::plain_end`: by blocks, then byte by byte. Assumes nothing.
-use Prim.Native.Nat.{◌-◌}
-use mathlib.Core.Path.{◌≡◌}
-use lib.ListN.{length}
+use Rattle.std.proofs.Common.{◌≡◌, ◌-◌, length}
 use Rattle.text.specs.Runs.{span, span_end}
 use Rattle.lines.specs.Lines.{is_plain}
 use Rattle.lines.proofs.plain_end.Given as goal
@@ -12,9 +10,3 @@ invariant-loop-at l = span is_plain l.s ≡ span_end is_plain l.s l.at
 
 abbrev pub decreases-loop-at : goal.decreases-loop-at
 decreases-loop-at l = length l.s - l.at
-
-abbrev pub invariant-loop-at-2 : goal.invariant-loop-at-2
-invariant-loop-at-2 l = span is_plain l.s ≡ span_end is_plain l.s l.at
-
-abbrev pub decreases-loop-at-2 : goal.decreases-loop-at-2
-decreases-loop-at-2 l = length l.s - l.at

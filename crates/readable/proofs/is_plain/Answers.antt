@@ -1,5 +1,6 @@
 -- `readable::is_plain`: the whole is plain just where what is left is. Assumes nothing.
-use mathlib.Core.Path.{sym, ◌∙◌}
+use mathlib.Core.Path.{refl, sym, ◌∙◌}
+use native.Mathlib.Omega.{arith}
 use borrow.Author.Tests.{eq-eqb, ne_eqb}
 use Rattle.text.specs.Bytes.{is}
 use Rattle.quotes.proofs.Content.{plain-go, plain-mark, plain-eol, plain_over}

@@ -13,8 +13,8 @@ returns-in_err-held-clause-found c =
 
 pub returns-then-same_name-clause-found : goal.returns-then-same_name-clause-found
 returns-then-same_name-clause-found c =
-    find-is _ _ _ _ _ c.in_ok-held.field-0.now _ _ _ c.place_of.ensures (search rules) (search rules) c.bytes_at-y.ensures (c.same_name.ensures ∙ rw (part_whole c.bytes_at-y.result.now, part_whole c.args.x.now)) c.if-same_name.true
+    find-is _ _ _ _ _ c.in_ok-held.field-0.now _ _ _ c.place_of.ensures (search rules) (search rules) c.bytes_at-y.ensures c.same_name.ensures c.if-same_name.true
 
 pub returns-else-same_name-clause-found : goal.returns-else-same_name-clause-found
 returns-else-same_name-clause-found c =
-    find-is _ _ _ _ _ c.in_ok-held.field-0.now _ _ _ c.place_of.ensures (search rules) (search rules) c.bytes_at-y.ensures (c.same_name.ensures ∙ rw (part_whole c.bytes_at-y.result.now, part_whole c.args.x.now)) c.if-same_name.false
+    find-is _ _ _ _ _ c.in_ok-held.field-0.now _ _ _ c.place_of.ensures (search rules) (search rules) c.bytes_at-y.ensures c.same_name.ensures c.if-same_name.false
