@@ -17,8 +17,9 @@ use Rattle.text.specs.Limits.{limit}
 use Rattle.text.specs.Parts.{part}
 use Rattle.keywords.specs.Keywords.{starts, key_data, key_global, key_loop, key_save, key_stop, is_word}
 use Rattle.gaps.specs.Gaps.{gap}
-use Rattle.lines.specs.declared.Screen.{Screen}
-use Rattle.lines.specs.declared.Screen.TheVariants.{Fine, LongLine, Control}
+use Rattle.std.specs.Prelude.{Result, Ok, Err}
+use Rattle.lines.specs.declared.Flaw.{Flaw}
+use Rattle.lines.specs.declared.Flaw.TheVariants.{LongLine, Control}
 use Rattle.lines.specs.Lines.{screened}
 use Rattle.values.specs.Values.{Class, block, loop, save, tag, value, over_limit, joined, nothing, at_end, reserved_word, no_start, open_quote, open_field, Lexed, lexed}
 use Rattle.values.proofs.Tokens.{value-class}
@@ -295,11 +296,11 @@ record Accepted (s : List ℕ) (rs : List Rec) : Type 0 where
   ascii : ltb (span is_ascii s) (length s) ≡ false
   runs : decided Strict s ≡ done rs
 
-unscreened : (x : Screen) (a : Answer) (rs : List Rec) → screens x a ≡ done rs → a ≡ done rs
+unscreened : (x : Result (Unit {0}) Flaw) (a : Answer) (rs : List Rec) → screens x a ≡ done rs → a ≡ done rs
 unfolding screens
-unscreened Fine a rs e = e
-unscreened (LongLine o) a rs e = never e
-unscreened (Control o) a rs e = never e
+unscreened (Ok u) a rs e = e
+unscreened (Err (LongLine o)) a rs e = never e
+unscreened (Err (Control o)) a rs e = never e
 
 accepted : (s : List ℕ) (rs : List Rec) → outline Strict s ≡ done rs → Accepted s rs
 unfolding outline

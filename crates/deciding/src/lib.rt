@@ -16,7 +16,7 @@ use kinds::Kind;
 use rules::Reading;
 use sizes::Sizes;
 
-// The frame whose `save_` stands at an offset.
+// The frame whose `save_` stands at an offset. The loops here walk by an offset, which only a part that is read tells.
 fn parse_save_frame(reading: Reading, s: &[u8], start: usize) -> Result<Step, Fault>
     requires { Here s.now start × (save_at reading s.now start ≡ true) }
     ensures { Framed reading s.now start result }

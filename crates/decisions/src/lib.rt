@@ -11,7 +11,8 @@ use rules::Reading;
 use sizes::Sizes;
 
 // An item, a heading or a frame of the block that is read: the offset behind it and the space and comments there, the room
-// for its records, and why its list of values ended if it is a loop.
+// for its records, and why its list of values ended if it is a loop: by its number, or 0, since `absent` and `in_block` promise
+// their 7 for any number, and an Option of a Why would ask more of who calls them.
 #[derive(Clone, Copy)]
 pub struct Step {
     pub next: usize,

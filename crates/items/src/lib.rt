@@ -42,7 +42,8 @@ struct Values {
     why: Why,
 }
 
-// The names of a loop, from behind its `loop_` on, as far as they may stand.
+// The names of a loop, from behind its `loop_` on, as far as they may stand. The loops here walk by an offset, as only a token that
+// is read tells where the next one stands: an iterator of them would hold the same offset, and be no plainer.
 fn count_names(reading: Reading, s: &[u8], from: usize) -> Names
     requires { Ready s.now from }
     ensures { result ≡ names_at reading s.now from }

@@ -27,7 +27,8 @@ fn decide_screened(s: &[u8]) -> Result<Sizes, Fault>
     deciding::lex_cif(Reading::Strict, s)
 }
 
-// The same of a text whose bytes are all ASCII and no control bytes: only long lines are left to look for.
+// The same of a text whose bytes are all ASCII and no control bytes: only long lines are left to look for, which is faster than
+// the screen.
 fn decide_plain(s: &[u8]) -> Result<Sizes, Fault>
     requires short { length s.now ≤ limit }
     requires plain { length s.now ≤ span no_control s.now }

@@ -1,5 +1,6 @@
 // What opens an item, a frame or a block, by the reading: in the strict one `loop_` is a whole word, and space parts each token from
-// the one before. The bytes are looked at first, since they tell most offsets.
+// the one before. The bytes are looked at first, since they tell most offsets. Each function is those bytes' test and the one of
+// the space: one function for all five would take the first as a closure, and be no plainer.
 #![tactic(auto)]
 
 ghost use Rattle.std.specs.Prelude.{◌≡◌, ◌≤◌, length};

@@ -10,8 +10,9 @@ use lib.Dec.{ltb, eqb}
 use lib.ListN.{length}
 use Rattle.rules.specs.declared.Reading.{Reading}
 use Rattle.rules.specs.declared.Reading.TheVariants.{First, Strict}
-use Rattle.lines.specs.declared.Screen.{Screen}
-use Rattle.lines.specs.declared.Screen.TheVariants.{Fine, LongLine, Control}
+use Rattle.std.specs.Prelude.{Result, Ok as Fine, Err as Flawed}
+use Rattle.lines.specs.declared.Flaw.{Flaw}
+use Rattle.lines.specs.declared.Flaw.TheVariants.{LongLine, Control}
 use Rattle.lines.specs.Lines.{screened}
 use Rattle.words.specs.Names.{fits_tag, heading_fits}
 use Rattle.text.specs.Bytes.{is_ascii}
@@ -177,10 +178,10 @@ unfolding screens Numbered
 checked-ok First s a h = h
 checked-ok Strict s a h = by (screened s)
   where
-    by : (x : Screen) → Numbered (screens x a)
-    by Fine = h
-    by (LongLine o) = omega arith
-    by (Control o) = omega arith
+    by : (x : Result (Unit {0}) Flaw) → Numbered (screens x a)
+    by (Fine u) = h
+    by (Flawed (LongLine o)) = omega arith
+    by (Flawed (Control o)) = omega arith
 
 outline-refuses : (g : Reading) (s : List ℕ) → Numbered (outline g s)
 unfolding outline decided Numbered

@@ -18,8 +18,9 @@ use Rattle.text.specs.Bytes.{is_ascii}
 use Rattle.text.specs.Runs.{span}
 use Rattle.columns.specs.Before.{byte_before}
 use Rattle.words.specs.Names.{fits_tag, heading_fits}
-use Rattle.lines.specs.declared.Screen.{Screen}
-use Rattle.lines.specs.declared.Screen.TheVariants.{Fine, LongLine, Control}
+use Rattle.std.specs.Prelude.{Result, Ok as Fine, Err as Flawed}
+use Rattle.lines.specs.declared.Flaw.{Flaw}
+use Rattle.lines.specs.declared.Flaw.TheVariants.{LongLine, Control}
 use Rattle.lines.specs.Lines.{screened, is_fine}
 use Rattle.gaps.specs.Gaps.{gap}
 use Rattle.gaps.proofs.Gaps.{gap-fits}
@@ -383,10 +384,10 @@ unfolding screens is_fine
 checked-lines First s a rs e = (refl, e)
 checked-lines Strict s a rs e = by (screened s) e
   where
-    by : (x : Screen) → screens x a ≡ done rs → (is_fine x ≡ true) × (a ≡ done rs)
-    by Fine e = (refl, e)
-    by (LongLine o) e = never (cc)
-    by (Control o) e = never (cc)
+    by : (x : Result (Unit {0}) Flaw) → screens x a ≡ done rs → (is_fine x ≡ true) × (a ≡ done rs)
+    by (Fine u) e = (refl, e)
+    by (Flawed (LongLine o)) e = never (cc)
+    by (Flawed (Control o)) e = never (cc)
 
 -- THE RECORDS OF A TEXT THAT IS READ
 pub outline-taken : (g : Reading) (s : List ℕ) (rs : List Rec) → outline g s ≡ done rs → Outline g s rs
