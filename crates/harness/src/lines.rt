@@ -89,7 +89,9 @@ pub fn unfold(s: &[u8], out: &mut [u8], from: usize) -> usize {
 }
 
 // The bytes that a text stands for, as many as there is room for.
-pub fn text<'a>(s: &[u8], out: &'a mut [u8]) -> &'a [u8] {
+pub fn text<'a>(s: &[u8], out: &'a mut [u8]) -> &'a [u8]
+    ensures { length result.now ≤ length out.old }
+{
     let end = unfold(s, out, 0);
     part(out, 0, end)
 }

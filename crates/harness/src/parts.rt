@@ -5,7 +5,8 @@ use places::Report;
 
 // A part; an empty one where it does not lie inside.
 pub fn part(s: &[u8], from: usize, size: usize) -> &[u8]
-    ensures { length result.now ≤ size }
+    ensures size { length result.now ≤ size }
+    ensures inside { length result.now ≤ length s.now }
 {
     s.get(from..)
         .and_then(|rest| rest.get(..size))

@@ -1,4 +1,6 @@
 // Stores with their areas, and the buffers that they lie in.
+ghost use Rattle.std.specs.Prelude.{◌≡◌, ◌≤◌, length};
+
 use crate::lines::text;
 use crate::parts::part;
 use places::Report;
@@ -30,7 +32,9 @@ pub struct Buffers {
 }
 
 impl Buffers {
-    pub fn empty() -> Buffers {
+    pub fn empty() -> Buffers
+        ensures { (result.have.store ≡ 0) × (result.have.area ≡ 0) }
+    {
         Buffers {
             store: [0; ROOM],
             area: [0; ROOM],
@@ -39,7 +43,10 @@ impl Buffers {
     }
 
     // So much of both; nothing of a buffer that has less.
-    pub fn first(&self, lengths: Lengths) -> Pair<'_> {
+    pub fn first(&self, lengths: Lengths) -> Pair<'_>
+        ensures store { length result.store.now ≤ lengths.store }
+        ensures area { length result.area.now ≤ lengths.area }
+    {
         Pair {
             store: part(&self.store, 0, lengths.store),
             area: part(&self.area, 0, lengths.area),
@@ -47,7 +54,10 @@ impl Buffers {
     }
 
     // What counts.
-    pub fn pair(&self) -> Pair<'_> {
+    pub fn pair(&self) -> Pair<'_>
+        ensures store { length result.store.now ≤ self.now.have.store }
+        ensures area { length result.area.now ≤ self.now.have.area }
+    {
         self.first(self.have)
     }
     // What Read answers to a vector's text, and what it makes of it in both buffers.
