@@ -65,15 +65,14 @@ pub fn compared<W: Write>(
     size: usize,
 ) -> io::Result<()> {
     let mut list = [BEFORE; LIST];
-    let answer = comparing::compare(
+    let answer = comparing::report(comparing::compare(
         reading,
         old.store,
         old.area,
         new.store,
         new.area,
         room(&mut list, size),
-    )
-    .report();
+    ));
     let length = counted(answer, answer.first);
     write!(out, " ->{}", Answer(answer))?;
     if !is_all(&list, length, BEFORE) {

@@ -38,13 +38,12 @@ fn read<W: Write>(
     let mut buffer = input::buffer();
     let mut store = [BEFORE; ROOM];
     let mut area = [BEFORE; ROOM];
-    let report = reading::read(
+    let report = reading::report(reading::read(
         reading,
         vectors::text(s, &mut buffer),
         parts::room(&mut store, store_room),
         parts::room(&mut area, area_room),
-    )
-    .report();
+    ));
     let m = parts::counted(report, report.first);
     let k = parts::counted(report, report.second);
     let kept = parts::is_all(&store, m, BEFORE) && parts::is_all(&area, k, BEFORE);
@@ -60,12 +59,11 @@ fn read<W: Write>(
 fn outline<W: Write>(out: &mut W, reading: Reading, s: &[u8], room: usize) -> io::Result<()> {
     let mut buffer = input::buffer();
     let mut store = [BEFORE; ROOM];
-    let report = outlining::outline(
+    let report = outlining::report(outlining::outline(
         reading,
         vectors::text(s, &mut buffer),
         parts::room(&mut store, room),
-    )
-    .report();
+    ));
     let m = parts::counted(report, report.first);
     say_answer(out, report, parts::is_all(&store, m, BEFORE))?;
     shown::records(out, parts::part(&store, 0, m), Kind::outline_length)

@@ -6,14 +6,14 @@ use harness::stores::Pair;
 use rules::Reading;
 use std::io;
 use std::io::Write;
-use stores::{Content, Walked};
+use stores::{Part, Walked};
 
 pub fn judged<W: Write>(out: &mut W, reading: Reading, pair: Pair<'_>) -> io::Result<()> {
     write!(out, " -> {}", services::judge(reading, pair, true))
 }
 
 pub fn names<W: Write>(out: &mut W, reading: Reading, pair: Pair<'_>) -> io::Result<()> {
-    let answer = naming::check_names(reading, pair.store, pair.area).report();
+    let answer = naming::report(naming::check_names(reading, pair.store, pair.area));
     write!(out, " ->{}", Answer(answer))
 }
 
@@ -25,8 +25,8 @@ pub fn content<W: Write>(
     number: usize,
 ) -> io::Result<()> {
     let found = stores::find_content(reading, pair.store, pair.area, number);
-    write!(out, " -> {}", found.report().number)?;
-    if let Content::Part { from, size } = found {
+    write!(out, " -> {}", stores::report(found).number)?;
+    if let Ok(Part { from, size }) = found {
         write!(out, " {from} {size}")?;
     }
     let bytes = stores::content_part(reading, pair.store, pair.area, number);
@@ -36,17 +36,17 @@ pub fn content<W: Write>(
 // The record at an offset: its kind, its fields, the part of the area, and where the next one starts.
 pub fn walked<W: Write>(out: &mut W, pair: Pair<'_>, at: usize) -> io::Result<()> {
     match stores::record_at(pair.store, pair.area, at) {
-        Walked::Record {
+        Some(Walked {
             number,
             fields,
             from,
             size,
             next,
-        } => {
+        }) => {
             write!(out, " -> {number}{} ", Numbers(fields))?;
             write!(out, "{from} {size} {next}")
         }
-        Walked::NoRecord => write!(out, " -> 14"),
+        None => write!(out, " -> 14"),
     }
 }
 
@@ -61,7 +61,7 @@ pub fn rendered<W: Write>(
     size: usize,
 ) -> io::Result<()> {
     let mut text = [BEFORE; 512];
-    let answer = rendering::render(reading, pair.store, pair.area, room(&mut text, size)).report();
+    let answer = rendering::report(rendering::render(reading, pair.store, pair.area, room(&mut text, size)));
     let length = counted(answer, answer.first);
     write!(out, " ->{}", Answer(answer))?;
     if !is_all(&text, length, BEFORE) {

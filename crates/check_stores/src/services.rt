@@ -32,7 +32,7 @@ fn agrees(is_sound: bool, number: usize) -> bool {
 
 // Whether the first record, which is the block's in a sound store, has its content, and otherwise none.
 fn has_part(reading: Reading, is_sound: bool, pair: Pair<'_>) -> bool {
-    let answer = stores::find_content(reading, pair.store, pair.area, 0).report();
+    let answer = stores::report(stores::find_content(reading, pair.store, pair.area, 0));
     let content = stores::content_part(reading, pair.store, pair.area, 0);
     let wanted = if is_sound { content.len() } else { 0 };
     agrees(is_sound, answer.number) && content == part(pair.area, 0, wanted)
@@ -46,12 +46,9 @@ fn walks(pair: Pair<'_>) -> bool {
         if at == pair.store.len() {
             return filled == pair.area.len();
         }
-        let Walked::Record {
-            from,
-            size,
-            next,
-            ..
-        } = stores::record_at(pair.store, pair.area, at)
+        let Some(Walked {
+            from, size, next, ..
+        }) = stores::record_at(pair.store, pair.area, at)
         else {
             return false;
         };
@@ -90,7 +87,7 @@ fn same_but_places(a: &[u8], b: &[u8]) -> bool {
 fn reads_back(reading: Reading, text: &[u8], pair: Pair<'_>) -> bool {
     let mut again = [0u8; ROOM];
     let mut contents = [0u8; ROOM];
-    let read = reading::read(reading, text, &mut again, &mut contents).report();
+    let read = reading::report(reading::read(reading, text, &mut again, &mut contents));
     read.number == 0
         && pair.area == part(&contents, 0, read.second)
         && same_but_places(pair.store, part(&again, 0, read.first))
@@ -99,7 +96,7 @@ fn reads_back(reading: Reading, text: &[u8], pair: Pair<'_>) -> bool {
 // Whether a store is rendered where it is sound, and, if that is asked, read back.
 fn renders(reading: Reading, is_sound: bool, pair: Pair<'_>, and_back: bool) -> bool {
     let mut text = [0u8; 2 * ROOM];
-    let rendered = rendering::render(reading, pair.store, pair.area, &mut text).report();
+    let rendered = rendering::report(rendering::render(reading, pair.store, pair.area, &mut text));
     if !is_sound {
         return rendered.number == 12;
     }
@@ -110,7 +107,7 @@ fn renders(reading: Reading, is_sound: bool, pair: Pair<'_>, and_back: bool) -> 
 fn names(reading: Reading, is_sound: bool, pair: Pair<'_>, asked: bool) -> bool {
     !asked
         || {
-            let answer = naming::check_names(reading, pair.store, pair.area).report();
+            let answer = naming::report(naming::check_names(reading, pair.store, pair.area));
             agrees(is_sound, answer.number)
         }
 }

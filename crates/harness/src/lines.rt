@@ -2,7 +2,7 @@
 ghost use Rattle.std.specs.Prelude.{◌≡◌, [], ◌∷◌, ◌≤◌, ◌<◌, ℕ, drop, take, length, IfSome};
 
 use crate::parts::part;
-use rules::{Named, Reading};
+use rules::Reading;
 
 // The letter that a vector starts with, and its text behind a space; an empty line and one that starts with `#` are none.
 pub fn vector(line: &[u8]) -> Option<(u8, &[u8])>
@@ -41,10 +41,7 @@ pub fn number(s: &[u8]) -> (usize, &[u8])
 // The reading that a text names by its number, or else the one before.
 pub fn reading(s: &[u8], before: Reading) -> Reading {
     let (number, _) = number(s);
-    match Reading::of(number as u64) {
-        Named::Known { reading } => reading,
-        Named::Unknown => before,
-    }
+    Reading::of(number as u64).unwrap_or(before)
 }
 
 // A hexadecimal digit's value.

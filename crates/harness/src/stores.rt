@@ -64,6 +64,6 @@ impl Buffers {
     pub fn read(&mut self, reading: Reading, s: &[u8]) -> Report {
         let mut buffer = [0u8; ROOM];
         let text = text(s, &mut buffer);
-        reading::read(reading, text, &mut self.store, &mut self.area).report()
+        reading::report(reading::read(reading, text, &mut self.store, &mut self.area))
     }
 }

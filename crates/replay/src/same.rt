@@ -90,13 +90,13 @@ fn same_records(entry: Entry<'_>, store: &[u8], area: &[u8]) -> bool {
     let mut at = 0;
     let mut numbers = entry.numbers;
     for [told, a, b, c, d] in entry.records.as_chunks::<5>().0 {
-        let Walked::Record {
+        let Some(Walked {
             number: kind,
             fields,
             size,
             next,
             ..
-        } = stores::record_at(store, area, at)
+        }) = stores::record_at(store, area, at)
         else {
             return false;
         };
@@ -142,7 +142,7 @@ fn same_refusal(a: Report, b: Report) -> bool {
 // Whether Outline answers as Read did, which left this store.
 fn outlines(text: &[u8], read: Report, store: &[u8]) -> bool {
     let mut room = [0u8; 4096];
-    let outlined = outlining::outline(Reading::First, text, &mut room).report();
+    let outlined = outlining::report(outlining::outline(Reading::First, text, &mut room));
     same_refusal(read, outlined) && same_outline(store, part(&room, 0, outlined.first))
 }
 
@@ -150,7 +150,7 @@ fn outlines(text: &[u8], read: Report, store: &[u8]) -> bool {
 pub fn judge(entry: Entry<'_>) -> Result<(), Difference> {
     let mut store = [0u8; 4096];
     let mut area = [0u8; 256];
-    let read = reading::read(Reading::First, entry.text, &mut store, &mut area).report();
+    let read = reading::report(reading::read(Reading::First, entry.text, &mut store, &mut area));
     let store = part(&store, 0, read.first);
     let area = part(&area, 0, read.second);
     if !same_answer(entry, read) {
