@@ -1,7 +1,7 @@
 -- Laws of the cases of two numbers. Assumes nothing.
 use Prim.Native.Nat.{ℕ}
-use mathlib.Core.Path.{◌≡◌, sym, ap, ◌∙◌}
-use mathlib.Core.Bool.{true, ◌&&◌}
+use mathlib.Core.Path.{◌≡◌, refl, sym, ap, ◌∙◌}
+use mathlib.Core.Bool.{Bool, true, false, ◌&&◌}
 use borrow.Author.Tests.{eqb-true}
 use lib.Dec.{eqb}
 use Rattle.text.proofs.Bools.{and_l, and_r}
@@ -35,3 +35,11 @@ same_none k j p q e =
     let v : value_order p q ≡ Equal = ap (λ (r : Parts). value_order p r) (sym o) ∙ value_same p in
     let w : uncertainty_order p q ≡ Equal = ap (λ (r : Parts). uncertainty_order p r) (sym o) ∙ doubt-same p in
     rw (v, w, e)
+
+pub and-true : (a b : Bool) → b ≡ true → a ≡ (a && b)
+and-true true b e = sym e
+and-true false b e = refl
+
+pub and-false : (a b : Bool) → b ≡ false → false ≡ (a && b)
+and-false true b e = sym e
+and-false false b e = refl

@@ -1,9 +1,9 @@
 // What two numbers are to each other.
 #![tactic(auto)]
 
-ghost use Rattle.std.specs.Prelude.{◌≡◌, false};
+ghost use Rattle.std.specs.Prelude.{◌≡◌, false, ◌&&◌, eqb};
 ghost use Rattle.amounts.specs.Exact.{Kept};
-ghost use Rattle.number_cases.specs.Numbers.{case_number, equal_case, numbers_case};
+ghost use Rattle.number_cases.specs.Numbers.{case_number, same_parts, equal_case, numbers_case};
 
 use entries::Parts;
 use std::cmp::Ordering;
@@ -30,6 +30,13 @@ impl Case {
     }
 }
 
+// Whether parts and kind are the same.
+fn same_number(kind: u8, kind2: u8, p: Parts, q: Parts) -> bool
+    ensures { result ≡ (eqb kind kind2 && same_parts p q) }
+{
+    p == q && kind == kind2
+}
+
 // The case of numbers whose values are equal and whose kinds or parts are not.
 fn equal_case(uncertainties: Ordering) -> Case
     ensures { result ≡ equal_case uncertainties false }
@@ -46,7 +53,7 @@ pub fn numbers_case(kind: u8, kind2: u8, p: Parts, q: Parts) -> Case
     requires { Kept p × Kept q }
     ensures { result ≡ numbers_case kind kind2 p q }
 {
-    if kind == kind2 && p == q {
+    if same_number(kind, kind2, p, q) {
         return Case::Same;
     }
     match amounts::order_values(p, q) {
