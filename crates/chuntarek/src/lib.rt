@@ -1,5 +1,6 @@
 // The functions that C and Rust call. Each hands its slices to the service of its name, in the reading that the first number names,
-// and its answer on as numbers; where that number names no reading, the answer is 24 and nothing is written.
+// and its answer on as numbers; where that number names no reading, the answer is 24 and nothing is written. That is said in each by
+// `let .. else`: one function for all would take the call of the service as a closure over what is lent, and be no plainer.
 #![tactic(auto)]
 
 ghost use Rattle.std.specs.Prelude.{◌≡◌};
@@ -7,7 +8,7 @@ ghost use Rattle.answers.specs.Answers.{read_gives, store_left, area_left, outli
 ghost use Rattle.answers.specs.Answers.{names_give, compare_gives, list_left, content_gives, part_given, record_given};
 
 use exports::{Answer, Part, Record};
-use rules::{Named, Reading};
+use rules::Reading;
 
 // Reads a text: records to the store, contents to the area. What it writes is sound: promises/proofs/Exported has this
 // (read-gives-sound) and what is said of the next two.
@@ -22,11 +23,10 @@ pub extern "C" fn chuntarek_read(
     ensures stored { store.new ≡ store_left reading text.now store.old area.old }
     ensures copied { area.new ≡ area_left reading text.now store.old area.old }
 {
-    let named = Reading::of(reading);
-    let Named::Known { reading: known } = named else {
+    let Some(known) = Reading::of(reading) else {
         return exports::no_reading();
     };
-    exports::numbers_of(reading::read(known, text, store, area).report())
+    exports::numbers_of(reading::report(reading::read(known, text, store, area)))
 }
 
 // Outlines a text: kinds and places to the store. Digits don't show (outline-hides-digits), nor in the first reading
@@ -36,11 +36,10 @@ pub extern "C" fn chuntarek_outline(reading: u64, text: &[u8], store: &mut [u8])
     ensures answers { result ≡ outline_gives reading text.now store.old }
     ensures writes { store.new ≡ outline_left reading text.now store.old }
 {
-    let named = Reading::of(reading);
-    let Named::Known { reading: known } = named else {
+    let Some(known) = Reading::of(reading) else {
         return exports::no_reading();
     };
-    exports::numbers_of(outlining::outline(known, text, store).report())
+    exports::numbers_of(outlining::report(outlining::outline(known, text, store)))
 }
 
 // Renders a store with its area. What it writes is read back to the same (read_back).
@@ -54,8 +53,7 @@ pub extern "C" fn chuntarek_render(
     ensures answers { result ≡ render_gives reading store.now area.now out.old }
     ensures writes { out.new ≡ render_left reading store.now area.now out.old }
 {
-    let named = Reading::of(reading);
-    let Named::Known { reading: known } = named else {
+    let Some(known) = Reading::of(reading) else {
         return exports::no_reading();
     };
     exports::numbers_of(rendering::render(known, store, area, out).report())
@@ -66,8 +64,7 @@ pub extern "C" fn chuntarek_render(
 pub extern "C" fn chuntarek_names(reading: u64, store: &[u8], area: &[u8]) -> Answer
     ensures { result ≡ names_give reading store.now area.now }
 {
-    let named = Reading::of(reading);
-    let Named::Known { reading: known } = named else {
+    let Some(known) = Reading::of(reading) else {
         return exports::no_reading();
     };
     exports::numbers_of(naming::check_names(known, store, area).report())
@@ -87,8 +84,7 @@ pub extern "C" fn chuntarek_compare(
     ensures answers { result ≡ compare_gives reading old.now area.now new.now area2.now list.old }
     ensures writes { list.new ≡ list_left reading old.now area.now new.now area2.now list.old }
 {
-    let named = Reading::of(reading);
-    let Named::Known { reading: known } = named else {
+    let Some(known) = Reading::of(reading) else {
         return exports::no_reading();
     };
     exports::numbers_of(comparing::compare(known, old, area, new, area2, list).report())
@@ -99,8 +95,7 @@ pub extern "C" fn chuntarek_compare(
 pub extern "C" fn chuntarek_content(reading: u64, store: &[u8], area: &[u8], number: u64) -> Answer
     ensures { result ≡ content_gives reading store.now area.now number }
 {
-    let named = Reading::of(reading);
-    let Named::Known { reading: known } = named else {
+    let Some(known) = Reading::of(reading) else {
         return exports::no_reading();
     };
     exports::numbers_of(stores::find_content(known, store, area, number as usize).report())
@@ -116,8 +111,7 @@ pub extern "C" fn chuntarek_content_part(
 ) -> Part
     ensures { result ≡ part_given reading store.now area.now number }
 {
-    let named = Reading::of(reading);
-    let Named::Known { reading: known } = named else {
+    let Some(known) = Reading::of(reading) else {
         return exports::no_part();
     };
     exports::part_of(stores::find_content(known, store, area, number as usize))
@@ -128,8 +122,7 @@ pub extern "C" fn chuntarek_content_part(
 pub extern "C" fn chuntarek_record_at(reading: u64, store: &[u8], area: &[u8], at: u64) -> Record
     ensures { result ≡ record_given reading store.now area.now at }
 {
-    let named = Reading::of(reading);
-    let Named::Known { reading: _ } = named else {
+    let Some(_) = Reading::of(reading) else {
         return exports::no_record();
     };
     exports::record_of(stores::record_at(store, area, at as usize))

@@ -12,8 +12,9 @@ use Rattle.rules.specs.declared.Reading.TheVariants.{First, Strict}
 use Rattle.text.specs.Bytes.{is_eol}
 use Rattle.text.proofs.Bools.{and_l, and_r}
 use Rattle.keywords.specs.Keywords.{key_loop, key_save}
-use Rattle.lines.specs.declared.Screen.{Screen}
-use Rattle.lines.specs.declared.Screen.TheVariants.{Fine, LongLine, Control}
+use Rattle.std.specs.Prelude.{Result, Ok, Err}
+use Rattle.lines.specs.declared.Flaw.{Flaw}
+use Rattle.lines.specs.declared.Flaw.TheVariants.{LongLine, Control}
 use Rattle.lines.specs.Lines.{is_control, column, is_long, screened, is_fine, fits}
 use Rattle.lines.proofs.Lines.{fits-screened, fits-none, fits_by, fits-printable}
 use Rattle.numbers.specs.declared.Decimal.{Decimal}
@@ -121,11 +122,11 @@ rendering-kept r ar (more {es = es} {k = k} {f = f} h z g) = by (is_end k) refl 
         rw y (kept_line r (l ++ w) (render (lines_for r ar es)) (line_kept r ar f k e h) q)
 
 -- so the tokens alone decide
-screens-fine : (x : Screen) (a : Answer) → is_fine x ≡ true → screens x a ≡ a
+screens-fine : (x : Result (Unit {0}) Flaw) (a : Answer) → is_fine x ≡ true → screens x a ≡ a
 unfolding screens is_fine
-screens-fine Fine a e = refl
-screens-fine (LongLine o) a e = absurd (true≢false (sym e))
-screens-fine (Control o) a e = absurd (true≢false (sym e))
+screens-fine (Ok u) a e = refl
+screens-fine (Err (LongLine o)) a e = absurd (true≢false (sym e))
+screens-fine (Err (Control o)) a e = absurd (true≢false (sym e))
 
 pub kept-checked : (r : Reading) (s : List ℕ) (a : Answer) → keeps_lines r s ≡ true → checked r s a ≡ a
 kept-checked First s a e = refl

@@ -7,8 +7,8 @@ use Rattle.chuntarek.proofs.chuntarek_content.Goals as goal
 
 pub returns-in_default : goal.returns-in_default
 returns-in_default c =
-    c.no_reading.ensures ∙ (content-unknown _ _ _ _ c.of-named.ensures c.in_default.is)
+    c.no_reading.ensures ∙ (content-unknown _ _ _ _ c.of.ensures c.in_default.is)
 
 pub returns : goal.returns
 returns c =
-    c.numbers_of.ensures ∙ (ap exported (c.report.ensures ∙ ap content_report c.find_content.ensures) ∙ (content-known _ _ _ _ _ c.of-named.ensures c.in-Known.is))
+    c.numbers_of.ensures ∙ (ap exported (c.report.ensures ∙ ap content_report c.find_content.ensures) ∙ (content-known _ _ _ _ _ c.of.ensures c.in-Some.is))

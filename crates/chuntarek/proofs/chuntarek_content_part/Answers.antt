@@ -6,8 +6,8 @@ use Rattle.chuntarek.proofs.chuntarek_content_part.Goals as goal
 
 pub returns-in_default : goal.returns-in_default
 returns-in_default c =
-    c.no_part.ensures ∙ (part-unknown _ _ _ _ c.of-named.ensures c.in_default.is)
+    c.no_part.ensures ∙ (part-unknown _ _ _ _ c.of.ensures c.in_default.is)
 
 pub returns : goal.returns
 returns c =
-    c.part_of.ensures ∙ (ap exported_part c.find_content.ensures ∙ (part-known _ _ _ _ _ c.of-named.ensures c.in-Known.is))
+    c.part_of.ensures ∙ (ap exported_part c.find_content.ensures ∙ (part-known _ _ _ _ _ c.of.ensures c.in-Some.is))

@@ -7,8 +7,8 @@ use Rattle.chuntarek.proofs.chuntarek_names.Goals as goal
 
 pub returns-in_default : goal.returns-in_default
 returns-in_default c =
-    c.no_reading.ensures ∙ (names-unknown _ _ _ c.of-named.ensures c.in_default.is)
+    c.no_reading.ensures ∙ (names-unknown _ _ _ c.of.ensures c.in_default.is)
 
 pub returns : goal.returns
 returns c =
-    c.numbers_of.ensures ∙ (ap exported (c.report.ensures ∙ ap naming_report c.check_names.ensures) ∙ (names-known _ _ _ _ c.of-named.ensures c.in-Known.is))
+    c.numbers_of.ensures ∙ (ap exported (c.report.ensures ∙ ap naming_report c.check_names.ensures) ∙ (names-known _ _ _ _ c.of.ensures c.in-Some.is))

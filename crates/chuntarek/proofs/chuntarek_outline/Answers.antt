@@ -6,12 +6,12 @@ use Rattle.chuntarek.proofs.chuntarek_outline.Goals as goal
 
 pub returns-in_default : goal.returns-in_default
 returns-in_default c = record {
-  answers = c.no_reading.ensures ∙ (outline-unknown _ _ _ c.of-named.ensures c.in_default.is);
-  writes = (outlined-unknown _ _ _ c.of-named.ensures c.in_default.is);
+  answers = c.no_reading.ensures ∙ (outline-unknown _ _ _ c.of.ensures c.in_default.is);
+  writes = (outlined-unknown _ _ _ c.of.ensures c.in_default.is);
 }
 
 pub returns : goal.returns
 returns c = record {
-  answers = c.numbers_of.ensures ∙ (ap exported (c.report.ensures ∙ c.outline.ensures.answers) ∙ (outline-known _ _ _ _ c.of-named.ensures c.in-Known.is));
-  writes = c.outline.ensures.writes ∙ (outlined-known _ _ _ _ c.of-named.ensures c.in-Known.is);
+  answers = c.numbers_of.ensures ∙ (ap exported (c.report.ensures ∙ c.outline.ensures.answers) ∙ (outline-known _ _ _ _ c.of.ensures c.in-Some.is));
+  writes = c.outline.ensures.writes ∙ (outlined-known _ _ _ _ c.of.ensures c.in-Some.is);
 }

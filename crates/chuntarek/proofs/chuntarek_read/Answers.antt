@@ -6,14 +6,14 @@ use Rattle.chuntarek.proofs.chuntarek_read.Goals as goal
 
 pub returns-in_default : goal.returns-in_default
 returns-in_default c = record {
-  answers = c.no_reading.ensures ∙ (read-unknown _ _ _ _ c.of-named.ensures c.in_default.is);
-  stored = store-unknown _ _ _ _ c.of-named.ensures c.in_default.is;
-  copied = area-unknown _ _ _ _ c.of-named.ensures c.in_default.is;
+  answers = c.no_reading.ensures ∙ (read-unknown _ _ _ _ c.of.ensures c.in_default.is);
+  stored = store-unknown _ _ _ _ c.of.ensures c.in_default.is;
+  copied = area-unknown _ _ _ _ c.of.ensures c.in_default.is;
 }
 
 pub returns : goal.returns
 returns c = record {
-  answers = c.numbers_of.ensures ∙ (ap exported (c.report.ensures ∙ c.read.ensures.answers) ∙ (read_known _ _ _ _ _ c.of-named.ensures c.in-Known.is));
-  stored = c.read.ensures.stored ∙ (store-known _ _ _ _ _ c.of-named.ensures c.in-Known.is);
-  copied = c.read.ensures.copied ∙ (area-known _ _ _ _ _ c.of-named.ensures c.in-Known.is);
+  answers = c.numbers_of.ensures ∙ (ap exported (c.report.ensures ∙ c.read.ensures.answers) ∙ (read_known _ _ _ _ _ c.of.ensures c.in-Some.is));
+  stored = c.read.ensures.stored ∙ (store-known _ _ _ _ _ c.of.ensures c.in-Some.is);
+  copied = c.read.ensures.copied ∙ (area-known _ _ _ _ _ c.of.ensures c.in-Some.is);
 }
