@@ -84,7 +84,10 @@ fn others_case(area: &[u8], kind: u8, x: Named, area2: &[u8], kind2: u8, y: Name
     if are_texts(kind, kind2) {
         let a = text_of(area, kind, x);
         let b = text_of(area2, kind2, y);
-        if equal::same_bytes(text::part(area, a.from, a.size), text::part(area2, b.from, b.size)) {
+        if equal::same_bytes(
+            text::part(area, a.from, a.size),
+            text::part(area2, b.from, b.size),
+        ) {
             return SAME;
         }
         return DIFFERENT;

@@ -22,7 +22,10 @@ fn same_names(store: &[u8], area: &[u8], at: usize, store2: &[u8], area2: &[u8],
 {
     let x = steps::name_at(store, area, at);
     let y = steps::name_at(store2, area2, at2);
-    folding::same_name(text::part(area, x.from, x.size), text::part(area2, y.from, y.size))
+    folding::same_name(
+        text::part(area, x.from, x.size),
+        text::part(area2, y.from, y.size),
+    )
 }
 
 // Whether two values stand in the same scope.

@@ -141,7 +141,10 @@ pub fn find(store: &[u8], area: &[u8], table: &[u32; SLOTS], n: usize, x: Named)
     }
     let held = wide(table[at]);
     let y = steps::name_at(store, area, held);
-    if folding::same_name(text::part(area, y.from, y.size), text::part(area, x.from, x.size)) {
+    if folding::same_name(
+        text::part(area, y.from, y.size),
+        text::part(area, x.from, x.size),
+    ) {
         return held + 1;
     }
     0
