@@ -65,12 +65,12 @@ fn read(
 ) -> Report {
     let stores = parts::least(m, store.len());
     let areas = parts::least(k, area.len());
-    reading::read(reading, text, &mut store[..stores], &mut area[..areas]).report()
+    reading::report(reading::read(reading, text, &mut store[..stores], &mut area[..areas]))
 }
 
 fn outline(reading: Reading, text: &[u8], store: &mut [u8], m: usize) -> Report {
     let stores = parts::least(m, store.len());
-    outlining::outline(reading, text, &mut store[..stores]).report()
+    outlining::report(outlining::outline(reading, text, &mut store[..stores]))
 }
 
 fn try_read<W: Write>(

@@ -15,7 +15,7 @@ mod services;
 
 use harness::parts::{least, part};
 use harness::{input, lines as vectors, say};
-use rules::{Named, Reading};
+use rules::Reading;
 use std::io;
 use std::io::Write;
 
@@ -39,7 +39,7 @@ fn read<W: Write>(
 ) -> io::Result<Lengths> {
     let mut buffer = [0u8; ROOM];
     let end = vectors::unfold(s, &mut buffer, 0);
-    let read = reading::read(reading, part(&buffer, 0, end), store, area).report();
+    let read = reading::report(reading::read(reading, part(&buffer, 0, end), store, area));
     say::arrow(out)?;
     say::report(out, read)?;
     Ok(Lengths {
@@ -50,10 +50,7 @@ fn read<W: Write>(
 
 // The reading that a number names, or else the one before.
 fn named(number: usize, before: Reading) -> Reading {
-    match Reading::of(number as u64) {
-        Named::Known { reading } => reading,
-        Named::Unknown => before,
-    }
+    Reading::of(number as u64).unwrap_or(before)
 }
 
 // The reading behind a line, which names one or leaves it.

@@ -97,7 +97,7 @@ fn same_but_places(a: &[u8], b: &[u8]) -> bool {
 fn reads_back(reading: Reading, text: &[u8], store: &[u8], area: &[u8]) -> bool {
     let mut again = [0u8; ROOM];
     let mut contents = [0u8; ROOM];
-    let read = reading::read(reading, text, &mut again, &mut contents).report();
+    let read = reading::report(reading::read(reading, text, &mut again, &mut contents));
     if read.number != 0 {
         return false;
     }

@@ -94,7 +94,7 @@ fn say_outline<W: Write>(out: &mut W, text: &[u8]) -> io::Result<()> {
         return say(out, b"input over 65536 bytes\n");
     }
     let mut store = input::large_buffer(); // it has LIMIT bytes
-    let report = outlining::outline(Reading::First, text, &mut store).report();
+    let report = outlining::report(outlining::outline(Reading::First, text, &mut store));
     if report.number != 0 {
         return say_refusal(out, report);
     }

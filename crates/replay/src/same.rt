@@ -196,7 +196,7 @@ fn same_refusal(a: Report, b: Report) -> bool {
 // Whether Outline answers as Read did, which left this store.
 fn outlines(text: &[u8], read: Report, store: &[u8]) -> bool {
     let mut room = [0u8; 4096];
-    let outlined = outlining::outline(Reading::First, text, &mut room).report();
+    let outlined = outlining::report(outlining::outline(Reading::First, text, &mut room));
     if !same_refusal(read, outlined) {
         return false;
     }
@@ -229,7 +229,7 @@ pub fn judge(entry: &[u8]) -> Verdict {
     }
     let mut store = [0u8; 4096];
     let mut area = [0u8; 256];
-    let read = reading::read(Reading::First, list::text_of(entry), &mut store, &mut area).report();
+    let read = reading::report(reading::read(Reading::First, list::text_of(entry), &mut store, &mut area));
     if !same_answer(entry, read) {
         return Verdict::Answer;
     }
