@@ -8,8 +8,7 @@ use native.Mathlib.Omega.{arith}
 use lib.ListN.{length, take}
 use Rattle.rules.specs.declared.Reading.{Reading}
 use Rattle.rules.specs.declared.Reading.TheVariants.{First, Strict}
-use Rattle.rules.specs.declared.Named.{Named}
-use Rattle.rules.specs.declared.Named.TheVariants.{Known, Unknown}
+use Rattle.std.specs.Prelude.{Option, Some, None}
 use Rattle.rules.specs.Rules.{reading_number, named}
 use Rattle.places.specs.Reports.{success}
 use Rattle.naming.specs.declared.Naming.TheVariants.{Distinct}
@@ -32,11 +31,11 @@ use Rattle.promises.specs.Compared.{Comparable, list_given, Unchanged, Swaps}
 
 -- where the list is empty
 module _ (r : Reading) (st ar st' ar' list : List ℕ) (e : judged r st ar ≡ Distinct) (e' : judged r st' ar' ≡ Distinct) (none : bytes_of st ar st' ar' ≡ []) where
-  none_answers : compare_by (Known r) st ar st' ar' list ≡ exported (success 0 0)
+  none_answers : compare_by (Some r) st ar st' ar' list ≡ exported (success 0 0)
   unfolding compare_by comparing_report
   none_answers = ap (λ (c : Comparing). exported (comparing_report c)) (empty-compared r st ar st' ar' e e' none (length list))
 
-  none-lists : compared_by (Known r) st ar st' ar' list ≡ list
+  none-lists : compared_by (Some r) st ar st' ar' list ≡ list
   unfolding compared_by
   none-lists = empty-kept r st ar st' ar' e e' none list
 
@@ -44,16 +43,16 @@ pub itself-unchanged : (n : ℕ) (st ar list : List ℕ) → Comparable n st ar 
 unfolding Comparable compare_gives list_left compare_by compared_by exported no_reading
 itself-unchanged n st ar list h = record { answers = answers (named n) h; lists = lists (named n) h }
   where
-    fit : (r : Reading) → (compare_by (Known r) st ar st ar []).number ≡ 0 → judged r st ar ≡ Distinct
+    fit : (r : Reading) → (compare_by (Some r) st ar st ar []).number ≡ 0 → judged r st ar ≡ Distinct
     fit r q = (done r st ar st ar 0 q).old
 
-    answers : (x : Named) → (compare_by x st ar st ar []).number ≡ 0 → compare_by x st ar st ar list ≡ exported (success 0 0)
-    answers (Known r) q = none_answers r st ar st ar list (fit r q) (fit r q) (itself-empty r st ar (fit r q))
-    answers Unknown q = absurd (omega (arith, q))
+    answers : (x : Option Reading) → (compare_by x st ar st ar []).number ≡ 0 → compare_by x st ar st ar list ≡ exported (success 0 0)
+    answers (Some r) q = none_answers r st ar st ar list (fit r q) (fit r q) (itself-empty r st ar (fit r q))
+    answers None q = absurd (omega (arith, q))
 
-    lists : (x : Named) → (compare_by x st ar st ar []).number ≡ 0 → compared_by x st ar st ar list ≡ list
-    lists (Known r) q = none-lists r st ar st ar list (fit r q) (fit r q) (itself-empty r st ar (fit r q))
-    lists Unknown q = refl
+    lists : (x : Option Reading) → (compare_by x st ar st ar []).number ≡ 0 → compared_by x st ar st ar list ≡ list
+    lists (Some r) q = none-lists r st ar st ar list (fit r q) (fit r q) (itself-empty r st ar (fit r q))
+    lists None q = refl
 
 -- what is read of what is rendered
 abbrev again_store : (r : Reading) (st ar text store area : List ℕ) → List ℕ
@@ -82,10 +81,10 @@ unfolding compare_gives compare_by list_left compared_by list_given exported no_
 swaps n st ar st' ar' list list' h h' = record { lists = listed st ar st' ar' list (named n) h; back = listed st' ar' st ar list' (named n) h'; turns = turns (named n) h }
   where
     listed :
-        (u v u' v' l : List ℕ) (x : Named) → (compare_by x u v u' v' l).number ≡ 0 → take (compare_by x u v u' v' l).first (compared_by x u v u' v' l) ≡ changes_bytes (changes u v u' v')
-    listed u v u' v' l (Known r) q = done-list r u v u' v' l (done r u v u' v' (length l) q)
-    listed u v u' v' l Unknown q = absurd (omega (arith, q))
+        (u v u' v' l : List ℕ) (x : Option Reading) → (compare_by x u v u' v' l).number ≡ 0 → take (compare_by x u v u' v' l).first (compared_by x u v u' v' l) ≡ changes_bytes (changes u v u' v')
+    listed u v u' v' l (Some r) q = done-list r u v u' v' l (done r u v u' v' (length l) q)
+    listed u v u' v' l None q = absurd (omega (arith, q))
 
-    turns : (x : Named) → (compare_by x st ar st' ar' list).number ≡ 0 → (c : Change) → In c (changes st ar st' ar') → In (turned c) (changes st' ar' st ar)
-    turns (Known r) q = swapped r st ar st' ar' (done r st ar st' ar' (length list) q).old
-    turns Unknown q = absurd (omega (arith, q))
+    turns : (x : Option Reading) → (compare_by x st ar st' ar' list).number ≡ 0 → (c : Change) → In c (changes st ar st' ar') → In (turned c) (changes st' ar' st ar)
+    turns (Some r) q = swapped r st ar st' ar' (done r st ar st' ar' (length list) q).old
+    turns None q = absurd (omega (arith, q))

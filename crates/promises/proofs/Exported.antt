@@ -18,8 +18,7 @@ use mathlib.Core.List.{List}
 use lib.ListN.{length}
 use Rattle.rules.specs.declared.Reading.{Reading}
 use Rattle.rules.specs.declared.Reading.TheVariants.{First, Strict}
-use Rattle.rules.specs.declared.Named.{Named}
-use Rattle.rules.specs.declared.Named.TheVariants.{Known, Unknown}
+use Rattle.std.specs.Prelude.{Option, Some, None}
 use Rattle.rules.specs.Rules.{reading_number, named}
 use Rattle.exports.specs.Exports.{exported}
 use Rattle.answers.specs.Answers.{read_by, read_gives, store_by, store_left, area_by, area_left, outline_by, outline_gives, outlined_by, outline_left, render_by, render_gives, rendered_by, render_left}
@@ -44,13 +43,13 @@ pub outline-hides-digits : (n : ℕ) (s t store : List ℕ) → DigitsDiffer s t
 unfolding outline_gives outline_left outline_by outlined_by
 outline-hides-digits n s t store d = record { answers = answers (named n); stores = stores (named n) }
   where
-    answers : (x : Named) → outline_by x s store ≡ outline_by x t store
-    answers (Known r) = ap exported (digits-unseen r s t store d).answers
-    answers Unknown = refl
+    answers : (x : Option Reading) → outline_by x s store ≡ outline_by x t store
+    answers (Some r) = ap exported (digits-unseen r s t store d).answers
+    answers None = refl
 
-    stores : (x : Named) → outlined_by x s store ≡ outlined_by x t store
-    stores (Known r) = (digits-unseen r s t store d).stores
-    stores Unknown = refl
+    stores : (x : Option Reading) → outlined_by x s store ≡ outlined_by x t store
+    stores (Some r) = (digits-unseen r s t store d).stores
+    stores None = refl
 
 pub outline-hides-contents : (s t store : List ℕ) (rs : List Rec) → outline First s ≡ done rs → ContentsDiffer rs s t → OutlinedAlike 1 s t store
 unfolding outline_gives outline_left outline_by outlined_by named

@@ -7,8 +7,10 @@ use lib.Dec.{eqb}
 use Rattle.places.specs.Reports.{success, refused_at, refused_bare, no_room}
 use Rattle.places.specs.declared.Place.{Place}
 use Rattle.places.specs.declared.Report.{Report}
-use Rattle.decisions.specs.declared.Decision.{Decision}
-use Rattle.decisions.specs.declared.Decision.TheVariants.{Fits, Refused as RefusedText}
+use Rattle.std.specs.Prelude.{Result, Ok, Err}
+use Rattle.sizes.specs.declared.Sizes.{Sizes}
+use Rattle.grammar.specs.declared.Fault.{Fault}
+use Rattle.grammar.specs.Causes.{fault}
 use Rattle.grammar.specs.declared.Cause.{Cause}
 use Rattle.grammar.specs.declared.Cause.TheVariants.{NotAscii, NoData, OpenFrame, Ragged, NoValue, NoItem, NoNames, OverLimit, NotParted, LongLine, BadName, ControlByte}
 use Rattle.grammar.specs.Causes.{cause_number, cause_detail}
@@ -20,13 +22,12 @@ use Rattle.rendering.specs.declared.RenderError.TheVariants.{NotSound, TooLong a
 use Rattle.rendering.specs.Rendering.{rendered_report}
 use Rattle.refusals.specs.declared.Refusal.{Refusal}
 use Rattle.refusals.specs.declared.Refusal.TheVariants.{TooLong, At}
-use Rattle.judging.specs.declared.Judged.{Judged}
-use Rattle.judging.specs.declared.Judged.TheVariants.{Fits as FitsText, Declines}
 use Rattle.judging.specs.Judging.{Judgement, judged_as}
-use Rattle.reading.specs.declared.Stored.{Stored}
-use Rattle.reading.specs.declared.Stored.TheVariants.{Done, Refused, StoreFull, AreaFull}
-use Rattle.outlining.specs.declared.Outlined.{Outlined}
-use Rattle.outlining.specs.declared.Outlined.TheVariants.{Written, Declined, NoRoom}
+use Rattle.reading.specs.declared.Lengths.{Lengths}
+use Rattle.reading.specs.declared.ReadError.{ReadError}
+use Rattle.reading.specs.declared.ReadError.TheVariants.{Refused, StoreFull, AreaFull}
+use Rattle.outlining.specs.declared.OutlineError.{OutlineError}
+use Rattle.outlining.specs.declared.OutlineError.TheVariants.{Refused as Declined, NoRoom}
 use Rattle.reading.specs.Services.{reading_report}
 use Rattle.refusals.specs.Answers.{refusal_report}
 use Rattle.outlining.specs.Outlining.{outlined_report}
@@ -87,34 +88,38 @@ cause-low LongLine = (refl, refl, refl)
 cause-low BadName = (refl, refl, refl)
 cause-low ControlByte = (refl, refl, refl)
 
-unfoldable reading_in : Report → Stored
+-- the two lengths of a report
+abbrev lengths_in : Report → Lengths
+lengths_in p = record { store = p.first; area = p.second }
+
+unfoldable reading_in : Report → Result Lengths ReadError
 reading_in p =
-    cond (eqb p.number 0) (Done p.first p.second)
-    (cond (eqb p.number 10) (StoreFull p.first p.second)
-    (cond (eqb p.number 11) (AreaFull p.first p.second) (Refused (refusal_in p))))
+    cond (eqb p.number 0) (Ok (lengths_in p))
+    (cond (eqb p.number 10) (Err (StoreFull (lengths_in p)))
+    (cond (eqb p.number 11) (Err (AreaFull (lengths_in p))) (Err (Refused (refusal_in p)))))
 
-reading-back : (r : Stored) → reading_in (reading_report r) ≡ r
+reading-back : (r : Result Lengths ReadError) → reading_in (reading_report r) ≡ r
 unfolding reading_in refusal_in place_in reading_report refusal_report success refused_at refused_bare no_room
-reading-back (Done m k) = refl
-reading-back (StoreFull m k) = refl
-reading-back (AreaFull m k) = refl
-reading-back (Refused TooLong) = refl
-reading-back (Refused (At c p)) = rw ((cause-low c).0, (cause-low c).1, (cause-low c).2) (ap Refused (refusal-back (At c p)))
+reading-back (Ok n) = refl
+reading-back (Err (StoreFull n)) = refl
+reading-back (Err (AreaFull n)) = refl
+reading-back (Err (Refused TooLong)) = refl
+reading-back (Err (Refused (At c p))) = rw ((cause-low c).0, (cause-low c).1, (cause-low c).2) (ap (λ (x : Refusal). Err (Refused x)) (refusal-back (At c p)))
 
-pub one-reading : (a b : Stored) → reading_report a ≡ reading_report b → a ≡ b
+pub one-reading : (a b : Result Lengths ReadError) → reading_report a ≡ reading_report b → a ≡ b
 one-reading a b e = sym (reading-back a) ∙ ap reading_in e ∙ reading-back b
 
-unfoldable outlined_in : Report → Outlined
-outlined_in p = cond (eqb p.number 0) (Written p.first) (cond (eqb p.number 10) (NoRoom p.first) (Declined (refusal_in p)))
+unfoldable outlined_in : Report → Result ℕ OutlineError
+outlined_in p = cond (eqb p.number 0) (Ok p.first) (cond (eqb p.number 10) (Err (NoRoom p.first)) (Err (Declined (refusal_in p))))
 
-outlined-back : (r : Outlined) → outlined_in (outlined_report r) ≡ r
+outlined-back : (r : Result ℕ OutlineError) → outlined_in (outlined_report r) ≡ r
 unfolding outlined_in refusal_in place_in outlined_report refusal_report success refused_at refused_bare no_room
-outlined-back (Written m) = refl
-outlined-back (NoRoom m) = refl
-outlined-back (Declined TooLong) = refl
-outlined-back (Declined (At c p)) = rw ((cause-low c).0, (cause-low c).1) (ap Declined (refusal-back (At c p)))
+outlined-back (Ok m) = refl
+outlined-back (Err (NoRoom m)) = refl
+outlined-back (Err (Declined TooLong)) = refl
+outlined-back (Err (Declined (At c p))) = rw ((cause-low c).0, (cause-low c).1) (ap (λ (x : Refusal). Err (Declined x)) (refusal-back (At c p)))
 
-pub one-outlined : (a b : Outlined) → outlined_report a ≡ outlined_report b → a ≡ b
+pub one-outlined : (a b : Result ℕ OutlineError) → outlined_report a ≡ outlined_report b → a ≡ b
 one-outlined a b e = sym (outlined-back a) ∙ ap outlined_in e ∙ outlined-back b
 
 unfoldable rendered_in : Report → Result ℕ RenderError
@@ -130,26 +135,26 @@ rendered-back (Err (NoRoomText n)) = refl
 pub one-rendered : (a b : Result ℕ RenderError) → rendered_report a ≡ rendered_report b → a ≡ b
 one-rendered a b e = sym (rendered-back a) ∙ ap rendered_in e ∙ rendered-back b
 
-unfoldable decision_in : Told → Decision
+unfoldable decision_in : Told → Result Sizes Fault
 decision_in d =
-    cond d.is_read (Fits (record { store = d.store; outline = d.outline; area = d.area }))
-    (RefusedText (cause_in d.number d.detail) d.offset)
+    cond d.is_read (Ok (record { store = d.store; outline = d.outline; area = d.area }))
+    (Err (fault (cause_in d.number d.detail) d.offset))
 
-decision-back : (d : Decision) → decision_in (told d) ≡ d
+decision-back : (d : Result Sizes Fault) → decision_in (told d) ≡ d
 unfolding decision_in told refusal room
-decision-back (Fits z) = refl
-decision-back (RefusedText c o) = rw (cause-back c)
+decision-back (Ok z) = refl
+decision-back (Err e) = rw (cause-back e.cause)
 
-pub one-decision : (a b : Decision) → told a ≡ told b → a ≡ b
+pub one-decision : (a b : Result Sizes Fault) → told a ≡ told b → a ≡ b
 one-decision a b e = sym (decision-back a) ∙ ap decision_in e ∙ decision-back b
 
-unfoldable judged_in : Judgement → Judged
-judged_in j = cond j.is_read (FitsText j.sizes) (Declines (refusal_in j.report))
+unfoldable judged_in : Judgement → Result Sizes Refusal
+judged_in j = cond j.is_read (Ok j.sizes) (Err (refusal_in j.report))
 
-judged-back : (j : Judged) → judged_in (judged_as j) ≡ j
+judged-back : (j : Result Sizes Refusal) → judged_in (judged_as j) ≡ j
 unfolding judged_in judged_as
-judged-back (FitsText z) = refl
-judged-back (Declines r) = ap Declines (refusal-back r)
+judged-back (Ok z) = refl
+judged-back (Err r) = ap (λ (x : Refusal). Err x) (refusal-back r)
 
-pub one-judged : (a b : Judged) → judged_as a ≡ judged_as b → a ≡ b
+pub one-judged : (a b : Result Sizes Refusal) → judged_as a ≡ judged_as b → a ≡ b
 one-judged a b e = sym (judged-back a) ∙ ap judged_in e ∙ judged-back b
