@@ -56,7 +56,7 @@ pub extern "C" fn chuntarek_render(
     let Some(known) = Reading::of(reading) else {
         return exports::no_reading();
     };
-    exports::numbers_of(rendering::render(known, store, area, out).report())
+    exports::numbers_of(rendering::report(rendering::render(known, store, area, out)))
 }
 
 // Whether a name stands twice in one scope, and in which records.
@@ -67,7 +67,7 @@ pub extern "C" fn chuntarek_names(reading: u64, store: &[u8], area: &[u8]) -> An
     let Some(known) = Reading::of(reading) else {
         return exports::no_reading();
     };
-    exports::numbers_of(naming::check_names(known, store, area).report())
+    exports::numbers_of(naming::report(naming::check_names(known, store, area)))
 }
 
 // What changed from an old store to a new one, as a list of entries. Nothing where it is compared with itself (itself-unchanged) or with
@@ -87,7 +87,7 @@ pub extern "C" fn chuntarek_compare(
     let Some(known) = Reading::of(reading) else {
         return exports::no_reading();
     };
-    exports::numbers_of(comparing::compare(known, old, area, new, area2, list).report())
+    exports::numbers_of(comparing::report(comparing::compare(known, old, area, new, area2, list)))
 }
 
 // Whether the record of this number has a content.
@@ -98,7 +98,7 @@ pub extern "C" fn chuntarek_content(reading: u64, store: &[u8], area: &[u8], num
     let Some(known) = Reading::of(reading) else {
         return exports::no_reading();
     };
-    exports::numbers_of(stores::find_content(known, store, area, number as usize).report())
+    exports::numbers_of(stores::report(stores::find_content(known, store, area, number as usize)))
 }
 
 // Where in the area that content stands; an empty part where there is none.
