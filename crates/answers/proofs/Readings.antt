@@ -5,14 +5,14 @@ use mathlib.Core.List.{List}
 use mathlib.Core.Path.{◌≡◌, ◌∙◌}
 use lib.ListN.{length}
 use Rattle.rules.specs.declared.Reading.{Reading}
-use Rattle.std.specs.Prelude.{Option, Some, None}
+use Rattle.std.specs.Prelude.{Option, Result, Some, None}
 use Rattle.rules.specs.Rules.{named}
 use Rattle.exports.specs.Exports.{exported, exported_part, exported_record, no_reading, no_part, no_record}
 use Rattle.reading.specs.Services.{read_answer, read_store, read_area}
 use Rattle.outlining.specs.Outlining.{outline_answer, outline_store}
 use Rattle.rendering.specs.Rendering.{render_answer, render_out}
 use Rattle.naming.specs.Names.{name_check, naming_report}
-use Rattle.comparing.specs.declared.Comparing.{Comparing}
+use Rattle.comparing.specs.declared.CompareError.{CompareError}
 use Rattle.comparing.specs.Comparing.{comparing_report, Compares}
 use Rattle.stores.specs.Content.{content_at, content_report}
 use Rattle.stores.specs.Records.{walked_at}
@@ -93,7 +93,7 @@ unfolding names_give names_by
 names-unknown n st ar of unknown = rw (← of, unknown)
 
 -- chuntarek_compare's answer
-pub compare-known : (n : ℕ) (r : Reading) (st ar st' ar' l : List ℕ) (a : Comparing) (l' : List ℕ) {m : Option Reading} → m ≡ named n → m ≡ Some r → Compares r st ar st' ar' l a l' → exported (comparing_report a) ≡ compare_gives n st ar st' ar' l
+pub compare-known : (n : ℕ) (r : Reading) (st ar st' ar' l : List ℕ) (a : Result ℕ CompareError) (l' : List ℕ) {m : Option Reading} → m ≡ named n → m ≡ Some r → Compares r st ar st' ar' l a l' → exported (comparing_report a) ≡ compare_gives n st ar st' ar' l
 unfolding compare_gives compare_by
 compare-known n r st ar st' ar' l a l' of known called = rw (← of, known, called.answers)
 
@@ -102,7 +102,7 @@ unfolding compare_gives compare_by
 compare-unknown n st ar st' ar' l of unknown = rw (← of, unknown)
 
 -- the list that it leaves
-pub compared-known : (n : ℕ) (r : Reading) (st ar st' ar' l : List ℕ) (a : Comparing) (l' : List ℕ) {m : Option Reading} → m ≡ named n → m ≡ Some r → Compares r st ar st' ar' l a l' → l' ≡ list_left n st ar st' ar' l
+pub compared-known : (n : ℕ) (r : Reading) (st ar st' ar' l : List ℕ) (a : Result ℕ CompareError) (l' : List ℕ) {m : Option Reading} → m ≡ named n → m ≡ Some r → Compares r st ar st' ar' l a l' → l' ≡ list_left n st ar st' ar' l
 unfolding list_left compared_by
 compared-known n r st ar st' ar' l a l' of known called = called.list ∙ rw (← of, known, called.answers)
 

@@ -41,6 +41,15 @@ other-text k a b c d e =
         let high = leb-true n 13 q in
         absurd (omega arith)
 
+-- a text without marks
+pub unmarked-other : (k : Kind) (s : List ℕ) → (k ≡ Quoted → ⊥) → s ≡ unmarked (number_of k) s
+unfolding unmarked
+unmarked-other k s d = rw (other-number k Quoted d)
+
+pub unmarked-quoted : (k : Kind) (s : List ℕ) → k ≡ Quoted → drop 1 s ≡ unmarked (number_of k) s
+unfolding unmarked
+unmarked-quoted k s e = rw e
+
 -- the parts of a number
 pub orderly-parts : (e : Option Entry) (k : Kind) (f : Fields) (n : ℕ) → e ≡ whole k f n → Orderly e → is_number (number_of k) ≡ true → Kept f.parts
 unfolding Orderly

@@ -46,7 +46,7 @@ fn text_of(kind: Kind, x: &[u8]) -> &[u8]
     ensures { result.now ≡ unmarked (number_of kind) x.now }
 {
     match kind {
-        Kind::Quoted => x.get(Kind::QUOTE_OPENING..).unwrap_or(&[]),
+        Kind::Quoted => text::rest(x, Kind::QUOTE_OPENING),
         _ => x,
     }
 }

@@ -199,7 +199,7 @@ fn behind(here: Here, kind: Kind, tags: usize, next: usize) -> Here
     }
 }
 
-// The next value at or behind a spot.
+// The next value at or behind a spot: from record to record, by where each says that the next one starts.
 pub fn next_value(store: &[u8], here: Here) -> Option<Met>
     requires { Placed store.now here }
     ensures { Ahead store.now here result }

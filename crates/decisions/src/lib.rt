@@ -83,6 +83,7 @@ pub fn in_frame(item: Result<Item, Fault>) -> Result<Inside, Fault>
 }
 
 // The heading at an offset, of a block or a frame: its word, if its name may stand.
+// (A kind by its number: a `Kind` would ask more of callers.)
 pub fn parse_heading(reading: Reading, s: &[u8], at: usize, kind: u8) -> Result<Step, Fault>
     requires { Ready s.now at }
     ensures { result ≡ heading_of reading s.now kind at }

@@ -22,6 +22,7 @@ fn quote_kind(reading: Reading, kind: u8) -> u8
 }
 
 // A quoted value, from its opening mark on.
+// (A kind by its number: a `Kind` would ask more of callers.)
 pub fn pack_quote(reading: Reading, s: &[u8], at: usize, mark: u8, kind: u8) -> usize
     requires { (length s.now < 2 ^ 32) × (at < length s.now) × (is_eol mark ≡ false) }
     ensures { result ≡ packed_of (quote_at reading mark kind s.now at) }

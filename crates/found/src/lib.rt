@@ -60,6 +60,7 @@ impl Why {
 }
 
 // A value, packed.
+// (A kind by its number: a `Kind` would ask more of callers.)
 #[tactic(auto, unfolding(crate::specs::Packing::pack))]
 pub fn packed(kind: u8, size: usize) -> usize
     requires { size < 2 ^ 32 }

@@ -10,6 +10,7 @@ ghost use Rattle.places.specs.Places.{place_at, IsPlace};
 use places::{Place, Scan};
 
 // The end of the space and comments that start at an offset, where a comment may be long: it is left at its line's end.
+// Only a comment that was passed over tells where the loop goes on.
 fn comments_end(s: &[u8], from: usize) -> usize
     ensures { result ≡ gap_end s.now from }
 {

@@ -181,6 +181,7 @@ impl Kind {
     }
 
     // The bytes of a body, by the kind's number.
+    // (A kind by its number: a `Kind` would ask more of callers.)
     #[tactic(auto, unfolding(crate::specs::Kinds::body_length))]
     pub fn body_length(kind: u8) -> usize
         ensures { result ≡ body_length kind }

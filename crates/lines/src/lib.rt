@@ -47,7 +47,7 @@ fn is_plain_block(s: &[u8], at: usize) -> bool
 }
 
 // How many bytes stand before the first that is no ASCII, or a control byte that may not stand in a text: both in one
-// pass, by blocks first.
+// pass, by blocks first. (`text::long_run_end` takes one test for its blocks, and here a block may pass either of two.)
 pub fn plain_end(s: &[u8]) -> usize
     ensures { result ≡ span is_plain s.now }
 {
@@ -74,7 +74,7 @@ fn ends_no_line(s: &[u8], at: usize) -> bool
 }
 
 // Behind the last line end of so many bytes at an offset, or the offset where they have none: from their end back, by
-// blocks first, as most bytes end no line.
+// blocks first, as most bytes end no line. (The blocks are counted off from the end, so that no slice cuts them.)
 fn behind_last(s: &[u8], from: usize, count: usize) -> usize
     requires { from + count ≤ length s.now }
     ensures { result ≡ behind_last s.now from count }
@@ -93,7 +93,8 @@ fn behind_last(s: &[u8], from: usize, count: usize) -> usize
 
 // How many bytes stand before the first that is one too many on its line; so many of the first line stand before them.
 // Only the bytes behind the last line end in reach are looked at, and its block. They end no line, so that the next one
-// found stands behind them: a byte is looked at a few times at most, and most are not looked at.
+// found stands behind them: a byte is looked at a few times at most, and most are not looked at. Only a line end that was
+// found tells where the loop goes on.
 pub fn short_end(s: &[u8], column: usize) -> usize
     requires { column ≤ 2048 }
     ensures { result ≡ short column s.now }

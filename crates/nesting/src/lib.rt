@@ -34,6 +34,7 @@ pub struct Standing {
 }
 
 // The kinds of values, from inapplicable to a number with uncertainty, and the strict reading's quoted ones.
+// (A kind by its number: a `Kind` would ask more of callers.)
 #[tactic(auto, unfolding(kinds::specs::Kinds::is_value_kind))]
 pub fn is_value(kind: u8) -> bool
     ensures { result ≡ is_value_kind kind }
@@ -204,7 +205,8 @@ impl Standing {
     }
 }
 
-// Whether a store is whole records, nested as the reading has them.
+// Whether a store is whole records, nested as the reading has them. (Here and above a loop goes from record to record, by where
+// each says that the next one starts; an iterator of records would hold the same offset, and need laws for it.)
 pub fn is_nested(reading: Reading, store: &[u8]) -> bool
     ensures { result ≡ nested reading (entries store.now) }
 {

@@ -141,7 +141,8 @@ fn along(c: Scan, count: usize) -> Scan
     }
 }
 
-// The place of a later offset, from the place of an earlier one: line by line.
+// The place of a later offset, from the place of an earlier one: line by line, as only a line that was looked through tells
+// where the next one starts.
 fn advance_by_line(s: &[u8], p: Place, to: usize) -> Place
     requires { IsPlace s.now p × (p.offset ≤ to) × (to ≤ length s.now) }
     ensures { result ≡ place_at s.now to }

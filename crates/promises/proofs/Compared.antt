@@ -8,13 +8,12 @@ use native.Mathlib.Omega.{arith}
 use lib.ListN.{length, take}
 use Rattle.rules.specs.declared.Reading.{Reading}
 use Rattle.rules.specs.declared.Reading.TheVariants.{First, Strict}
-use Rattle.std.specs.Prelude.{Option, Some, None}
+use Rattle.std.specs.Prelude.{Option, Some, None, Result, Ok}
 use Rattle.rules.specs.Rules.{reading_number, named}
 use Rattle.places.specs.Reports.{success}
-use Rattle.naming.specs.declared.Naming.TheVariants.{Distinct}
 use Rattle.changes.specs.declared.Change.{Change}
 use Rattle.changes.specs.Changes.{changes, changes_bytes}
-use Rattle.comparing.specs.declared.Comparing.{Comparing}
+use Rattle.comparing.specs.declared.CompareError.{CompareError}
 use Rattle.comparing.specs.Comparing.{bytes_of, judged, comparing_report}
 use Rattle.exports.specs.Exports.{exported, no_reading}
 use Rattle.answers.specs.Answers.{read_gives, read_by, store_left, store_by, area_left, area_by, render_gives, render_by, render_left, rendered_by, compare_by, compare_gives, compared_by, list_left}
@@ -30,10 +29,10 @@ use Rattle.promises.specs.Exported.{text_given, store_given, area_given}
 use Rattle.promises.specs.Compared.{Comparable, list_given, Unchanged, Swaps}
 
 -- where the list is empty
-module _ (r : Reading) (st ar st' ar' list : List ℕ) (e : judged r st ar ≡ Distinct) (e' : judged r st' ar' ≡ Distinct) (none : bytes_of st ar st' ar' ≡ []) where
+module _ (r : Reading) (st ar st' ar' list : List ℕ) (e : judged r st ar ≡ Ok tt) (e' : judged r st' ar' ≡ Ok tt) (none : bytes_of st ar st' ar' ≡ []) where
   none_answers : compare_by (Some r) st ar st' ar' list ≡ exported (success 0 0)
   unfolding compare_by comparing_report
-  none_answers = ap (λ (c : Comparing). exported (comparing_report c)) (empty-compared r st ar st' ar' e e' none (length list))
+  none_answers = ap (λ (c : Result ℕ CompareError). exported (comparing_report c)) (empty-compared r st ar st' ar' e e' none (length list))
 
   none-lists : compared_by (Some r) st ar st' ar' list ≡ list
   unfolding compared_by
@@ -43,7 +42,7 @@ pub itself-unchanged : (n : ℕ) (st ar list : List ℕ) → Comparable n st ar 
 unfolding Comparable compare_gives list_left compare_by compared_by exported no_reading
 itself-unchanged n st ar list h = record { answers = answers (named n) h; lists = lists (named n) h }
   where
-    fit : (r : Reading) → (compare_by (Some r) st ar st ar []).number ≡ 0 → judged r st ar ≡ Distinct
+    fit : (r : Reading) → (compare_by (Some r) st ar st ar []).number ≡ 0 → judged r st ar ≡ Ok tt
     fit r q = (done r st ar st ar 0 q).old
 
     answers : (x : Option Reading) → (compare_by x st ar st ar []).number ≡ 0 → compare_by x st ar st ar list ≡ exported (success 0 0)

@@ -46,7 +46,7 @@ fn closes(reading: Reading, s: &[u8], at: usize) -> bool
 }
 
 // Behind the mark that closes a quote; `from` is behind the mark that opens it. The search for a mark is taken up again
-// behind each that does not close.
+// behind each that does not close, which only the search itself tells.
 pub fn parse_quoted(reading: Reading, s: &[u8], from: usize, mark: u8) -> Option<usize>
     requires { is_eol mark ≡ false }
     ensures { result ≡ quote_end reading mark s.now from }

@@ -107,6 +107,7 @@ pub fn write_end(rest: &mut [u8])
 }
 
 // A record of P alone: kinds 3, 8 and 9, and in the outline all but kind 7.
+// (A kind by its number: a `Kind` would ask more of callers.)
 pub fn write_place(rest: &mut [u8], kind: u8, t: Token)
     requires { 17 ≤ length rest.old }
     ensures { rest.new ≡ front (place_record kind t) rest.old }

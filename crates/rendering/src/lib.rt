@@ -35,7 +35,7 @@ pub fn report(answer: Result<usize, RenderError>) -> Report
 // The largest rendering.
 const LIMIT: usize = 16777216;
 
-// The length of all lines, or one over the limit as soon as they are over it.
+// The length of all lines, or one over the limit as soon as they are over it: from record to record, as nesting goes.
 fn rendered_length(reading: Reading, store: &[u8], area: &[u8]) -> usize
     requires { Owned reading area.now (entries store.now) }
     ensures { result ≡ capped (length (rendering reading store.now area.now)) }

@@ -30,6 +30,7 @@ fn content_length(kind: Kind, size: usize) -> usize
 impl Sizes {
     // With one record more, of a kind and of a token with so many bytes. A body begins with its place, and the outline
     // has no more of it.
+    // (A kind by its number: a `Kind` would ask more of callers.)
     pub fn with(self, kind: u8, size: usize) -> Sizes
         requires { Upto (limit * limit) self × (size ≤ limit) }
         ensures { result ≡ added self kind size }

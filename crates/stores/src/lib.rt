@@ -42,7 +42,7 @@ fn taken(kind: Kind, fields: Fields) -> usize
     }
 }
 
-// Whether each content is readable and inside the area, and they fill it in order.
+// Whether each content is readable and inside the area, and they fill it in order: from record to record, as nesting goes.
 fn is_filled(reading: Reading, store: &[u8], area: &[u8]) -> bool
     ensures { result ≡ filled reading (entries store.now) area.now }
 {

@@ -114,7 +114,8 @@ pub fn is_block<const N: usize, P: Fn(u8) -> bool>(s: &[u8], at: usize, passes: 
     all
 }
 
-// Where a run ends that may be long: by blocks first, whose bytes pass a narrower test.
+// Where a run ends that may be long: by blocks first, whose bytes pass a narrower test. (A loop that goes on from block to
+// block while they pass, and ends anywhere: an iterator of blocks would only hold the same offset.)
 pub fn long_run_end<const N: usize, Q: Fn(u8) -> bool, P: Fn(u8) -> bool>(
     s: &[u8],
     from: usize,
