@@ -13,7 +13,7 @@ use Rattle.entries.specs.Walk.{entries}
 use Rattle.nesting.specs.declared.Where.{Where}
 use Rattle.nesting.specs.declared.Where.TheVariants.{Start, Names, Values}
 use Rattle.nesting.specs.declared.Standing.{Standing}
-use Rattle.nesting.specs.Nesting.{standing, after_name, at_names, at_values, ended, follow, nested_from, nested, stands}
+use Rattle.nesting.specs.Nesting.{standing, after_name, at_names, at_values, ended, follow, nested_from, nested}
 use Rattle.cells.specs.Cells.{Cell, Under, outset, under, cell, cells_from, cells}
 use Rattle.soles.proofs.Leads.{Leads, block, tag, loop, frame, close, name, last, value, end, single, leads}
 use Rattle.std.specs.Prelude.{Option, Some, None}

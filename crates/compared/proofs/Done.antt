@@ -9,16 +9,16 @@ use lib.ListN.{length, take}
 use Rattle.rules.specs.declared.Reading.{Reading}
 use Rattle.places.specs.Reports.{success, refused_bare, of_records, no_room}
 use Rattle.records.proofs.Putting.{take-front}
-use Rattle.naming.specs.declared.Naming.{Naming}
-use Rattle.naming.specs.declared.Naming.TheVariants.{Distinct, NotSound, Repeated}
+use Rattle.naming.specs.declared.NameError.{NameError}
+use Rattle.naming.specs.declared.NameError.TheVariants.{NotSound, Repeated}
 use Rattle.std.specs.Prelude.{Result, Ok, Err}
 use Rattle.comparing.specs.declared.CompareError.{CompareError}
 use Rattle.comparing.specs.declared.CompareError.TheVariants.{NoRoom}
 use Rattle.comparing.specs.Comparing.{bytes_of, judged, refusal_of, fitted, answered, comparing, list_after, comparing_report}
 
 pub record Done (r : Reading) (st ar st' ar' : List ℕ) (room : ℕ) : Type 0 where
-  pub old : judged r st ar ≡ Distinct
-  pub new : judged r st' ar' ≡ Distinct
+  pub old : judged r st ar ≡ Ok tt
+  pub new : judged r st' ar' ≡ Ok tt
   pub answer : comparing r st ar st' ar' room ≡ Ok (length (bytes_of st ar st' ar'))
 
 pub done : (r : Reading) (st ar st' ar' : List ℕ) (room : ℕ) → (comparing_report (comparing r st ar st' ar' room)).number ≡ 0 → Done r st ar st' ar' room
@@ -33,14 +33,14 @@ done r st ar st' ar' room h = both (judged r st ar) (judged r st' ar') refl refl
     fits false q = absurd (omega (arith, q))
 
     both :
-        (a b : Naming) → judged r st ar ≡ a → judged r st' ar' ≡ b → (comparing_report (answered (refusal_of a b) (fitted needed room))).number ≡ 0 → Done r st ar st' ar' room
-    both Distinct Distinct p q e = record { old = p; new = q; answer = rw (p, q) (fits (leb needed room) e) }
-    both Distinct NotSound p q e = absurd (omega (arith, e))
-    both Distinct (Repeated i j) p q e = absurd (omega (arith, e))
-    both NotSound b p q e = absurd (omega (arith, e))
-    both (Repeated i j) Distinct p q e = absurd (omega (arith, e))
-    both (Repeated i j) NotSound p q e = absurd (omega (arith, e))
-    both (Repeated i j) (Repeated k l) p q e = absurd (omega (arith, e))
+        (a b : Result Unit NameError) → judged r st ar ≡ a → judged r st' ar' ≡ b → (comparing_report (answered (refusal_of a b) (fitted needed room))).number ≡ 0 → Done r st ar st' ar' room
+    both (Ok u) (Ok v) p q e = record { old = p; new = q; answer = rw (p, q) (fits (leb needed room) e) }
+    both (Ok u) (Err NotSound) p q e = absurd (omega (arith, e))
+    both (Ok u) (Err (Repeated i j)) p q e = absurd (omega (arith, e))
+    both (Err NotSound) b p q e = absurd (omega (arith, e))
+    both (Err (Repeated i j)) (Ok u) p q e = absurd (omega (arith, e))
+    both (Err (Repeated i j)) (Err NotSound) p q e = absurd (omega (arith, e))
+    both (Err (Repeated i j)) (Err (Repeated k l)) p q e = absurd (omega (arith, e))
 
 -- the bytes that are counted
 pub done-list :

@@ -12,7 +12,6 @@ use Rattle.entries.specs.declared.Entry.{Entry}
 use Rattle.entries.specs.Walk.{entries}
 use Rattle.stores.specs.Soundness.{sound}
 use Rattle.names.specs.Names.{Name, block_after, scope_after, names_from, names}
-use Rattle.naming.specs.declared.Naming.TheVariants.{Distinct}
 use Rattle.naming.specs.Names.{naming_of}
 use Rattle.frames.specs.Frames.{frames_from, frames, earlier, first_twice, blocks_in, is_single}
 use Rattle.comparing.specs.Comparing.{judged}
@@ -20,7 +19,7 @@ use Rattle.written.specs.Sayings.{saying, sayings, SaySame}
 use Rattle.compared.proofs.ByKinds.{kinds_of}
 use Rattle.comparing.proofs.Answers.{judged-singular}
 use Rattle.compared.proofs.Said.{kinds_said, kinds-said, alike, shown, name-shape, frame-shape}
-use Rattle.std.specs.Prelude.{Option, Some, None}
+use Rattle.std.specs.Prelude.{Option, Some, None, Ok}
 
 -- equal lists of what is said, first and rest
 first_said : (ar ar' : List ℕ) (x y : Option Entry) (es es' : List (Option Entry)) → map (saying ar) (x ∷ es) ≡ map (saying ar') (y ∷ es') → saying ar x ≡ saying ar' y
@@ -85,7 +84,7 @@ blocks-by [] = refl
 blocks-by (None ∷ es) = refl
 blocks-by (Some e ∷ es) = ap (λ (c : ℕ). cond (eqb (number_of e.kind) 1) (suc c) c) (blocks-by es)
 
-module _ (r : Reading) (st ar st' ar' : List ℕ) (e : judged r st ar ≡ Distinct) (s : sound r st' ar' ≡ true) (h : SaySame st ar st' ar') where
+module _ (r : Reading) (st ar st' ar' : List ℕ) (e : judged r st ar ≡ Ok tt) (s : sound r st' ar' ≡ true) (h : SaySame st ar st' ar') where
   same_names : names st ar ≡ names st' ar'
   unfolding names SaySame sayings
   same_names = names-said ar ar' (entries st) (entries st') h 0 0 0
@@ -99,7 +98,7 @@ module _ (r : Reading) (st ar st' ar' : List ℕ) (e : judged r st ar ≡ Distin
   same_blocks =
       blocks-by (entries st) ∙ ap blocks_by (sym (kinds-said ar (entries st)) ∙ ap kinds_said h ∙ kinds-said ar' (entries st')) ∙ sym (blocks-by (entries st'))
 
-  pub said-judged : judged r st' ar' ≡ Distinct
+  pub said-judged : judged r st' ar' ≡ Ok tt
   unfolding judged is_single first_twice earlier naming_of
   said-judged =
       let k = judged-singular r st ar e in

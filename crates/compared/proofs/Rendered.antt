@@ -3,11 +3,11 @@ use Prim.Native.Nat.{ℕ}
 use mathlib.Core.Bool.{true}
 use mathlib.Core.Path.{◌≡◌, sym, ap}
 use mathlib.Core.List.{List, []}
+use Rattle.std.specs.Prelude.{Ok}
 use Rattle.rules.specs.declared.Reading.{Reading}
 use Rattle.places.specs.declared.Report.{Report}
 use Rattle.places.specs.Reports.{success}
 use Rattle.stores.specs.Soundness.{sound}
-use Rattle.naming.specs.declared.Naming.TheVariants.{Distinct}
 use Rattle.changes.specs.Changes.{changes_bytes}
 use Rattle.comparing.specs.Comparing.{bytes_of, judged}
 use Rattle.written.specs.Results.{store_bytes, area_bytes}
@@ -19,7 +19,7 @@ use Rattle.sound.proofs.ReadIsSound.{read-is-sound}
 use Rattle.compared.proofs.Said.{said-empty}
 use Rattle.compared.proofs.Judged.{said-judged}
 
-module _ (r : Reading) (st ar text store area : List ℕ) (h : Renderable r st ar text store area) (e : judged r st ar ≡ Distinct) where
+module _ (r : Reading) (st ar text store area : List ℕ) (h : Renderable r st ar text store area) (e : judged r st ar ≡ Ok tt) where
   t : List ℕ
   t = rendered_bytes r st ar text
 
@@ -31,7 +31,7 @@ module _ (r : Reading) (st ar text store area : List ℕ) (h : Renderable r st a
   unfolding SaySame t
   says_same = sym (round_trip r st ar text store area h).same
 
-  pub rendered-judged : judged r (store_bytes r (rendered_bytes r st ar text) store area) (area_bytes r (rendered_bytes r st ar text) store area) ≡ Distinct
+  pub rendered-judged : judged r (store_bytes r (rendered_bytes r st ar text) store area) (area_bytes r (rendered_bytes r st ar text) store area) ≡ Ok tt
   unfolding t
   rendered-judged = said-judged r st ar _ _ e sound-again says_same
 

@@ -21,7 +21,6 @@ use Rattle.stores.specs.Soundness.{sound}
 use Rattle.stores.specs.Content.{nth}
 use Rattle.steps.specs.Steps.{held_by}
 use Rattle.names.specs.Names.{Name, block_after, scope_after, names_from, names}
-use Rattle.naming.specs.declared.Naming.TheVariants.{Distinct}
 use Rattle.frames.specs.Frames.{frames_from, frames}
 use Rattle.cells.specs.Cells.{Cell, cells, name_of}
 use Rattle.number_cases.specs.declared.Case.TheVariants.{Same}
@@ -37,7 +36,7 @@ use Rattle.soles.proofs.Soles.{nm, Told, told-all}
 use Rattle.comparing.proofs.Answers.{judged-singular}
 use Rattle.compared.proofs.Twins.{twins-empty, case_twin}
 use Rattle.compared.proofs.ByKinds.{kinds_of, same-cells}
-use Rattle.std.specs.Prelude.{Option, Some, None}
+use Rattle.std.specs.Prelude.{Option, Some, None, Ok}
 use Rattle.entries.specs.Entries.{whole}
 
 -- kinds as they are said
@@ -224,7 +223,7 @@ whole-store es x l =
     let z : x.number - 0 ≡ x.number = omega arith in
     rw z at l.has
 
-module _ (r : Reading) (st ar st' ar' : List ℕ) (e : judged r st ar ≡ Distinct) (s : sound r st' ar' ≡ true) (h : SaySame st ar st' ar') where
+module _ (r : Reading) (st ar st' ar' : List ℕ) (e : judged r st ar ≡ Ok tt) (s : sound r st' ar' ≡ true) (h : SaySame st ar st' ar') where
   each : (n : ℕ) → saying ar (nth (entries st) n) ≡ saying ar' (nth (entries st') n)
   unfolding SaySame sayings
   each n = nth-said ar ar' (entries st) (entries st') h n

@@ -7,10 +7,10 @@ use mathlib.Core.List.{List, [], ◌∷◌, ◌++◌}
 use mathlib.Core.Option.{Option, none, some}
 use borrow.Author.Tests.{eqb-false}
 use lib.Dec.{eqb}
+use Rattle.std.specs.Prelude.{Ok}
 use Rattle.rules.specs.declared.Reading.{Reading}
 use Rattle.entries.specs.Walk.{entries}
 use Rattle.stores.specs.Content.{nth}
-use Rattle.naming.specs.declared.Naming.TheVariants.{Distinct}
 use Rattle.cells.specs.Cells.{Cell, cells}
 use Rattle.cases.specs.Cases.{case_of}
 use Rattle.partners.specs.Partners.{partner}
@@ -182,7 +182,7 @@ module _ (st ar st' ar' : List ℕ) (s : Sole st ar) where
   swap-sole c m = either_side c (in_parts (of_all true st ar st' ar' (cells st)) (of_all false st' ar' st ar (cells st')) m)
 
 -- THE ENTRIES OF TWO STORES, THE OTHER WAY ROUND, ARE THE SAME, TURNED
-pub swapped : (r : Reading) (st ar st' ar' : List ℕ) → judged r st ar ≡ Distinct → (c : Change) → In c (changes st ar st' ar') → In (turned c) (changes st' ar' st ar)
+pub swapped : (r : Reading) (st ar st' ar' : List ℕ) → judged r st ar ≡ Ok tt → (c : Change) → In c (changes st ar st' ar') → In (turned c) (changes st' ar' st ar)
 swapped r st ar st' ar' e = swap-sole st ar st' ar' (judged-sole r st ar e)
 
 -- and turning twice changes nothing

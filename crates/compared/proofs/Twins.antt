@@ -6,13 +6,13 @@ use mathlib.Core.List.{List, [], ◌∷◌, ◌++◌}
 use mathlib.Core.Option.{some}
 use borrow.Author.Tests.{eqb-false}
 use lib.Dec.{eqb}
+use Rattle.std.specs.Prelude.{Ok}
 use Rattle.rules.specs.declared.Reading.{Reading}
 use Rattle.folding.specs.Folding.{same_name, equal_bytes}
 use Rattle.kinds.specs.declared.Kind.{Kind}
 use Rattle.kinds.specs.Kinds.{number_of}
 use Rattle.entries.specs.declared.Fields.{Fields}
 use Rattle.contents.specs.Contents.{content_bytes}
-use Rattle.naming.specs.declared.Naming.TheVariants.{Distinct}
 use Rattle.cells.specs.Cells.{Cell, cells, name_of}
 use Rattle.number_cases.specs.declared.Case.TheVariants.{Same, Different}
 use Rattle.number_cases.specs.Numbers.{case_number}
@@ -82,7 +82,7 @@ module _ (st ar st' ar' : List ℕ) (s : Sole st ar) (t : Twins st ar st' ar') w
   twins-sole = ap₂ (λ (a b : List Change). a ++ b) (all_none true st ar st' ar' old-none (cells st) (λ x q. q)) (all_none false st' ar' st ar new_none (cells st') back)
 
 -- THE LIST OF TWO STORES THAT SAY THE SAME IS EMPTY
-pub twins-empty : (r : Reading) (st ar st' ar' : List ℕ) → judged r st ar ≡ Distinct → Twins st ar st' ar' → changes st ar st' ar' ≡ []
+pub twins-empty : (r : Reading) (st ar st' ar' : List ℕ) → judged r st ar ≡ Ok tt → Twins st ar st' ar' → changes st ar st' ar' ≡ []
 twins-empty r st ar st' ar' e t = twins-sole st ar st' ar' (judged-sole r st ar e) t
 
 -- records of one kind with equal parts and, if they are texts, equal contents are the same

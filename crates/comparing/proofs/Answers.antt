@@ -13,8 +13,8 @@ use Rattle.records.specs.Put.{front, put}
 use Rattle.records.proofs.Putting.{front-next, put-zero, length_front}
 use Rattle.stores.specs.Soundness.{sound}
 use Rattle.names.specs.Names.{names}
-use Rattle.naming.specs.declared.Naming.{Naming}
-use Rattle.naming.specs.declared.Naming.TheVariants.{Distinct, NotSound, Repeated}
+use Rattle.naming.specs.declared.NameError.{NameError}
+use Rattle.naming.specs.declared.NameError.TheVariants.{NotSound, Repeated}
 use Rattle.naming.specs.Names.{Repeat, fresh, repeats, first_repeat, naming_of, name_check}
 use Rattle.frames.specs.Frames.{frames, earlier, first_twice, is_single}
 use Rattle.soles.specs.Singular.{Singular}
@@ -24,9 +24,9 @@ use Rattle.changes.specs.Steps.{Comparable}
 use Rattle.changes.proofs.Changes.{bytes-append, side-fits}
 use Rattle.std.specs.Prelude.{Result, Ok, Err}
 use Rattle.comparing.specs.declared.CompareError.{CompareError}
-use Rattle.comparing.specs.declared.CompareError.TheVariants.{NotSound as Unsound, Repeated as Twice, NoRoom}
+use Rattle.comparing.specs.declared.CompareError.TheVariants.{NoRoom}
 use Rattle.comparing.specs.Comparing.{bytes_of, judged, refusal_of, fitted, answered, comparing, list_after, Compares}
-use Rattle.comparing.specs.Steps.{earlier_of, Writes}
+use Rattle.comparing.specs.Steps.{of_names, earlier_of, Writes}
 
 -- ONE STORE
 earlier-naming : (x y : Repeat) → earlier_of (naming_of x) (naming_of y) ≡ naming_of (earlier x y)
@@ -35,16 +35,16 @@ earlier-naming fresh y = refl
 earlier-naming (repeats i j) fresh = refl
 earlier-naming (repeats i j) (repeats k l) = by (ltb l j)
   where
-    by : (t : Bool) → cond t (Repeated k l) (Repeated i j) ≡ naming_of (cond t (repeats k l) (repeats i j))
+    by : (t : Bool) → cond t (Err (Repeated k l)) (Err (Repeated i j)) ≡ naming_of (cond t (repeats k l) (repeats i j))
     by true = refl
     by false = refl
 
 module _ (r : Reading) (st ar : List ℕ) where
-  pub judged-several : is_single st ≡ false → NotSound ≡ judged r st ar
+  pub judged-several : is_single st ≡ false → Err NotSound ≡ judged r st ar
   unfolding judged
   judged-several e = rw e (by (sound r st ar))
     where
-      by : (t : Bool) → NotSound ≡ cond (t && false) (naming_of (first_twice st ar)) NotSound
+      by : (t : Bool) → Err NotSound ≡ cond (t && false) (naming_of (first_twice st ar)) (Err NotSound)
       by true = refl
       by false = refl
 
@@ -52,22 +52,22 @@ module _ (r : Reading) (st ar : List ℕ) where
   unfolding judged name_check first_twice earlier_of
   judged-single e = rw e (by (sound r st ar))
     where
-      by : (t : Bool) → earlier_of (cond t (naming_of (first_repeat (names st ar))) NotSound) (naming_of (first_repeat (frames st ar))) ≡ cond (t && true) (naming_of (earlier (first_repeat (names st ar)) (first_repeat (frames st ar)))) NotSound
+      by : (t : Bool) → earlier_of (cond t (naming_of (first_repeat (names st ar))) (Err NotSound)) (naming_of (first_repeat (frames st ar))) ≡ cond (t && true) (naming_of (earlier (first_repeat (names st ar)) (first_repeat (frames st ar)))) (Err NotSound)
       by true = earlier-naming (first_repeat (names st ar)) (first_repeat (frames st ar))
       by false = refl
 
   -- what is not refused is sound
-  pub judged-sound : judged r st ar ≡ Distinct → sound r st ar ≡ true
+  pub judged-sound : judged r st ar ≡ Ok tt → sound r st ar ≡ true
   unfolding judged
   judged-sound e = by (sound r st ar) (is_single st) e
     where
-      by : (s t : Bool) → cond (s && t) (naming_of (first_twice st ar)) NotSound ≡ Distinct → s ≡ true
+      by : (s t : Bool) → cond (s && t) (naming_of (first_twice st ar)) (Err NotSound) ≡ Ok tt → s ≡ true
       by true t q = refl
       by false t q =
           let z : ◌≡◌ {A = ℕ} 0 1 = cc in
           absurd (omega arith)
 
-both-fresh : (a b : Repeat) → naming_of (earlier a b) ≡ Distinct → (a ≡ fresh) × (b ≡ fresh)
+both-fresh : (a b : Repeat) → naming_of (earlier a b) ≡ Ok tt → (a ≡ fresh) × (b ≡ fresh)
 unfolding earlier naming_of
 both-fresh fresh fresh e = (refl, refl)
 both-fresh fresh (repeats k l) e =
@@ -78,7 +78,7 @@ both-fresh (repeats i j) fresh e =
     absurd (omega arith)
 both-fresh (repeats i j) (repeats k l) e = by (ltb l j) e
   where
-    by : (t : Bool) → naming_of (cond t (repeats k l) (repeats i j)) ≡ Distinct → (repeats i j ≡ fresh) × (repeats k l ≡ fresh)
+    by : (t : Bool) → naming_of (cond t (repeats k l) (repeats i j)) ≡ Ok tt → (repeats i j ≡ fresh) × (repeats k l ≡ fresh)
     by true e =
         let z : ◌≡◌ {A = ℕ} 0 1 = cc in
         absurd (omega arith)
@@ -87,11 +87,11 @@ both-fresh (repeats i j) (repeats k l) e = by (ltb l j) e
         absurd (omega arith)
 
 -- and may be compared
-pub judged-singular : (r : Reading) (st ar : List ℕ) → judged r st ar ≡ Distinct → Singular st ar
+pub judged-singular : (r : Reading) (st ar : List ℕ) → judged r st ar ≡ Ok tt → Singular st ar
 unfolding judged first_twice
 judged-singular r st ar e = by (sound r st ar && is_single st) refl e
   where
-    by : (t : Bool) → (sound r st ar && is_single st) ≡ t → cond t (naming_of (first_twice st ar)) NotSound ≡ Distinct → Singular st ar
+    by : (t : Bool) → (sound r st ar && is_single st) ≡ t → cond t (naming_of (first_twice st ar)) (Err NotSound) ≡ Ok tt → Singular st ar
     by true q e =
         let names_fresh = both-fresh (first_repeat (names st ar)) (first_repeat (frames st ar)) e in
         singular r st ar (and_l (sound r st ar) _ q) (and_r (sound r st ar) _ q) names_fresh.0 names_fresh.1
@@ -100,19 +100,19 @@ judged-singular r st ar e = by (sound r st ar && is_single st) refl e
         absurd (omega arith)
 
 -- BOTH
-pub refusal-none : (a b : Naming) → refusal_of a b ≡ Distinct → (a ≡ Distinct) × (b ≡ Distinct)
+pub refusal-none : (a b : Result Unit NameError) → refusal_of a b ≡ Ok tt → (a ≡ Ok tt) × (b ≡ Ok tt)
 unfolding refusal_of
-refusal-none Distinct b e = (refl, e)
-refusal-none NotSound b e =
+refusal-none (Ok u) b e = (refl, e)
+refusal-none (Err NotSound) b e =
     let z : ◌≡◌ {A = ℕ} 0 1 = cc in
     absurd (omega arith)
-refusal-none (Repeated i j) NotSound e =
+refusal-none (Err (Repeated i j)) (Err NotSound) e =
     let z : ◌≡◌ {A = ℕ} 0 1 = cc in
     absurd (omega arith)
-refusal-none (Repeated i j) Distinct e =
+refusal-none (Err (Repeated i j)) (Ok u) e =
     let z : ◌≡◌ {A = ℕ} 0 1 = cc in
     absurd (omega arith)
-refusal-none (Repeated i j) (Repeated k l) e =
+refusal-none (Err (Repeated i j)) (Err (Repeated k l)) e =
     let z : ◌≡◌ {A = ℕ} 0 1 = cc in
     absurd (omega arith)
 
@@ -151,23 +151,20 @@ module _ (st ar st' ar' : List ℕ) where
         omega (arith, ap length (e ∙ put-zero (changes_bytes (side_of true st ar st' ar')) l), length_front (changes_bytes (side_of true st ar st' ar')) l (omega arith))
 
 -- THE ANSWER
-module _ (r : Reading) (st ar st' ar' l : List ℕ) (n : Naming) (e : n ≡ refusal_of (judged r st ar) (judged r st' ar')) where
-  pub compared-unsound : n ≡ NotSound → Compares r st ar st' ar' l (Err Unsound) l
-  unfolding comparing answered list_after
-  compared-unsound q = record { answers = rw (← e, q); list = refl }
+module _ (r : Reading) (st ar st' ar' l : List ℕ) (n : Result Unit NameError) (e : n ≡ refusal_of (judged r st ar) (judged r st' ar')) where
+  pub compared-refused : (x : NameError) → n ≡ Err x → Compares r st ar st' ar' l (Err (of_names x)) l
+  unfolding comparing answered list_after of_names
+  compared-refused NotSound q = record { answers = rw (← e, q); list = refl }
+  compared-refused (Repeated i j) q = record { answers = rw (← e, q); list = refl }
 
-  pub compared-twice : (i j : ℕ) → n ≡ Repeated i j → Compares r st ar st' ar' l (Err (Twice i j)) l
-  unfolding comparing answered list_after
-  compared-twice i j q = record { answers = rw (← e, q); list = refl }
-
-  pub compared-list : (c : Result ℕ CompareError) (l' : List ℕ) → n ≡ Distinct → Writes st ar st' ar' l c l' → Compares r st ar st' ar' l c l'
+  pub compared-list : (c : Result ℕ CompareError) (l' : List ℕ) → n ≡ Ok tt → Writes st ar st' ar' l c l' → Compares r st ar st' ar' l c l'
   unfolding comparing answered
   compared-list c l' q w = record { answers = w.answers ∙ rw (← e, q); list = w.list }
 
-  both-distinct : n ≡ Distinct → (judged r st ar ≡ Distinct) × (judged r st' ar' ≡ Distinct)
+  both-distinct : n ≡ Ok tt → (judged r st ar ≡ Ok tt) × (judged r st' ar' ≡ Ok tt)
   both-distinct q = refusal-none (judged r st ar) (judged r st' ar') (sym e ∙ q)
 
-  pub both-ready : n ≡ Distinct → Comparable st ar st' ar' × Comparable st' ar' st ar
+  pub both-ready : n ≡ Ok tt → Comparable st ar st' ar' × Comparable st' ar' st ar
   both-ready q =
       let d = both-distinct q in
       let s = judged-sound r st ar d.0 in

@@ -7,8 +7,8 @@ use Rattle.places.specs.declared.Report.{Report}
 use Rattle.places.specs.Reports.{success, refused_bare, of_records, no_room}
 use Rattle.records.specs.Put.{front}
 use Rattle.stores.specs.Soundness.{sound}
-use Rattle.naming.specs.declared.Naming.{Naming}
-use Rattle.naming.specs.declared.Naming.TheVariants.{Distinct, NotSound, Repeated}
+use Rattle.naming.specs.declared.NameError.{NameError}
+use Rattle.naming.specs.declared.NameError.TheVariants.{NotSound, Repeated}
 use Rattle.naming.specs.Names.{naming_of}
 use Rattle.frames.specs.Frames.{first_twice, is_single}
 use Rattle.changes.specs.Changes.{changes, changes_bytes}
@@ -20,25 +20,25 @@ unfoldable pub bytes_of : List ℕ → List ℕ → List ℕ → List ℕ → Li
 bytes_of st ar st' ar' = changes_bytes (changes st ar st' ar')
 
 -- one store by itself: 12, 13, or neither
-unfoldable pub judged : Reading → List ℕ → List ℕ → Naming
-judged r st ar = cond (sound r st ar && is_single st) (naming_of (first_twice st ar)) NotSound
+unfoldable pub judged : Reading → List ℕ → List ℕ → Result Unit NameError
+judged r st ar = cond (sound r st ar && is_single st) (naming_of (first_twice st ar)) (Err NotSound)
 
 -- of both: 12 of the old, 12 of the new, 13 of the old, 13 of the new
-unfoldable pub refusal_of : Naming → Naming → Naming
-refusal_of NotSound n = NotSound
-refusal_of Distinct n = n
-refusal_of (Repeated i j) NotSound = NotSound
-refusal_of (Repeated i j) Distinct = Repeated i j
-refusal_of (Repeated i j) (Repeated k l) = Repeated i j
+unfoldable pub refusal_of : Result Unit NameError → Result Unit NameError → Result Unit NameError
+refusal_of (Err NotSound) n = Err NotSound
+refusal_of (Ok u) n = n
+refusal_of (Err (Repeated i j)) (Err NotSound) = Err NotSound
+refusal_of (Err (Repeated i j)) (Ok u) = Err (Repeated i j)
+refusal_of (Err (Repeated i j)) (Err (Repeated k l)) = Err (Repeated i j)
 
 -- the list, where it fits
 unfoldable pub fitted : ℕ → ℕ → Result ℕ CompareError
 fitted needed room = cond (leb needed room) (Ok needed) (Err (NoRoom needed))
 
-unfoldable pub answered : Naming → Result ℕ CompareError → Result ℕ CompareError
-answered Distinct c = c
-answered NotSound c = Err Unsound
-answered (Repeated i j) c = Err (Twice i j)
+unfoldable pub answered : Result Unit NameError → Result ℕ CompareError → Result ℕ CompareError
+answered (Ok u) c = c
+answered (Err NotSound) c = Err Unsound
+answered (Err (Repeated i j)) c = Err (Twice i j)
 
 unfoldable pub comparing : Reading → List ℕ → List ℕ → List ℕ → List ℕ → ℕ → Result ℕ CompareError
 comparing r st ar st' ar' room = answered (refusal_of (judged r st ar) (judged r st' ar')) (fitted (length (bytes_of st ar st' ar')) room)

@@ -5,10 +5,10 @@ ghost use Rattle.std.specs.Prelude.{◌≡◌};
 ghost use Rattle.cells.specs.Sides.{between};
 ghost use Rattle.changes.specs.Steps.{Comparable};
 ghost use Rattle.comparing.specs.Comparing.{judged, refusal_of, comparing_report, Compares};
-ghost use Rattle.comparing.specs.Steps.{earlier_of, Writes};
+ghost use Rattle.comparing.specs.Steps.{of_names, earlier_of, Writes};
 
 use cells::Side;
-use naming::Naming;
+use naming::NameError;
 use places::Report;
 use rules::Reading;
 
@@ -20,57 +20,64 @@ pub enum CompareError {
     NoRoom { needed: usize },
 }
 
+// What the name check refuses, in Compare's words.
+impl From<NameError> for CompareError {
+    ghost from_gives = { λ names error. error ≡ of_names names };
+
+    #[tactic(auto, unfolding(crate::specs::Steps::of_names))]
+    fn from(names: NameError) -> CompareError {
+        match names {
+            NameError::NotSound => CompareError::NotSound,
+            NameError::Repeated { first, again } => CompareError::Repeated { first, again },
+        }
+    }
+}
+
 // The answer in document 01's numbers.
+#[tactic(auto, unfolding(crate::specs::Comparing::comparing_report, places::specs::Reports::success, places::specs::Reports::no_room))]
 pub fn report(answer: Result<usize, CompareError>) -> Report
     ensures { result ≡ comparing_report answer }
 {
     match answer {
         Ok(length) => Report::lengths(0, length, 0),
-        Err(error) => match error {
-            CompareError::NotSound => Report::bare(12),
-            CompareError::Repeated { first, again } => Report::records(13, first, again),
-            CompareError::NoRoom { needed } => Report::lengths(10, needed, 0),
-        },
+        Err(CompareError::NotSound) => Report::bare(12),
+        Err(CompareError::Repeated { first, again }) => Report::records(13, first, again),
+        Err(CompareError::NoRoom { needed }) => Report::lengths(10, needed, 0),
     }
 }
 
 // The earlier of what two searches of one store found.
-fn earlier_of(tags: Naming, frames: Naming) -> Naming
+#[tactic(auto, unfolding(crate::specs::Steps::earlier_of))]
+fn earlier_of(tags: Result<(), NameError>, frames: Result<(), NameError>) -> Result<(), NameError>
     ensures { result ≡ earlier_of tags frames }
 {
-    match tags {
-        Naming::NotSound => tags,
-        Naming::Distinct => frames,
-        Naming::Repeated { again, .. } => match frames {
-            Naming::NotSound => frames,
-            Naming::Distinct => tags,
-            Naming::Repeated { again: then, .. } => { if then < again { frames } else { tags } }
-        },
+    match (tags, frames) {
+        (Ok(()), _) | (Err(NameError::Repeated { .. }), Err(NameError::NotSound)) => frames,
+        (Err(NameError::Repeated { again: tag, .. }), Err(NameError::Repeated { again: frame, .. }))
+            if frame < tag => frames,
+        _ => tags,
     }
 }
 
 // One store by itself: 12, 13, or neither.
-fn judge(reading: Reading, store: &[u8], area: &[u8]) -> Naming
+fn judge(reading: Reading, store: &[u8], area: &[u8]) -> Result<(), NameError>
     ensures { result ≡ judged reading store.now area.now }
 {
     if !frames::is_single(store) {
-        return Naming::NotSound;
+        return Err(NameError::NotSound);
     }
     let tags = naming::check_names(reading, store, area);
     earlier_of(tags, frames::check_frames(store, area))
 }
 
 // What both say: 12 of either before 13 of either.
-fn refusal(old: Naming, new: Naming) -> Naming
+#[tactic(auto, unfolding(crate::specs::Comparing::refusal_of))]
+fn refusal(old: Result<(), NameError>, new: Result<(), NameError>) -> Result<(), NameError>
     ensures { result ≡ refusal_of old new }
 {
-    match old {
-        Naming::NotSound => old,
-        Naming::Distinct => new,
-        Naming::Repeated { .. } => match new {
-            Naming::NotSound => new,
-            Naming::Distinct | Naming::Repeated { .. } => old,
-        },
+    match (old, new) {
+        (Ok(()), _) | (Err(NameError::Repeated { .. }), Err(NameError::NotSound)) => new,
+        _ => old,
     }
 }
 
@@ -102,19 +109,12 @@ pub fn compare(
 ) -> Result<usize, CompareError>
     ensures { Compares reading store.now area.now store2.now area2.now list.old result list.new }
 {
-    let old = judge(reading, store, area);
-    match refusal(old, judge(reading, store2, area2)) {
-        Naming::NotSound => Err(CompareError::NotSound),
-        Naming::Repeated { first, again } => Err(CompareError::Repeated { first, again }),
-        Naming::Distinct => {
-            let (old, new) = (
-                Side { store, area },
-                Side {
-                    store: store2,
-                    area: area2,
-                },
-            );
-            write_list(old, new, list)
-        }
-    }
+    let judged = judge(reading, store, area);
+    refusal(judged, judge(reading, store2, area2))?;
+    let old = Side { store, area };
+    let new = Side {
+        store: store2,
+        area: area2,
+    };
+    write_list(old, new, list)
 }

@@ -1,18 +1,18 @@
 -- `comparing::compare`: what both stores say, then the list. Assumes nothing.
 use mathlib.Core.Path.{◌∙◌}
-use Rattle.comparing.proofs.Answers.{compared-unsound, compared-twice, compared-list, both-ready}
+use Rattle.std.proofs.lemmas.Result.{err_from_is_err_and}
+use Rattle.comparing.proofs.Answers.{compared-refused, compared-list, both-ready}
 use Rattle.comparing.proofs.compare.Goals as goal
+
+pub returns-in_err-refusal : goal.returns-in_err-refusal
+returns-in_err-refusal c =
+    let e = err_from_is_err_and c.from_residual.result c.from_residual.ensures.1 in
+    rw (e.1, e.2) (compared-refused _ _ _ _ _ _ _ (c.refusal.ensures ∙ rw (c.judge-judged.ensures, c.judge.ensures)) _ c.in_err-refusal.was)
 
 pub write_list-requires : goal.write_list-requires
 write_list-requires c =
     let a = c.args in
-    both-ready a.reading a.store.now a.area.now a.store2.now a.area2.now a.list.now _ (c.refusal.ensures ∙ rw (c.judge-old.ensures, c.judge.ensures)) c.in-Distinct.is
+    both-ready a.reading a.store.now a.area.now a.store2.now a.area2.now a.list.now _ (c.refusal.ensures ∙ rw (c.judge-judged.ensures, c.judge.ensures)) c.in_ok-refusal.was
 
-pub returns-in-NotSound : goal.returns-in-NotSound
-returns-in-NotSound c = compared-unsound _ _ _ _ _ _ _ (c.refusal.ensures ∙ rw (c.judge-old.ensures, c.judge.ensures)) c.in-NotSound.is
-
-pub returns-in-Repeated : goal.returns-in-Repeated
-returns-in-Repeated c = compared-twice _ _ _ _ _ _ _ (c.refusal.ensures ∙ rw (c.judge-old.ensures, c.judge.ensures)) _ _ c.in-Repeated.is
-
-pub returns-in-Distinct : goal.returns-in-Distinct
-returns-in-Distinct c = compared-list _ _ _ _ _ _ _ (c.refusal.ensures ∙ rw (c.judge-old.ensures, c.judge.ensures)) _ _ c.in-Distinct.is c.write_list.ensures
+pub returns : goal.returns
+returns c = compared-list _ _ _ _ _ _ _ (c.refusal.ensures ∙ rw (c.judge-judged.ensures, c.judge.ensures)) _ _ c.in_ok-refusal.was c.write_list.ensures
