@@ -1,14 +1,15 @@
 // Where writing stands, and what each record takes of it: the P of a token, the bytes of a record, the place behind a token.
 #![tactic(auto)]
 
-ghost use Rattle.std.specs.Prelude.{◌≡◌, ◌+◌, ◌≤◌, ◌<◌, ◌^◌};
+ghost use Rattle.std.specs.Prelude.{◌≡◌, ◌+◌, ◌≤◌, ◌<◌, ◌^◌, length};
 ghost use Rattle.places.specs.Places.{IsPlace, place_at};
 ghost use Rattle.desk.specs.Written.{token_at};
-ghost use Rattle.desk.specs.Desk.{shaped_length, record_length, IsToken};
+ghost use Rattle.desk.specs.Desk.{shaped_length, record_length, Going, IsToken};
 
 use kinds::{Kind, Shape};
 use places::Place;
 use records::Token;
+use rules::Reading;
 
 // Where writing stands: the place in the text, and the offsets in the store and in the area.
 #[derive(Clone, Copy)]
@@ -16,6 +17,35 @@ pub struct Cursor {
     pub place: Place,
     pub at: usize,
     pub area: usize,
+}
+
+// A text that is written, what is lent for it, and where writing stands. Read copies contents into the area (`full`), Outline does not.
+#[derive(Drop)]
+pub struct Writer<'t, 'b> {
+    pub reading: Reading,
+    pub text: &'t [u8],
+    pub full: bool,
+    pub store: &'b mut [u8],
+    pub area: &'b mut [u8],
+    pub cursor: Cursor,
+}
+
+impl Writer<'_, '_> {
+    // Writing goes on behind a token, with so many bytes more in the store and in the area.
+    pub fn pass(&mut self, kind: u8, size: usize, stored: usize, copied: usize)
+        requires token { IsToken self.old.text.now kind self.old.cursor.place.offset size }
+        requires going { Going self.old.text.now self.old.cursor }
+        requires room { (self.old.cursor.at + stored ≤ length self.old.store.now) × (copied ≤ size) }
+        ensures { self.new
+            ≡ record self.old { cursor = record { place = place_at self.old.text.now (self.old.cursor.place.offset + size); at = self.old.cursor.at + stored; area = self.old.cursor.area + copied } } }
+    {
+        let Cursor { place, at, area } = self.cursor;
+        self.cursor = Cursor {
+            place: behind(self.text, place, kind, size),
+            at: at + stored,
+            area: area + copied,
+        };
+    }
 }
 
 // P of the token at a place.

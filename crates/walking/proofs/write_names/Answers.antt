@@ -3,79 +3,77 @@ use Prim.Native.Nat.{◌-◌}
 use mathlib.Core.Path.{refl, ap}
 use native.Mathlib.Omega.{arith}
 use Rattle.kinds.specs.Kinds.{kind_of, shape_of}
-use Rattle.gaps.proofs.Gaps.{gap_from}
-use Rattle.desk.specs.Desk.{desk}
+use Rattle.desk.specs.Writer.{desk_of}
 use Rattle.desk.proofs.Ones.{loop-tag-marked}
 use Rattle.walking.specs.Walk.{names_from, behind_names}
 use Rattle.walking.proofs.SoFar.{start}
-use Rattle.walking.proofs.Lists.{name-room, name-next, name-gap, name-last, gap-again}
-use Rattle.walking.proofs.Values.{trim-offset, trim-going}
+use Rattle.walking.proofs.Lists.{name-room, name-next, name-last}
+use Rattle.walking.proofs.Trims.{same-then, same-own, trim-same, name-gone, gone-again, gone-further}
 use Rattle.walking.proofs.write_names.Goals as goal
 
-pub loop-reading-init : goal.loop-reading-init
-loop-reading-init c =
-    let a = c.args in
-    let p = c.requires in
-    start a.full a.s.now (names_from a.reading a.s.now) (behind_names a.reading a.s.now) (desk a.c a.store.now a.area.now) p.going p.room
+pub loop-offset-init : goal.loop-offset-init
+loop-offset-init c =
+    let w = c.args.writer.now in
+    record { same = same-own w; so_far = start w.full w.text.now (names_from w.reading w.text.now) (behind_names w.reading w.text.now) (desk_of w) c.requires.going c.requires.room }
 
-pub trimmed-here-requires : goal.trimmed-here-requires
-trimmed-here-requires c = c.loop-reading.invariant.going.place
+pub trim-requires : goal.trim-requires
+trim-requires c =
+    let i = c.loop-offset.invariant in
+    rw i.same.text i.so_far.going.place
 
 pub name_end-end-requires : goal.name_end-end-requires
 name_end-end-requires c =
-    let l = c.loop-reading in
-    let a = c.args in
-    let h = c.trimmed-here in
-    (trim-going a.s.now l.last h.result h.ensures l.invariant.going).place.within
+    let w = c.args.writer.now in
+    let h = c.trim.new.writer in
+    let i = c.loop-offset.invariant in
+    let t = trim-same w _ h i.same c.trim.ensures in
+    rw t.text (name-gone w _ h i.same c.trim.ensures i.so_far).going.place.within
 
-pub returns-then-end-offset : goal.returns-then-end-offset
-returns-then-end-offset c =
-    let l = c.loop-reading in
-    let a = c.args in
-    let h = c.trimmed-here in
-    let d₀ = desk a.c a.store.now a.area.now in
-    let d = desk h.result l.store l.area in
-    let i = name-gap a.reading a.full a.s.now d₀ l.last h.result l.store l.area l.invariant h.ensures in
-    let g = gap-again a.s.now l.last h.result h.ensures in
-    name-last a.reading a.full a.s.now d₀ d i g (rw (← c.name_end-end.ensures) c.if-end-offset.true)
+pub returns-then-end-offset-clause-wrote : goal.returns-then-end-offset-clause-wrote
+returns-then-end-offset-clause-wrote c =
+    let w = c.args.writer.now in
+    let h = c.trim.new.writer in
+    let i = c.loop-offset.invariant in
+    let t = trim-same w _ h i.same c.trim.ensures in
+    let g = name-gone w _ h i.same c.trim.ensures i.so_far in
+    let b = gone-again w _ h i.same c.trim.ensures in
+    let e = rw (t.reading, t.text) at c.name_end-end.ensures in
+    name-last w.reading w.full w.text.now (desk_of w) (desk_of h) g b (rw (← e) c.if-end-offset.true)
 
-pub overflow_sub-end : goal.overflow_sub-end
-overflow_sub-end c = omega (arith, c.if-end-offset.false)
+pub write_tag-requires : goal.write_tag-requires
+write_tag-requires c =
+    let w = c.args.writer.now in
+    let h = c.trim.new.writer in
+    let i = c.loop-offset.invariant in
+    let t = trim-same w _ h i.same c.trim.ensures in
+    let g = name-gone w _ h i.same c.trim.ensures i.so_far in
+    let b = gone-again w _ h i.same c.trim.ensures in
+    let e = rw (t.reading, t.text) at c.name_end-end.ensures in
+    let room = name-room w.reading w.full w.text.now (desk_of w) (desk_of h) _ g b (rw (← e) c.if-end-offset.false) (ap (λ x. x - h.cursor.place.offset) e) in
+    (rw (t.text, t.full) (record { going = g.going; token = room.0; content = unfold kind_of shape_of in refl; room = room.1 }), loop-tag-marked)
 
-pub write_tag-last-requires : goal.write_tag-last-requires
-write_tag-last-requires c =
-    let l = c.loop-reading in
-    let a = c.args in
-    let h = c.trimmed-here in
-    let d₀ = desk a.c a.store.now a.area.now in
-    let d = desk h.result l.store l.area in
-    let i = name-gap a.reading a.full a.s.now d₀ l.last h.result l.store l.area l.invariant h.ensures in
-    let g = gap-again a.s.now l.last h.result h.ensures in
-    let e = c.name_end-end.ensures in
-    let room = name-room a.reading a.full a.s.now d₀ d _ i g (rw (← e) c.if-end-offset.false) (ap (λ x. x - h.result.place.offset) e) in
-    (record { going = i.going; token = room.0; content = unfold kind_of shape_of in refl; room = room.1 }, loop-tag-marked)
+pub loop-offset-smaller : goal.loop-offset-smaller
+loop-offset-smaller c =
+    let w = c.args.writer.now in
+    let h = c.trim.new.writer in
+    let i = c.loop-offset.invariant in
+    let t = trim-same w _ h i.same c.trim.ensures in
+    let g = name-gone w _ h i.same c.trim.ensures i.so_far in
+    let b = gone-again w _ h i.same c.trim.ensures in
+    let e = rw (t.reading, t.text) at c.name_end-end.ensures in
+    let n = name-next w.reading w.full w.text.now (desk_of w) (desk_of h) (desk_of c.write_tag.new.writer) _ g b (rw (← e) c.if-end-offset.false) (ap (λ x. x - h.cursor.place.offset) e) (rw (t.text, t.full) at c.write_tag.ensures.wrote) in
+    omega (arith, n.1, n.2, gone-further w _ h i.same c.trim.ensures)
 
-pub loop-reading-smaller : goal.loop-reading-smaller
-loop-reading-smaller c =
-    let l = c.loop-reading in
-    let a = c.args in
-    let h = c.trimmed-here in
-    let d₀ = desk a.c a.store.now a.area.now in
-    let d = desk h.result l.store l.area in
-    let i = name-gap a.reading a.full a.s.now d₀ l.last h.result l.store l.area l.invariant h.ensures in
-    let g = gap-again a.s.now l.last h.result h.ensures in
-    let e = c.name_end-end.ensures in
-    let n = name-next a.reading a.full a.s.now d₀ d _ _ i g (rw (← e) c.if-end-offset.false) (ap (λ x. x - h.result.place.offset) e) c.write_tag-last.ensures in
-    omega (arith, n.1, n.2, trim-offset a.s.now l.last h.result h.ensures, gap_from a.s.now l.last.place.offset)
-
-pub loop-reading-preserved : goal.loop-reading-preserved
-loop-reading-preserved c =
-    let l = c.loop-reading in
-    let a = c.args in
-    let h = c.trimmed-here in
-    let d₀ = desk a.c a.store.now a.area.now in
-    let d = desk h.result l.store l.area in
-    let i = name-gap a.reading a.full a.s.now d₀ l.last h.result l.store l.area l.invariant h.ensures in
-    let g = gap-again a.s.now l.last h.result h.ensures in
-    let e = c.name_end-end.ensures in
-    (name-next a.reading a.full a.s.now d₀ d _ _ i g (rw (← e) c.if-end-offset.false) (ap (λ x. x - h.result.place.offset) e) c.write_tag-last.ensures).0
+pub loop-offset-preserved : goal.loop-offset-preserved
+loop-offset-preserved c =
+    let w = c.args.writer.now in
+    let h = c.trim.new.writer in
+    let i = c.loop-offset.invariant in
+    let t = trim-same w _ h i.same c.trim.ensures in
+    let g = name-gone w _ h i.same c.trim.ensures i.so_far in
+    let b = gone-again w _ h i.same c.trim.ensures in
+    let e = rw (t.reading, t.text) at c.name_end-end.ensures in
+    record {
+      same = same-then w h c.write_tag.new.writer t c.write_tag.ensures.same;
+      so_far = (name-next w.reading w.full w.text.now (desk_of w) (desk_of h) (desk_of c.write_tag.new.writer) _ g b (rw (← e) c.if-end-offset.false) (ap (λ x. x - h.cursor.place.offset) e) (rw (t.text, t.full) at c.write_tag.ensures.wrote)).0;
+    }
