@@ -34,14 +34,21 @@ fn put_content(full: bool, store: &mut [u8], at: usize, kind: u8, token: Token, 
 }
 
 // A token that has content. Its marks, and those of them before it, come from the caller, who mostly knows the kind.
-pub fn write_text(writer: &mut Writer, kind: u8, size: usize, marks: usize, opening: usize)
-    requires { TextAhead writer.old.full writer.old.text.now kind size (desk_of writer.old)
+pub fn write_text(
+    writer: &mut Writer,
+    c: Cursor,
+    kind: u8,
+    size: usize,
+    marks: usize,
+    opening: usize,
+) -> Cursor
+    requires { TextAhead writer.old.full writer.old.text.now kind size (desk_of writer.old c)
         × Marked kind marks opening }
     ensures same { Same writer.old writer.new }
-    ensures wrote { WroteToken writer.old.full writer.old.text.now kind size (desk_of writer.old)
-        (desk_of writer.new) }
+    ensures wrote { WroteToken writer.old.full writer.old.text.now kind size (desk_of writer.old c)
+        (desk_of writer.new result) }
 {
-    let Cursor { place, at, area } = writer.cursor;
+    let Cursor { place, at, area } = c;
     let token = desk::token_at(place, size);
     put_content(writer.full, writer.store, at, kind, token, area as u32);
     let start = place.offset + opening;
@@ -53,5 +60,5 @@ pub fn write_text(writer: &mut Writer, kind: u8, size: usize, marks: usize, open
         area,
     );
     let stored = desk::record_length(writer.full, Shape::Content);
-    writer.pass(kind, size, stored, content);
+    writer.pass(c, kind, size, stored, content)
 }

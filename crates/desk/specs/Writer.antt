@@ -1,11 +1,12 @@
 -- What a writer has on its desk, and what it keeps of what it was given. Assumes nothing.
 use Rattle.std.specs.Prelude.{◌≡◌}
+use Rattle.desk.specs.declared.Cursor.{Cursor}
 use Rattle.desk.specs.declared.Writer.{Writer}
 use Rattle.desk.specs.Desk.{Desk}
 
--- where it stands, and the bytes that are lent to it
-abbrev pub desk_of : Writer → Desk
-desk_of w = record { cursor = w.cursor; store = w.store.now; area = w.area.now }
+-- where writing stands, and the bytes that are lent to the writer
+abbrev pub desk_of : Writer → Cursor → Desk
+desk_of w c = record { cursor = c; store = w.store.now; area = w.area.now }
 
 -- it writes the same text by the same reading, to the same store and area
 pub record Same (v w : Writer) : Type 0 where

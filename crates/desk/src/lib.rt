@@ -19,7 +19,9 @@ pub struct Cursor {
     pub area: usize,
 }
 
-// A text that is written, what is lent for it, and where writing stands. Read copies contents into the area (`full`), Outline does not.
+// A text that is written, and what is lent for it. Read copies contents into the area (`full`), Outline does not.
+// Where writing stands is no field of it: a Cursor goes along by value. As a field behind `&mut` it is stored and loaded at
+// each token, and Read and Outline were a seventh slower on tables.
 #[derive(Drop)]
 pub struct Writer<'t, 'b> {
     pub reading: Reading,
@@ -27,24 +29,22 @@ pub struct Writer<'t, 'b> {
     pub full: bool,
     pub store: &'b mut [u8],
     pub area: &'b mut [u8],
-    pub cursor: Cursor,
 }
 
 impl Writer<'_, '_> {
-    // Writing goes on behind a token, with so many bytes more in the store and in the area.
-    pub fn pass(&mut self, kind: u8, size: usize, stored: usize, copied: usize)
-        requires token { IsToken self.old.text.now kind self.old.cursor.place.offset size }
-        requires going { Going self.old.text.now self.old.cursor }
-        requires room { (self.old.cursor.at + stored ≤ length self.old.store.now) × (copied ≤ size) }
-        ensures { self.new
-            ≡ record self.old { cursor = record { place = place_at self.old.text.now (self.old.cursor.place.offset + size); at = self.old.cursor.at + stored; area = self.old.cursor.area + copied } } }
+    // Where writing goes on behind a token, with so many bytes more in the store and in the area.
+    pub fn pass(&self, c: Cursor, kind: u8, size: usize, stored: usize, copied: usize) -> Cursor
+        requires token { IsToken self.now.text.now kind c.place.offset size }
+        requires going { Going self.now.text.now c }
+        requires room { (c.at + stored ≤ length self.now.store.now) × (copied ≤ size) }
+        ensures { result
+            ≡ record { place = place_at self.now.text.now (c.place.offset + size); at = c.at + stored; area = c.area + copied } }
     {
-        let Cursor { place, at, area } = self.cursor;
-        self.cursor = Cursor {
-            place: behind(self.text, place, kind, size),
-            at: at + stored,
-            area: area + copied,
-        };
+        Cursor {
+            place: behind(self.text, c.place, kind, size),
+            at: c.at + stored,
+            area: c.area + copied,
+        }
     }
 }
 

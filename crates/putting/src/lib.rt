@@ -43,11 +43,11 @@ fn put_decimal(store: &mut [u8], at: usize, token: Token, decimal: Decimal)
 }
 
 // A number's record: Outline does not ask what the number means.
-fn put_number(writer: &mut Writer, kind: u8, size: usize)
-    requires { NumberAhead writer.old.full writer.old.text.now kind size writer.old.cursor writer.old.store.now }
-    ensures { writer.new ≡ record writer.old { store = record writer.old.store { now = put writer.old.cursor.at (record_here writer.old.full writer.old.text.now writer.old.cursor kind size) writer.old.store.now } } }
+fn put_number(writer: &mut Writer, c: Cursor, kind: u8, size: usize)
+    requires { NumberAhead writer.old.full writer.old.text.now kind size c writer.old.store.now }
+    ensures { writer.new ≡ record writer.old { store = record writer.old.store { now = put c.at (record_here writer.old.full writer.old.text.now c kind size) writer.old.store.now } } }
 {
-    let Cursor { place, at, .. } = writer.cursor;
+    let Cursor { place, at, .. } = c;
     let token = desk::token_at(place, size);
     if !writer.full {
         records::write_place(&mut writer.store[at..], kind, token);
@@ -59,57 +59,59 @@ fn put_number(writer: &mut Writer, kind: u8, size: usize)
 }
 
 // A token that has none, and no more than its place.
-pub fn write_mark(writer: &mut Writer, kind: u8, size: usize)
-    requires { MarkAhead writer.old.full writer.old.text.now kind size writer.old.cursor writer.old.store.now }
+pub fn write_mark(writer: &mut Writer, c: Cursor, kind: u8, size: usize) -> Cursor
+    requires { MarkAhead writer.old.full writer.old.text.now kind size c writer.old.store.now }
     ensures same { Same writer.old writer.new }
     ensures area { writer.new.area.now ≡ writer.old.area.now }
-    ensures wrote { WrotePlain writer.old.full writer.old.text.now kind size writer.old.cursor writer.old.store.now
-        writer.new.cursor writer.new.store.now }
+    ensures wrote { WrotePlain writer.old.full writer.old.text.now kind size c writer.old.store.now
+        result writer.new.store.now }
 {
-    let Cursor { place, at, .. } = writer.cursor;
+    let Cursor { place, at, .. } = c;
     let token = desk::token_at(place, size);
     records::write_place(&mut writer.store[at..], kind, token);
     let stored = desk::record_length(writer.full, Shape::Place);
-    writer.pass(kind, size, stored, 0);
+    writer.pass(c, kind, size, stored, 0)
 }
 
 // A number.
-pub fn write_number(writer: &mut Writer, kind: u8, size: usize)
-    requires { NumberAhead writer.old.full writer.old.text.now kind size writer.old.cursor writer.old.store.now }
+pub fn write_number(writer: &mut Writer, c: Cursor, kind: u8, size: usize) -> Cursor
+    requires { NumberAhead writer.old.full writer.old.text.now kind size c writer.old.store.now }
     ensures same { Same writer.old writer.new }
     ensures area { writer.new.area.now ≡ writer.old.area.now }
-    ensures wrote { WrotePlain writer.old.full writer.old.text.now kind size writer.old.cursor writer.old.store.now
-        writer.new.cursor writer.new.store.now }
+    ensures wrote { WrotePlain writer.old.full writer.old.text.now kind size c writer.old.store.now
+        result writer.new.store.now }
 {
-    put_number(writer, kind, size);
+    put_number(writer, c, kind, size);
     let stored = desk::number_length(writer.full, kind);
-    writer.pass(kind, size, stored, 0);
+    writer.pass(c, kind, size, stored, 0)
 }
 
 // `loop_`, with the number of its tags.
-pub fn write_loop(writer: &mut Writer, tags: usize)
-    requires { LoopAhead writer.old.full writer.old.text.now tags writer.old.cursor writer.old.store.now }
+pub fn write_loop(writer: &mut Writer, c: Cursor, tags: usize) -> Cursor
+    requires { LoopAhead writer.old.full writer.old.text.now tags c writer.old.store.now }
     ensures same { Same writer.old writer.new }
     ensures area { writer.new.area.now ≡ writer.old.area.now }
-    ensures wrote { WroteLoop writer.old.full writer.old.text.now tags writer.old.cursor writer.old.store.now
-        writer.new.cursor writer.new.store.now }
+    ensures wrote { WroteLoop writer.old.full writer.old.text.now tags c writer.old.store.now
+        result writer.new.store.now }
 {
-    let Cursor { place, at, .. } = writer.cursor;
+    let Cursor { place, at, .. } = c;
     let token = desk::token_at(place, KEYWORD);
     put_loop(writer.full, writer.store, at, token, tags as u32);
     let stored = desk::record_length(writer.full, Shape::Count);
-    writer.pass(Kind::LOOP, KEYWORD, stored, 0);
+    writer.pass(c, Kind::LOOP, KEYWORD, stored, 0)
 }
 
 // A loop's end, which has no token.
-pub fn write_end(writer: &mut Writer)
-    requires { StoreRoom writer.old.full loop_end writer.old.cursor writer.old.store.now }
+pub fn write_end(writer: &mut Writer, c: Cursor) -> Cursor
+    requires { StoreRoom writer.old.full loop_end c writer.old.store.now }
     ensures same { Same writer.old writer.new }
     ensures area { writer.new.area.now ≡ writer.old.area.now }
-    ensures wrote { WroteEnd writer.old.full writer.old.cursor writer.old.store.now writer.new.cursor
+    ensures wrote { WroteEnd writer.old.full c writer.old.store.now result
         writer.new.store.now }
 {
-    let at = writer.cursor.at;
-    records::write_end(&mut writer.store[at..]);
-    writer.cursor.at += desk::record_length(writer.full, Shape::Empty);
+    records::write_end(&mut writer.store[c.at..]);
+    Cursor {
+        at: c.at + desk::record_length(writer.full, Shape::Empty),
+        ..c
+    }
 }

@@ -8,58 +8,56 @@ ghost use Rattle.desk.specs.Desk.{TextAhead, Marked, WroteToken};
 ghost use Rattle.desk.specs.Writer.{desk_of, Same};
 ghost use Rattle.walking.specs.Walk.{behind_gap, ValueAhead, names_from, NamesAhead, ValuesAhead, WroteNames, WroteValues, ItemHere, WroteItem};
 
-use desk::Writer;
+use desk::{Cursor, Writer};
 use found::Found;
 use kinds::Kind;
 use rules::Reading;
 
-// The writer goes on behind space and comments.
-pub fn trim(writer: &mut Writer)
-    requires { IsPlace writer.old.text.now writer.old.cursor.place }
-    ensures { writer.new
-        ≡ record writer.old { cursor = behind_gap writer.old.text.now writer.old.cursor } }
+// The cursor behind space and comments.
+pub fn trimmed(s: &[u8], c: Cursor) -> Cursor
+    requires { IsPlace s.now c.place }
+    ensures { result ≡ behind_gap s.now c }
 {
-    let place = writer.cursor.place;
-    writer.cursor.place = trimming::trim_spaces_first(
-        writer.text,
-        place.offset,
-        place.line,
-        place.column,
-    );
+    let place = c.place;
+    Cursor {
+        place: trimming::trim_spaces_first(s, place.offset, place.line, place.column),
+        ..c
+    }
 }
 
 // A value that is found.
-fn write_found(writer: &mut Writer, kind: u8, size: usize)
-    requires { ValueAhead writer.old.reading writer.old.full writer.old.text.now kind size (desk_of writer.old) }
+fn write_found(writer: &mut Writer, c: Cursor, kind: u8, size: usize) -> Cursor
+    requires { ValueAhead writer.old.reading writer.old.full writer.old.text.now kind size (desk_of writer.old c) }
     ensures same { Same writer.old writer.new }
-    ensures wrote { WroteToken writer.old.full writer.old.text.now kind size (desk_of writer.old)
-        (desk_of writer.new) }
+    ensures wrote { WroteToken writer.old.full writer.old.text.now kind size (desk_of writer.old c)
+        (desk_of writer.new result) }
 {
     match kind {
-        Kind::INAPPLICABLE | Kind::UNKNOWN => putting::write_mark(writer, kind, size),
-        Kind::NUMBER | Kind::UNCERTAIN => putting::write_number(writer, kind, size),
+        ..=Kind::UNKNOWN => putting::write_mark(writer, c, kind, size),
+        Kind::NUMBER | Kind::UNCERTAIN => putting::write_number(writer, c, kind, size),
         _ => {
             let text = Kind::of(kind);
-            copying::write_text(writer, kind, size, text.marks(), text.opening());
+            copying::write_text(writer, c, kind, size, text.marks(), text.opening())
         }
     }
 }
 
 // Values, until one fails: those of a loop, or of a tag, which in a text that is read has one.
-fn write_values(writer: &mut Writer)
-    requires { ValuesAhead writer.old.reading writer.old.full writer.old.text.now (desk_of writer.old) }
+fn write_values(writer: &mut Writer, c: Cursor) -> Cursor
+    requires { ValuesAhead writer.old.reading writer.old.full writer.old.text.now (desk_of writer.old c) }
     ensures same { Same writer.old writer.new }
-    ensures wrote { WroteValues writer.old.reading writer.old.full writer.old.text.now (desk_of writer.old)
-        (desk_of writer.new) }
+    ensures wrote { WroteValues writer.old.reading writer.old.full writer.old.text.now (desk_of writer.old c)
+        (desk_of writer.new result) }
 {
+    let mut last = c;
     loop {
-        trim(writer);
-        let offset = writer.cursor.place.offset;
+        let here = trimmed(writer.text, last);
+        let offset = here.place.offset;
         let found = Found::of(values::pack_value(writer.reading, writer.text, offset));
         let Found::Value { kind, size } = found else {
-            return;
+            return here;
         };
-        write_found(writer, kind, size);
+        last = write_found(writer, here, kind, size);
     }
 }
 
@@ -81,74 +79,75 @@ fn count_tags(reading: Reading, s: &[u8], from: usize) -> usize
 }
 
 // A tag of an item or of a loop.
-fn write_tag(writer: &mut Writer, kind: u8, size: usize)
-    requires { TextAhead writer.old.full writer.old.text.now kind size (desk_of writer.old) × Marked kind 1 1 }
+fn write_tag(writer: &mut Writer, c: Cursor, kind: u8, size: usize) -> Cursor
+    requires { TextAhead writer.old.full writer.old.text.now kind size (desk_of writer.old c) × Marked kind 1 1 }
     ensures same { Same writer.old writer.new }
-    ensures wrote { WroteToken writer.old.full writer.old.text.now kind size (desk_of writer.old)
-        (desk_of writer.new) }
+    ensures wrote { WroteToken writer.old.full writer.old.text.now kind size (desk_of writer.old c)
+        (desk_of writer.new result) }
 {
     let marks = Kind::TAG_MARKS;
-    copying::write_text(writer, kind, size, marks, marks);
+    copying::write_text(writer, c, kind, size, marks, marks)
 }
 
 // The names of a loop, as far as they may stand.
-fn write_names(writer: &mut Writer)
-    requires { NamesAhead writer.old.reading writer.old.full writer.old.text.now (desk_of writer.old) }
+fn write_names(writer: &mut Writer, c: Cursor) -> Cursor
+    requires { NamesAhead writer.old.reading writer.old.full writer.old.text.now (desk_of writer.old c) }
     ensures same { Same writer.old writer.new }
-    ensures wrote { WroteNames writer.old.reading writer.old.full writer.old.text.now (desk_of writer.old)
-        (desk_of writer.new) }
+    ensures wrote { WroteNames writer.old.reading writer.old.full writer.old.text.now (desk_of writer.old c)
+        (desk_of writer.new result) }
 {
+    let mut last = c;
     loop {
-        trim(writer);
-        let offset = writer.cursor.place.offset;
+        let here = trimmed(writer.text, last);
+        let offset = here.place.offset;
         let end = openings::name_end(writer.reading, writer.text, offset);
         if end <= offset {
-            return;
+            return here;
         }
-        write_tag(writer, Kind::LOOP_TAG, end - offset);
+        last = write_tag(writer, here, Kind::LOOP_TAG, end - offset);
     }
 }
 
 // A loop: its record counts the names, so they are counted first.
-fn write_loop_item(writer: &mut Writer)
-    requires { ItemHere writer.old.reading writer.old.full writer.old.text.now (desk_of writer.old)
-        × (loop_at writer.old.reading writer.old.text.now writer.old.cursor.place.offset ≡ true) }
+fn write_loop_item(writer: &mut Writer, c: Cursor) -> Cursor
+    requires { ItemHere writer.old.reading writer.old.full writer.old.text.now (desk_of writer.old c)
+        × (loop_at writer.old.reading writer.old.text.now c.place.offset ≡ true) }
     ensures same { Same writer.old writer.new }
-    ensures wrote { WroteItem writer.old.reading writer.old.full writer.old.text.now (desk_of writer.old)
-        (desk_of writer.new) }
+    ensures wrote { WroteItem writer.old.reading writer.old.full writer.old.text.now (desk_of writer.old c)
+        (desk_of writer.new result) }
 {
-    let names = writer.cursor.place.offset + putting::KEYWORD;
+    let names = c.place.offset + putting::KEYWORD;
     let tags = count_tags(writer.reading, writer.text, names);
-    putting::write_loop(writer, tags);
-    write_names(writer);
-    write_values(writer);
-    putting::write_end(writer);
+    let opened = putting::write_loop(writer, c, tags);
+    let named = write_names(writer, opened);
+    let valued = write_values(writer, named);
+    putting::write_end(writer, valued)
 }
 
 // A tag and its value.
-fn write_tag_item(writer: &mut Writer)
-    requires { ItemHere writer.old.reading writer.old.full writer.old.text.now (desk_of writer.old)
-        × (tag_at writer.old.reading writer.old.text.now writer.old.cursor.place.offset ≡ true) }
+fn write_tag_item(writer: &mut Writer, c: Cursor) -> Cursor
+    requires { ItemHere writer.old.reading writer.old.full writer.old.text.now (desk_of writer.old c)
+        × (tag_at writer.old.reading writer.old.text.now c.place.offset ≡ true) }
     ensures same { Same writer.old writer.new }
-    ensures wrote { WroteItem writer.old.reading writer.old.full writer.old.text.now (desk_of writer.old)
-        (desk_of writer.new) }
+    ensures wrote { WroteItem writer.old.reading writer.old.full writer.old.text.now (desk_of writer.old c)
+        (desk_of writer.new result) }
 {
-    let offset = writer.cursor.place.offset;
+    let offset = c.place.offset;
     let end = words::long_word_end(writer.text, offset);
-    write_tag(writer, Kind::TAG, end - offset);
-    write_values(writer);
+    let tagged = write_tag(writer, c, Kind::TAG, end - offset);
+    write_values(writer, tagged)
 }
 
 // An item; most are tags.
-pub fn write_item(writer: &mut Writer)
-    requires { ItemHere writer.old.reading writer.old.full writer.old.text.now (desk_of writer.old) }
+pub fn write_item(writer: &mut Writer, c: Cursor) -> Cursor
+    requires { ItemHere writer.old.reading writer.old.full writer.old.text.now (desk_of writer.old c) }
     ensures same { Same writer.old writer.new }
-    ensures wrote { WroteItem writer.old.reading writer.old.full writer.old.text.now (desk_of writer.old)
-        (desk_of writer.new) }
+    ensures wrote { WroteItem writer.old.reading writer.old.full writer.old.text.now (desk_of writer.old c)
+        (desk_of writer.new result) }
 {
-    if openings::at_tag(writer.reading, writer.text, writer.cursor.place.offset) {
-        write_tag_item(writer)
+    if openings::at_tag(writer.reading, writer.text, c.place.offset) {
+        write_tag_item(writer, c)
     } else {
-        write_loop_item(writer)
+        write_loop_item(writer, c)
     }
 }

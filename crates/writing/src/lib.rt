@@ -46,80 +46,84 @@ fn stop_in_frame(reading: Reading, s: &[u8], at: usize) -> Option<usize>
 }
 
 // A heading of a block or a frame, of so many bytes, and the space behind it.
-fn write_heading(writer: &mut Writer, kind: u8, size: usize)
-    requires { TextAhead writer.old.full writer.old.text.now kind size (desk_of writer.old) × Marked kind 5 5 }
+fn write_heading(writer: &mut Writer, c: Cursor, kind: u8, size: usize) -> Cursor
+    requires { TextAhead writer.old.full writer.old.text.now kind size (desk_of writer.old c) × Marked kind 5 5 }
     ensures same { Same writer.old writer.new }
-    ensures wrote { WroteHeading writer.old.full writer.old.text.now kind size (desk_of writer.old)
-        (desk_of writer.new) }
+    ensures wrote { WroteHeading writer.old.full writer.old.text.now kind size (desk_of writer.old c)
+        (desk_of writer.new result) }
 {
     let marks = Kind::HEADING_MARKS;
-    copying::write_text(writer, kind, size, marks, marks);
-    walking::trim(writer);
+    let headed = copying::write_text(writer, c, kind, size, marks, marks);
+    walking::trimmed(writer.text, headed)
 }
 
 // The `save_` that closes a frame, where its items stopped.
-fn close_frame(writer: &mut Writer, stop: usize)
-    requires { CloseAhead writer.old.full writer.old.text.now stop writer.old.cursor writer.old.store.now }
+fn close_frame(writer: &mut Writer, c: Cursor, stop: usize) -> Cursor
+    requires { CloseAhead writer.old.full writer.old.text.now stop c writer.old.store.now }
     ensures same { Same writer.old writer.new }
     ensures area { writer.new.area.now ≡ writer.old.area.now }
-    ensures wrote { WroteClose writer.old.full writer.old.text.now stop writer.old.cursor writer.old.store.now
-        writer.new.cursor writer.new.store.now }
+    ensures wrote { WroteClose writer.old.full writer.old.text.now stop c writer.old.store.now
+        result writer.new.store.now }
 {
-    writer.cursor.place = places::advance(writer.text, writer.cursor.place, stop);
-    putting::write_mark(writer, Kind::FRAME_CLOSE, putting::KEYWORD);
-    walking::trim(writer);
+    let here = Cursor {
+        place: places::advance(writer.text, c.place, stop),
+        ..c
+    };
+    let closed = putting::write_mark(writer, here, Kind::FRAME_CLOSE, putting::KEYWORD);
+    walking::trimmed(writer.text, closed)
 }
 
 // A frame: its heading, its items, its end.
-fn write_frame(writer: &mut Writer)
-    requires { Ahead writer.old.reading writer.old.full writer.old.text.now none (desk_of writer.old)
-        × (save_at writer.old.reading writer.old.text.now writer.old.cursor.place.offset ≡ true) }
+fn write_frame(writer: &mut Writer, c: Cursor) -> Cursor
+    requires { Ahead writer.old.reading writer.old.full writer.old.text.now none (desk_of writer.old c)
+        × (save_at writer.old.reading writer.old.text.now c.place.offset ≡ true) }
     ensures same { Same writer.old writer.new }
-    ensures moved { MovedOn writer.old.reading writer.old.full writer.old.text.now (desk_of writer.old)
-        (desk_of writer.new) }
+    ensures moved { MovedOn writer.old.reading writer.old.full writer.old.text.now (desk_of writer.old c)
+        (desk_of writer.new result) }
 {
-    let start = writer.cursor.place.offset;
+    let start = c.place.offset;
     let end = words::parse_identifier(writer.text, start);
-    write_heading(writer, Kind::FRAME_OPEN, end - start);
+    let mut here = write_heading(writer, c, Kind::FRAME_OPEN, end - start);
     loop {
-        let offset = writer.cursor.place.offset;
+        let offset = here.place.offset;
         if let Some(stop) = stop_in_frame(writer.reading, writer.text, offset) {
-            close_frame(writer, stop);
-            return;
+            return close_frame(writer, here, stop);
         }
-        walking::write_item(writer);
+        here = walking::write_item(writer, here);
     }
 }
 
 // The item, the frame or, in the strict reading, the further block's heading at the cursor.
-fn write_part(writer: &mut Writer)
-    requires { Ahead writer.old.reading writer.old.full writer.old.text.now none (desk_of writer.old)
-        × (writer.old.cursor.place.offset < length writer.old.text.now) }
+fn write_part(writer: &mut Writer, c: Cursor) -> Cursor
+    requires { Ahead writer.old.reading writer.old.full writer.old.text.now none (desk_of writer.old c)
+        × (c.place.offset < length writer.old.text.now) }
     ensures same { Same writer.old writer.new }
-    ensures moved { MovedOn writer.old.reading writer.old.full writer.old.text.now (desk_of writer.old)
-        (desk_of writer.new) }
+    ensures moved { MovedOn writer.old.reading writer.old.full writer.old.text.now (desk_of writer.old c)
+        (desk_of writer.new result) }
 {
-    let offset = writer.cursor.place.offset;
+    let offset = c.place.offset;
     if openings::at_save(writer.reading, writer.text, offset) {
-        write_frame(writer);
+        write_frame(writer, c)
     } else if deciding::heads_block(writer.reading, writer.text, offset) {
         let end = words::parse_identifier(writer.text, offset);
-        write_heading(writer, Kind::BLOCK, end - offset);
+        write_heading(writer, c, Kind::BLOCK, end - offset)
     } else {
-        walking::write_item(writer);
+        walking::write_item(writer, c)
     }
 }
 
 // Items, frames and headings, to the end of the text.
-fn write_items(writer: &mut Writer)
-    requires { Ahead writer.old.reading writer.old.full writer.old.text.now none (desk_of writer.old) }
+fn write_items(writer: &mut Writer, c: Cursor) -> Cursor
+    requires { Ahead writer.old.reading writer.old.full writer.old.text.now none (desk_of writer.old c) }
     ensures same { Same writer.old writer.new }
-    ensures wrote { WroteRest writer.old.reading writer.old.full writer.old.text.now (desk_of writer.old)
-        (desk_of writer.new) }
+    ensures wrote { WroteRest writer.old.reading writer.old.full writer.old.text.now (desk_of writer.old c)
+        (desk_of writer.new result) }
 {
-    while writer.cursor.place.offset < writer.text.len() {
-        write_part(writer);
+    let mut here = c;
+    while here.place.offset < writer.text.len() {
+        here = write_part(writer, here);
     }
+    here
 }
 
 // The whole text: its first heading, then all that follows. Read copies contents (`full`), Outline does not.
@@ -137,12 +141,12 @@ pub fn write_block(reading: Reading, s: &[u8], full: bool, store: &mut [u8], are
         full,
         store,
         area,
-        cursor: Cursor {
-            place,
-            at: 0,
-            area: 0,
-        },
     };
-    write_heading(&mut writer, Kind::BLOCK, end - start);
-    write_items(&mut writer);
+    let first = Cursor {
+        place,
+        at: 0,
+        area: 0,
+    };
+    let headed = write_heading(&mut writer, first, Kind::BLOCK, end - start);
+    write_items(&mut writer, headed);
 }

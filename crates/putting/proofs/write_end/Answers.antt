@@ -11,10 +11,10 @@ pub write_end-requires : goal.write_end-requires
 write_end-requires c =
     let a = c.args in
     let w = a.writer.now in
-    rest-room w.cursor.at 1 w.store.now (omega (arith, c.requires, end-size w.full))
+    rest-room a.c.at 1 w.store.now (omega (arith, c.requires, end-size w.full))
 
-pub overflow_add-writer : goal.overflow_add-writer
-overflow_add-writer c =
+pub overflow_add-result : goal.overflow_add-result
+overflow_add-result c =
     let a = c.args in
     let w = a.writer.now in
     omega (arith, c.requires, c.record_length.ensures, end-length w.full)
@@ -23,5 +23,5 @@ pub returns-clause-wrote : goal.returns-clause-wrote
 returns-clause-wrote c =
     let a = c.args in
     let w = a.writer.now in
-    λ s l g. end-wrote w.full s w.cursor _ w.store.now _ l g refl (ap (λ x. w.cursor.at + x) c.record_length.ensures) refl
-    (part-put w.cursor.at _ w.store.now _ c.write_end.ensures)
+    λ s l g. end-wrote w.full s a.c _ w.store.now _ l g refl (ap (λ x. a.c.at + x) c.record_length.ensures) refl
+    (part-put a.c.at _ w.store.now _ c.write_end.ensures)

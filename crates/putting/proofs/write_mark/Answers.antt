@@ -19,22 +19,22 @@ token_at-token-requires c =
     let a = c.args in
     let w = a.writer.now in
     let p = c.requires in
-    place-small w.text.now w.cursor.place a.size p.going.place p.going.short (omega (arith, p.token.within))
+    place-small w.text.now a.c.place a.size p.going.place p.going.short (omega (arith, p.token.within))
 
 pub write_place-requires : goal.write_place-requires
 write_place-requires c =
     let a = c.args in
     let w = a.writer.now in
     let p = c.requires in
-    rest-room w.cursor.at 17 w.store.now (omega (arith, p.room, mark-size w.full a.kind w.cursor.place.offset a.size p.alone))
+    rest-room a.c.at 17 w.store.now (omega (arith, p.room, mark-size w.full a.kind a.c.place.offset a.size p.alone))
 
 pub pass-requires-clause-room : goal.pass-requires-clause-room
 pass-requires-clause-room c =
     let a = c.args in
     let w = a.writer.now in
     let p = c.requires in
-    let t = part-put w.cursor.at _ w.store.now _ c.write_place.ensures in
-    (omega (arith, ap length t, p.room, c.record_length-stored.ensures, shape-told w.full a.kind _ p.alone, kind-length w.full (rec_at a.kind w.cursor.place.offset a.size)), omega arith)
+    let t = part-put a.c.at _ w.store.now _ c.write_place.ensures in
+    (omega (arith, ap length t, p.room, c.record_length-stored.ensures, shape-told w.full a.kind _ p.alone, kind-length w.full (rec_at a.kind a.c.place.offset a.size)), omega arith)
 
 pub returns-clause-wrote : goal.returns-clause-wrote
 returns-clause-wrote c =
@@ -43,8 +43,8 @@ returns-clause-wrote c =
     let p = c.requires in
     let k = a.kind in
     let n = a.size in
-    let b : place_record k c.token_at-token.result ≡ record_bytes w.full w.text.now w.cursor.area 0 (rec_at k w.cursor.place.offset n) =
-    ap (place_record k) c.token_at-token.ensures ∙ mark-bytes w.full w.text.now w.cursor.place k n w.cursor.area 0 p.going.place p.alone in
-    λ l. rw c.pass.ensures (plain-wrote w.full w.text.now k n 0 w.cursor _ w.store.now _ l (no-content k n (unfold is_content in rw p.alone))
-    p.going p.token refl (ap (λ x. w.cursor.at + x) (c.record_length-stored.ensures ∙ shape-told w.full k _ p.alone)) (omega arith)
-    (part-put w.cursor.at _ w.store.now _ c.write_place.ensures ∙ ap (λ x. put w.cursor.at x w.store.now) b))
+    let b : place_record k c.token_at-token.result ≡ record_bytes w.full w.text.now a.c.area 0 (rec_at k a.c.place.offset n) =
+    ap (place_record k) c.token_at-token.ensures ∙ mark-bytes w.full w.text.now a.c.place k n a.c.area 0 p.going.place p.alone in
+    λ l. rw c.pass.ensures (plain-wrote w.full w.text.now k n 0 a.c _ w.store.now _ l (no-content k n (unfold is_content in rw p.alone))
+    p.going p.token refl (ap (λ x. a.c.at + x) (c.record_length-stored.ensures ∙ shape-told w.full k _ p.alone)) (omega arith)
+    (part-put a.c.at _ w.store.now _ c.write_place.ensures ∙ ap (λ x. put a.c.at x w.store.now) b))

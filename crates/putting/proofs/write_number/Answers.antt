@@ -14,7 +14,7 @@ pass-requires-clause-token c =
     let a = c.args in
     let w = a.writer.now in
     let p = c.requires in
-    let t = number-token p.reading w.text.now w.cursor.place.offset a.kind a.size p.here p.least p.most in
+    let t = number-token p.reading w.text.now a.c.place.offset a.kind a.size p.here p.least p.most in
     rw c.put_number.ensures t.token
 
 pub pass-requires-clause-room : goal.pass-requires-clause-room
@@ -24,17 +24,17 @@ pass-requires-clause-room c =
     let p = c.requires in
     let u = c.put_number.ensures in
     let n = rw u at c.number_length-stored.ensures in
-    let f : w.cursor.at + c.number_length-stored.result ≤ length w.store.now = omega (arith, p.room, n, kind-length w.full (rec_at a.kind w.cursor.place.offset a.size)) in
-    let b = one-length w.full w.text.now w.cursor.area 0 (rec_at a.kind w.cursor.place.offset a.size) in
-    rw u (omega (arith, f, length-put w.cursor.at (record_here w.full w.text.now w.cursor a.kind a.size) w.store.now (omega (arith, p.room, b))), omega arith)
+    let f : a.c.at + c.number_length-stored.result ≤ length w.store.now = omega (arith, p.room, n, kind-length w.full (rec_at a.kind a.c.place.offset a.size)) in
+    let b = one-length w.full w.text.now a.c.area 0 (rec_at a.kind a.c.place.offset a.size) in
+    rw u (omega (arith, f, length-put a.c.at (record_here w.full w.text.now a.c a.kind a.size) w.store.now (omega (arith, p.room, b))), omega arith)
 
 pub returns-clause-wrote : goal.returns-clause-wrote
 returns-clause-wrote c =
     let a = c.args in
     let w = a.writer.now in
     let p = c.requires in
-    let t = number-token p.reading w.text.now w.cursor.place.offset a.kind a.size p.here p.least p.most in
+    let t = number-token p.reading w.text.now a.c.place.offset a.kind a.size p.here p.least p.most in
     let u = c.put_number.ensures in
     let n = rw u at c.number_length-stored.ensures in
-    λ l. rw (c.pass.ensures, u) (plain-wrote w.full w.text.now a.kind a.size 0 w.cursor _ w.store.now _ l (number-plain a.kind a.size p.least p.most)
-    p.going t.token refl (ap (λ x. w.cursor.at + x) n) (omega arith) refl)
+    λ l. rw (c.pass.ensures, u) (plain-wrote w.full w.text.now a.kind a.size 0 a.c _ w.store.now _ l (number-plain a.kind a.size p.least p.most)
+    p.going t.token refl (ap (λ x. a.c.at + x) n) (omega arith) refl)

@@ -7,4 +7,4 @@ pub write_loop_item-requires : goal.write_loop_item-requires
 write_loop_item-requires c =
     let w = c.args.writer.now in
     let h = c.requires in
-    (h, loop-here w.reading w.text.now w.cursor.place.offset h.bare (sym c.at_tag.ensures ∙ c.if-at_tag.false) h.read)
+    (h, loop-here w.reading w.text.now c.args.c.place.offset h.bare (sym c.at_tag.ensures ∙ c.if-at_tag.false) h.read)

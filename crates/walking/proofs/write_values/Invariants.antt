@@ -11,8 +11,8 @@ invariant-loop-kind l =
     let w = l.initial.writer in
     record {
       same : Same w l.writer;
-      so_far : SoFar w.full w.text.now (values_from w.reading w.text.now) (behind_values w.reading w.text.now) (desk_of w) (desk_of l.writer);
+      so_far : SoFar w.full w.text.now (values_from w.reading w.text.now) (behind_values w.reading w.text.now) (desk_of w l.initial.last) (desk_of l.writer l.last);
     }
 
 abbrev pub decreases-loop-kind : goal.decreases-loop-kind
-decreases-loop-kind l = length l.initial.writer.text.now - l.writer.cursor.place.offset
+decreases-loop-kind l = length l.initial.writer.text.now - l.last.place.offset

@@ -20,8 +20,8 @@ trim_from-place-requires c = is-start c.args.s.now
 pub overflow_sub-end : goal.overflow_sub-end
 overflow_sub-end c = omega (arith, c.parse_identifier-end.ensures, word-from c.args.s.now c.trim_from-place.result.offset)
 
-pub write_heading-requires : goal.write_heading-requires
-write_heading-requires c =
+pub write_heading-headed-requires : goal.write_heading-headed-requires
+write_heading-headed-requires c =
     let a = c.args in
     let r = a.reading in
     let s = a.s.now in
@@ -40,8 +40,8 @@ write_items-requires c =
     let h : Cursor = begun c.trim_from-place.result in
     let e = begins s c.trim_from-place.result c.trim_from-place.ensures in
     let z = ap (λ x. x - h.place.offset) c.parse_identifier-end.ensures in
-    let t = c.write_heading.ensures.same in
-    rw (t.reading, t.text, t.full) (block-ahead r a.full s a.store.now a.area.now f h e _ z _ c.write_heading.ensures.wrote)
+    let t = c.write_heading-headed.ensures.same in
+    rw (t.reading, t.text, t.full) (block-ahead r a.full s a.store.now a.area.now f h e _ z _ c.write_heading-headed.ensures.wrote)
 
 pub returns-clause-store_after : goal.returns-clause-store_after
 returns-clause-store_after c =
@@ -52,8 +52,8 @@ returns-clause-store_after c =
     let h : Cursor = begun c.trim_from-place.result in
     let e = begins s c.trim_from-place.result c.trim_from-place.ensures in
     let z = ap (λ x. x - h.place.offset) c.parse_identifier-end.ensures in
-    let w = c.write_heading.ensures.wrote in
-    let t = c.write_heading.ensures.same in
+    let w = c.write_heading-headed.ensures.wrote in
+    let t = c.write_heading-headed.ensures.same in
     let x = rw (t.reading, t.text, t.full) at c.write_items.ensures.wrote in
     let e : c.write_items.new.writer.store.now ≡ front (store_bytes r a.full s) a.store.now = block-stored r a.full s a.store.now a.area.now f h e _ z _ w _ x in
     search rules
@@ -67,8 +67,8 @@ returns-clause-area_after c =
     let h : Cursor = begun c.trim_from-place.result in
     let e = begins s c.trim_from-place.result c.trim_from-place.ensures in
     let z = ap (λ x. x - h.place.offset) c.parse_identifier-end.ensures in
-    let w = c.write_heading.ensures.wrote in
-    let t = c.write_heading.ensures.same in
+    let w = c.write_heading-headed.ensures.wrote in
+    let t = c.write_heading-headed.ensures.same in
     let x = rw (t.reading, t.text, t.full) at c.write_items.ensures.wrote in
     let e : c.write_items.new.writer.area.now ≡ front (area_bytes r a.full s) a.area.now = block-copied r a.full s a.store.now a.area.now f h e _ z _ w _ x in
     search rules

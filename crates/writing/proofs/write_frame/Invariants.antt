@@ -8,7 +8,7 @@ use Rattle.writing.proofs.write_frame.Given as goal
 abbrev pub invariant-loop-stop : goal.invariant-loop-stop
 invariant-loop-stop l =
     let w = l.fn.writer in
-    record { same : Same w l.writer; inside : Inside w.reading w.full w.text.now l.start (desk_of l.initial.writer) (desk_of l.writer) }
+    record { same : Same w l.writer; inside : Inside w.reading w.full w.text.now l.start (desk_of l.initial.writer l.initial.here) (desk_of l.writer l.here) }
 
 abbrev pub decreases-loop-stop : goal.decreases-loop-stop
-decreases-loop-stop l = length l.fn.writer.text.now - l.writer.cursor.place.offset
+decreases-loop-stop l = length l.fn.writer.text.now - l.here.place.offset

@@ -6,5 +6,5 @@ use Rattle.writing.proofs.write_items.Goals as goal
 pub returns-clause-wrote : goal.returns-clause-wrote
 returns-clause-wrote c =
     let w = c.args.writer.now in
-    let i = c.loop-writer.invariant in
-    block-ended w.reading w.full w.text.now _ (desk_of w) (desk_of c.loop-writer.writer) i.inside.ahead (rw i.same.text at c.loop-writer-test.false) i.inside.onward
+    let i = c.loop-here.invariant in
+    block-ended w.reading w.full w.text.now _ (desk_of w c.args.c) (desk_of c.loop-here.writer c.loop-here.here) i.inside.ahead (rw i.same.text at c.loop-here-test.false) i.inside.onward

@@ -5,10 +5,10 @@ use Rattle.desk.specs.Writer.{desk_of, Same}
 use Rattle.writing.proofs.Frames.{InBlock}
 use Rattle.writing.proofs.write_items.Given as goal
 
-abbrev pub invariant-loop-writer : goal.invariant-loop-writer
-invariant-loop-writer l =
+abbrev pub invariant-loop-here : goal.invariant-loop-here
+invariant-loop-here l =
     let w = l.initial.writer in
-    record { same : Same w l.writer; inside : InBlock w.reading w.full w.text.now (desk_of w) (desk_of l.writer) }
+    record { same : Same w l.writer; inside : InBlock w.reading w.full w.text.now (desk_of w l.initial.here) (desk_of l.writer l.here) }
 
-abbrev pub decreases-loop-writer : goal.decreases-loop-writer
-decreases-loop-writer l = length l.initial.writer.text.now - l.writer.cursor.place.offset
+abbrev pub decreases-loop-here : goal.decreases-loop-here
+decreases-loop-here l = length l.initial.writer.text.now - l.here.place.offset

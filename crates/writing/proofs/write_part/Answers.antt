@@ -12,7 +12,7 @@ pub overflow_sub-end : goal.overflow_sub-end
 overflow_sub-end c =
     let a = c.args in
     let w = a.writer.now in
-    omega (arith, c.parse_identifier-end.ensures, word-from w.text.now w.cursor.place.offset)
+    omega (arith, c.parse_identifier-end.ensures, word-from w.text.now a.c.place.offset)
 
 pub write_heading-requires : goal.write_heading-requires
 write_heading-requires c =
@@ -22,8 +22,8 @@ write_heading-requires c =
     let s = w.text.now in
     let f = w.full in
     let p = c.requires in
-    let d₀ = desk_of w in
-    let q = ap (λ x. x - w.cursor.place.offset) c.parse_identifier-end.ensures in
+    let d₀ = desk_of w a.c in
+    let q = ap (λ x. x - a.c.place.offset) c.parse_identifier-end.ensures in
     (further-ahead r f s d₀ p.0 _ q (sym c.heads_block.ensures ∙ c.if-heads_block.true), block-marked)
 
 pub returns-then-heads_block-clause-moved : goal.returns-then-heads_block-clause-moved
@@ -34,8 +34,8 @@ returns-then-heads_block-clause-moved c =
     let s = w.text.now in
     let f = w.full in
     let p = c.requires in
-    let d₀ = desk_of w in
-    let q = ap (λ x. x - w.cursor.place.offset) c.parse_identifier-end.ensures in
+    let d₀ = desk_of w a.c in
+    let q = ap (λ x. x - a.c.place.offset) c.parse_identifier-end.ensures in
     further-moved r f s d₀ p.0 _ q (sym c.heads_block.ensures ∙ c.if-heads_block.true) _ c.write_heading.ensures.wrote
 
 pub write_item-requires : goal.write_item-requires
@@ -46,7 +46,7 @@ write_item-requires c =
     let s = w.text.now in
     let f = w.full in
     let p = c.requires in
-    let d₀ = desk_of w in
+    let d₀ = desk_of w a.c in
     let k = sym c.at_save.ensures ∙ c.if-at_save.false in
     let j = sym c.heads_block.ensures ∙ c.if-heads_block.false in
     block-item-here r f s d₀ p.0 p.1 k j
@@ -59,7 +59,7 @@ returns-else-heads_block-clause-moved c =
     let s = w.text.now in
     let f = w.full in
     let p = c.requires in
-    let d₀ = desk_of w in
+    let d₀ = desk_of w a.c in
     let k = sym c.at_save.ensures ∙ c.if-at_save.false in
     let j = sym c.heads_block.ensures ∙ c.if-heads_block.false in
     block-item-moved r f s d₀ p.0 p.1 k j _ c.write_item.ensures.wrote
