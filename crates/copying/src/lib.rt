@@ -34,6 +34,7 @@ fn put_content(full: bool, store: &mut [u8], at: usize, kind: u8, token: Token, 
 }
 
 // A token that has content. Its marks, and those of them before it, come from the caller, who mostly knows the kind.
+// The kind stays a u8, here and in the other public functions of this pass: a Kind would ask more of callers.
 pub fn write_text(
     writer: &mut Writer,
     c: Cursor,
