@@ -1,27 +1,23 @@
 // Writing a record with content: its bytes into the store, its content into the area.
 #![tactic(auto)]
 
-ghost use Rattle.std.specs.Prelude.{◌≡◌, true, cond, [], ◌+◌, ◌≤◌, length, take, drop};
+ghost use Rattle.std.specs.Prelude.{◌≡◌, true, cond, [], ◌+◌, ◌≤◌, length};
 ghost use Rattle.records.specs.Put.{put};
 ghost use Rattle.desk.specs.Written.{content_bytes};
-ghost use Rattle.desk.specs.Desk.{desk, TextAhead, Marked, WroteToken};
+ghost use Rattle.desk.specs.Desk.{TextAhead, Marked, WroteToken};
+ghost use Rattle.desk.specs.Writer.{desk_of, Same};
 
-use desk::Cursor;
+use desk::{Cursor, Writer};
 use kinds::Shape;
 use records::Token;
 
-// Read copies a part of the text into the area, Outline does not.
-fn copy_content(s: &[u8], full: bool, from: usize, n: usize, area: &mut [u8], at: usize)
-    requires { (from + n ≤ length s.now) × (full ≡ true → at + n ≤ length area.old) }
-    ensures { area.new ≡ put at (cond full (take n (drop from s.now)) []) area.old }
+// Read copies a content into the area, Outline does not.
+fn copy_content(full: bool, content: &[u8], area: &mut [u8], at: usize)
+    requires { full ≡ true → at + length content.now ≤ length area.old }
+    ensures { area.new ≡ put at (cond full content.now []) area.old }
 {
-    if !full {
-        return;
-    }
-    let mut i = 0;
-    while i < n {
-        area[at + i] = s[from + i];
-        i += 1;
+    if full {
+        area[at..at + content.len()].copy_from_slice(content);
     }
 }
 
@@ -38,38 +34,32 @@ fn put_content(full: bool, store: &mut [u8], at: usize, kind: u8, token: Token, 
 }
 
 // A token that has content. Its marks, and those of them before it, come from the caller, who mostly knows the kind.
+// The kind stays a u8, here and in the other public functions of this pass: a Kind would ask more of callers.
 pub fn write_text(
-    s: &[u8],
-    full: bool,
-    store: &mut [u8],
-    area: &mut [u8],
+    writer: &mut Writer,
     c: Cursor,
     kind: u8,
     size: usize,
     marks: usize,
     opening: usize,
 ) -> Cursor
-    requires { TextAhead full s.now kind size (desk c store.old area.old) × Marked kind marks opening }
-    ensures { WroteToken full s.now kind size (desk c store.old area.old)
-        (desk result store.new area.new) }
+    requires { TextAhead writer.old.full writer.old.text.now kind size (desk_of writer.old c)
+        × Marked kind marks opening }
+    ensures same { Same writer.old writer.new }
+    ensures wrote { WroteToken writer.old.full writer.old.text.now kind size (desk_of writer.old c)
+        (desk_of writer.new result) }
 {
-    let place = c.place;
-    let offset = place.offset;
-    let at = c.at;
-    let from = c.area;
+    let Cursor { place, at, area } = c;
+    let token = desk::token_at(place, size);
+    put_content(writer.full, writer.store, at, kind, token, area as u32);
+    let start = place.offset + opening;
     let content = size - marks;
-    put_content(
-        full,
-        store,
-        at,
-        kind,
-        desk::token_at(place, size),
-        from as u32,
+    copy_content(
+        writer.full,
+        &writer.text[start..start + content],
+        writer.area,
+        area,
     );
-    copy_content(s, full, offset + opening, content, area, from);
-    Cursor {
-        place: desk::behind(s, place, kind, size),
-        at: at + desk::record_length(full, Shape::Content),
-        area: from + content,
-    }
+    let stored = desk::record_length(writer.full, Shape::Content);
+    writer.pass(c, kind, size, stored, content)
 }

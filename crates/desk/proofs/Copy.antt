@@ -5,7 +5,8 @@ use mathlib.Core.List.{List, [], ◌∷◌, ◌++◌}
 use native.Mathlib.Numerals.{add-one}
 use native.Mathlib.Omega.{arith}
 use lib.ListN.{length, take, drop, set, get_or, length-take, length-drop, take-append-drop}
-use lib.Seq.{take-suc, get_or-drop}
+use lib.Seq.{take-suc, get_or-drop, drop-drop}
+use borrow.Rule.Slice.PartMut.{put_mid}
 use Rattle.records.specs.Put.{front, put}
 use Rattle.records.proofs.Putting.{length-put, set-put, put-more}
 
@@ -28,3 +29,16 @@ copy_more s l from at i h k =
 -- the rest of a store has the room that the store has behind it
 pub rest-room : (at n : ℕ) (l : List ℕ) → at + n ≤ length l → n ≤ length (take (length l - at) (drop at l))
 rest-room at n l h = omega (arith, length-take (length l - at) (drop at l), length-drop at l)
+
+-- a part of a store, with other bytes in its place
+pub put-part : (at e : ℕ) (vs l : List ℕ) → e ≡ at + length vs → put_mid at (e - at) l vs ≡ put at vs l
+unfolding put front
+put-part at e vs l n =
+    let m : e - at ≡ length vs = omega arith in
+    rw (m, drop-drop)
+
+-- a part that is given by its ends
+pub part-taken : (s : List ℕ) (o n : ℕ) → take (o + n - o) (drop o s) ≡ take n (drop o s)
+part-taken s o n =
+    let e : o + n - o ≡ n = omega arith in
+    rw e

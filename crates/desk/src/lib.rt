@@ -1,14 +1,15 @@
 // Where writing stands, and what each record takes of it: the P of a token, the bytes of a record, the place behind a token.
 #![tactic(auto)]
 
-ghost use Rattle.std.specs.Prelude.{◌≡◌, ◌+◌, ◌≤◌, ◌<◌, ◌^◌};
+ghost use Rattle.std.specs.Prelude.{◌≡◌, ◌+◌, ◌≤◌, ◌<◌, ◌^◌, length};
 ghost use Rattle.places.specs.Places.{IsPlace, place_at};
 ghost use Rattle.desk.specs.Written.{token_at};
-ghost use Rattle.desk.specs.Desk.{shaped_length, record_length, IsToken};
+ghost use Rattle.desk.specs.Desk.{shaped_length, record_length, Going, IsToken};
 
 use kinds::{Kind, Shape};
 use places::Place;
 use records::Token;
+use rules::Reading;
 
 // Where writing stands: the place in the text, and the offsets in the store and in the area.
 #[derive(Clone, Copy)]
@@ -16,6 +17,35 @@ pub struct Cursor {
     pub place: Place,
     pub at: usize,
     pub area: usize,
+}
+
+// A text that is written, and what is lent for it. Read copies contents into the area (`full`), Outline does not.
+// Where writing stands is no field of it: a Cursor goes along by value. As a field behind `&mut` it is stored and loaded at
+// each token, and Read and Outline were a seventh slower on tables.
+#[derive(Drop)]
+pub struct Writer<'t, 'b> {
+    pub reading: Reading,
+    pub text: &'t [u8],
+    pub full: bool,
+    pub store: &'b mut [u8],
+    pub area: &'b mut [u8],
+}
+
+impl Writer<'_, '_> {
+    // Where writing goes on behind a token, with so many bytes more in the store and in the area.
+    pub fn pass(&self, c: Cursor, kind: u8, size: usize, stored: usize, copied: usize) -> Cursor
+        requires token { IsToken self.now.text.now kind c.place.offset size }
+        requires going { Going self.now.text.now c }
+        requires room { (c.at + stored ≤ length self.now.store.now) × (copied ≤ size) }
+        ensures { result
+            ≡ record { place = place_at self.now.text.now (c.place.offset + size); at = c.at + stored; area = c.area + copied } }
+    {
+        Cursor {
+            place: behind(self.text, c.place, kind, size),
+            at: c.at + stored,
+            area: c.area + copied,
+        }
+    }
 }
 
 // P of the token at a place.

@@ -7,8 +7,9 @@ ghost use Rattle.grammar.specs.Machine.{loop_end};
 ghost use Rattle.desk.specs.Written.{loop_bytes, number_bytes};
 ghost use Rattle.desk.specs.Desk.{StoreRoom, record_here, MarkAhead, NumberAhead, LoopAhead};
 ghost use Rattle.desk.specs.Desk.{WrotePlain, WroteLoop, WroteEnd};
+ghost use Rattle.desk.specs.Writer.{Same};
 
-use desk::Cursor;
+use desk::{Cursor, Writer};
 use kinds::{Kind, Shape};
 use numbers::Decimal;
 use records::Token;
@@ -42,97 +43,75 @@ fn put_decimal(store: &mut [u8], at: usize, token: Token, decimal: Decimal)
 }
 
 // A number's record: Outline does not ask what the number means.
-fn put_number(s: &[u8], full: bool, store: &mut [u8], c: Cursor, kind: u8, size: usize)
-    requires { NumberAhead full s.now kind size c store.old }
-    ensures { store.new ≡ put c.at (record_here full s.now c kind size) store.old }
+fn put_number(writer: &mut Writer, c: Cursor, kind: u8, size: usize)
+    requires { NumberAhead writer.old.full writer.old.text.now kind size c writer.old.store.now }
+    ensures { writer.new ≡ record writer.old { store = record writer.old.store { now = put c.at (record_here writer.old.full writer.old.text.now c kind size) writer.old.store.now } } }
 {
-    let place = c.place;
-    let at = c.at;
+    let Cursor { place, at, .. } = c;
     let token = desk::token_at(place, size);
-    if !full {
-        records::write_place(&mut store[at..], kind, token);
+    if !writer.full {
+        records::write_place(&mut writer.store[at..], kind, token);
         return;
     }
-    let offset = place.offset;
-    let end = offset + size;
-    put_decimal(store, at, token, decimals::decimal_of(&s[offset..end]));
+    let start = place.offset;
+    let decimal = decimals::decimal_of(&writer.text[start..start + size]);
+    put_decimal(writer.store, at, token, decimal);
 }
 
 // A token that has none, and no more than its place.
-pub fn write_mark(
-    s: &[u8],
-    full: bool,
-    store: &mut [u8],
-    c: Cursor,
-    kind: u8,
-    size: usize,
-) -> Cursor
-    requires { MarkAhead full s.now kind size c store.old }
-    ensures { WrotePlain full s.now kind size c store.old result store.new }
+pub fn write_mark(writer: &mut Writer, c: Cursor, kind: u8, size: usize) -> Cursor
+    requires { MarkAhead writer.old.full writer.old.text.now kind size c writer.old.store.now }
+    ensures same { Same writer.old writer.new }
+    ensures area { writer.new.area.now ≡ writer.old.area.now }
+    ensures wrote { WrotePlain writer.old.full writer.old.text.now kind size c writer.old.store.now
+        result writer.new.store.now }
 {
-    let place = c.place;
-    let at = c.at;
-    let area = c.area;
+    let Cursor { place, at, .. } = c;
     let token = desk::token_at(place, size);
-    records::write_place(&mut store[at..], kind, token);
-    Cursor {
-        place: desk::behind(s, place, kind, size),
-        at: at + desk::record_length(full, Shape::Place),
-        area,
-    }
+    records::write_place(&mut writer.store[at..], kind, token);
+    let stored = desk::record_length(writer.full, Shape::Place);
+    writer.pass(c, kind, size, stored, 0)
 }
 
 // A number.
-pub fn write_number(
-    s: &[u8],
-    full: bool,
-    store: &mut [u8],
-    c: Cursor,
-    kind: u8,
-    size: usize,
-) -> Cursor
-    requires { NumberAhead full s.now kind size c store.old }
-    ensures { WrotePlain full s.now kind size c store.old result store.new }
+pub fn write_number(writer: &mut Writer, c: Cursor, kind: u8, size: usize) -> Cursor
+    requires { NumberAhead writer.old.full writer.old.text.now kind size c writer.old.store.now }
+    ensures same { Same writer.old writer.new }
+    ensures area { writer.new.area.now ≡ writer.old.area.now }
+    ensures wrote { WrotePlain writer.old.full writer.old.text.now kind size c writer.old.store.now
+        result writer.new.store.now }
 {
-    let place = c.place;
-    let at = c.at;
-    let area = c.area;
-    put_number(s, full, store, c, kind, size);
-    Cursor {
-        place: desk::behind(s, place, kind, size),
-        at: at + desk::number_length(full, kind),
-        area,
-    }
+    put_number(writer, c, kind, size);
+    let stored = desk::number_length(writer.full, kind);
+    writer.pass(c, kind, size, stored, 0)
 }
 
 // `loop_`, with the number of its tags.
-pub fn write_loop(s: &[u8], full: bool, store: &mut [u8], c: Cursor, tags: usize) -> Cursor
-    requires { LoopAhead full s.now tags c store.old }
-    ensures { WroteLoop full s.now tags c store.old result store.new }
+pub fn write_loop(writer: &mut Writer, c: Cursor, tags: usize) -> Cursor
+    requires { LoopAhead writer.old.full writer.old.text.now tags c writer.old.store.now }
+    ensures same { Same writer.old writer.new }
+    ensures area { writer.new.area.now ≡ writer.old.area.now }
+    ensures wrote { WroteLoop writer.old.full writer.old.text.now tags c writer.old.store.now
+        result writer.new.store.now }
 {
-    let place = c.place;
-    let at = c.at;
-    let area = c.area;
-    put_loop(full, store, at, desk::token_at(place, KEYWORD), tags as u32);
-    Cursor {
-        place: desk::behind(s, place, Kind::LOOP, KEYWORD),
-        at: at + desk::record_length(full, Shape::Count),
-        area,
-    }
+    let Cursor { place, at, .. } = c;
+    let token = desk::token_at(place, KEYWORD);
+    put_loop(writer.full, writer.store, at, token, tags as u32);
+    let stored = desk::record_length(writer.full, Shape::Count);
+    writer.pass(c, Kind::LOOP, KEYWORD, stored, 0)
 }
 
 // A loop's end, which has no token.
-pub fn write_end(full: bool, store: &mut [u8], c: Cursor) -> Cursor
-    requires { StoreRoom full loop_end c store.old }
-    ensures { WroteEnd full c store.old result store.new }
+pub fn write_end(writer: &mut Writer, c: Cursor) -> Cursor
+    requires { StoreRoom writer.old.full loop_end c writer.old.store.now }
+    ensures same { Same writer.old writer.new }
+    ensures area { writer.new.area.now ≡ writer.old.area.now }
+    ensures wrote { WroteEnd writer.old.full c writer.old.store.now result
+        writer.new.store.now }
 {
-    let place = c.place;
-    let at = c.at;
-    let area = c.area;
-    records::write_end(&mut store[at..]);
+    records::write_end(&mut writer.store[c.at..]);
     Cursor {
-        place,
-        at: at + desk::record_length(full, Shape::Empty),
-        area,
+        at: c.at + desk::record_length(writer.full, Shape::Empty),
+        ..c
     }
 }

@@ -5,3 +5,5 @@ pub mod Values
 pub mod SoFar
 pub mod Lists
 pub mod Items
+pub mod Trims
+pub mod Loops

@@ -1,13 +1,14 @@
 // Writing from token to token: values and names, one item.
 #![tactic(auto)]
 
-ghost use Rattle.std.specs.Prelude.{◌≡◌, true, ◌&&◌, leb, ◌+◌, ◌≤◌, ◌<◌, length};
+ghost use Rattle.std.specs.Prelude.{◌≡◌, true, ◌≤◌, length};
 ghost use Rattle.places.specs.Places.{IsPlace};
 ghost use Rattle.grammar.specs.Tokens.{tag_at, loop_at};
-ghost use Rattle.desk.specs.Desk.{desk, TextAhead, Marked, WroteToken};
-ghost use Rattle.walking.specs.Walk.{behind_gap, TokenAhead, ValueAhead, names_from, NamesAhead, ValuesAhead, WroteNames, WroteValues, ItemHere, WroteItem};
+ghost use Rattle.desk.specs.Desk.{TextAhead, Marked, WroteToken};
+ghost use Rattle.desk.specs.Writer.{desk_of, Same};
+ghost use Rattle.walking.specs.Walk.{behind_gap, ValueAhead, names_from, NamesAhead, ValuesAhead, WroteNames, WroteValues, ItemHere, WroteItem};
 
-use desk::Cursor;
+use desk::{Cursor, Writer};
 use found::Found;
 use kinds::Kind;
 use rules::Reading;
@@ -18,89 +19,45 @@ pub fn trimmed(s: &[u8], c: Cursor) -> Cursor
     ensures { result ≡ behind_gap s.now c }
 {
     let place = c.place;
-    let at = c.at;
-    let area = c.area;
     Cursor {
         place: trimming::trim_spaces_first(s, place.offset, place.line, place.column),
-        at,
-        area,
+        ..c
     }
-}
-
-// A value that is no number.
-fn write_token(
-    s: &[u8],
-    full: bool,
-    store: &mut [u8],
-    area: &mut [u8],
-    c: Cursor,
-    kind: u8,
-    size: usize,
-) -> Cursor
-    requires { TokenAhead full s.now kind size (desk c store.old area.old) }
-    ensures { WroteToken full s.now kind size (desk c store.old area.old)
-        (desk result store.new area.new) }
-{
-    if kind < Kind::BARE {
-        return putting::write_mark(s, full, store, c, kind, size);
-    }
-    let k = Kind::of(kind);
-    copying::write_text(s, full, store, area, c, kind, size, k.marks(), k.opening())
-}
-
-// Whether a kind of value is a number's: kind 21, of the strict reading, comes behind them.
-fn is_number(kind: u8) -> bool
-    ensures { result ≡ (leb 14 kind && leb kind 15) }
-{
-    if kind < Kind::NUMBER {
-        return false;
-    }
-    kind <= Kind::UNCERTAIN
 }
 
 // A value that is found.
-fn write_found(
-    reading: Reading,
-    s: &[u8],
-    full: bool,
-    store: &mut [u8],
-    area: &mut [u8],
-    c: Cursor,
-    kind: u8,
-    size: usize,
-) -> Cursor
-    requires { ValueAhead reading full s.now kind size (desk c store.old area.old) }
-    ensures { WroteToken full s.now kind size (desk c store.old area.old)
-        (desk result store.new area.new) }
+fn write_found(writer: &mut Writer, c: Cursor, kind: u8, size: usize) -> Cursor
+    requires { ValueAhead writer.old.reading writer.old.full writer.old.text.now kind size (desk_of writer.old c) }
+    ensures same { Same writer.old writer.new }
+    ensures wrote { WroteToken writer.old.full writer.old.text.now kind size (desk_of writer.old c)
+        (desk_of writer.new result) }
 {
-    if is_number(kind) {
-        return putting::write_number(s, full, store, c, kind, size);
+    match kind {
+        ..=Kind::UNKNOWN => putting::write_mark(writer, c, kind, size),
+        Kind::NUMBER | Kind::UNCERTAIN => putting::write_number(writer, c, kind, size),
+        _ => {
+            let text = Kind::of(kind);
+            copying::write_text(writer, c, kind, size, text.marks(), text.opening())
+        }
     }
-    write_token(s, full, store, area, c, kind, size)
 }
 
 // Values, until one fails: those of a loop, or of a tag, which in a text that is read has one.
-fn write_values(
-    reading: Reading,
-    s: &[u8],
-    full: bool,
-    store: &mut [u8],
-    area: &mut [u8],
-    c: Cursor,
-) -> Cursor
-    requires { ValuesAhead reading full s.now (desk c store.old area.old) }
-    ensures { WroteValues reading full s.now (desk c store.old area.old)
-        (desk result store.new area.new) }
+fn write_values(writer: &mut Writer, c: Cursor) -> Cursor
+    requires { ValuesAhead writer.old.reading writer.old.full writer.old.text.now (desk_of writer.old c) }
+    ensures same { Same writer.old writer.new }
+    ensures wrote { WroteValues writer.old.reading writer.old.full writer.old.text.now (desk_of writer.old c)
+        (desk_of writer.new result) }
 {
     let mut last = c;
     loop {
-        let here = trimmed(s, last);
-        let place = here.place;
-        let offset = place.offset;
-        let Found::Value { kind, size } = Found::of(values::pack_value(reading, s, offset)) else {
+        let here = trimmed(writer.text, last);
+        let offset = here.place.offset;
+        let found = Found::of(values::pack_value(writer.reading, writer.text, offset));
+        let Found::Value { kind, size } = found else {
             return here;
         };
-        last = write_found(reading, s, full, store, area, here, kind, size);
+        last = write_found(writer, here, kind, size);
     }
 }
 
@@ -122,110 +79,75 @@ fn count_tags(reading: Reading, s: &[u8], from: usize) -> usize
 }
 
 // A tag of an item or of a loop.
-fn write_tag(
-    s: &[u8],
-    full: bool,
-    store: &mut [u8],
-    area: &mut [u8],
-    c: Cursor,
-    kind: u8,
-    size: usize,
-) -> Cursor
-    requires { TextAhead full s.now kind size (desk c store.old area.old) × Marked kind 1 1 }
-    ensures { WroteToken full s.now kind size (desk c store.old area.old)
-        (desk result store.new area.new) }
+fn write_tag(writer: &mut Writer, c: Cursor, kind: u8, size: usize) -> Cursor
+    requires { TextAhead writer.old.full writer.old.text.now kind size (desk_of writer.old c) × Marked kind 1 1 }
+    ensures same { Same writer.old writer.new }
+    ensures wrote { WroteToken writer.old.full writer.old.text.now kind size (desk_of writer.old c)
+        (desk_of writer.new result) }
 {
     let marks = Kind::TAG_MARKS;
-    copying::write_text(s, full, store, area, c, kind, size, marks, marks)
+    copying::write_text(writer, c, kind, size, marks, marks)
 }
 
 // The names of a loop, as far as they may stand.
-fn write_names(
-    reading: Reading,
-    s: &[u8],
-    full: bool,
-    store: &mut [u8],
-    area: &mut [u8],
-    c: Cursor,
-) -> Cursor
-    requires { NamesAhead reading full s.now (desk c store.old area.old) }
-    ensures { WroteNames reading full s.now (desk c store.old area.old)
-        (desk result store.new area.new) }
+fn write_names(writer: &mut Writer, c: Cursor) -> Cursor
+    requires { NamesAhead writer.old.reading writer.old.full writer.old.text.now (desk_of writer.old c) }
+    ensures same { Same writer.old writer.new }
+    ensures wrote { WroteNames writer.old.reading writer.old.full writer.old.text.now (desk_of writer.old c)
+        (desk_of writer.new result) }
 {
     let mut last = c;
     loop {
-        let here = trimmed(s, last);
-        let place = here.place;
-        let offset = place.offset;
-        let end = openings::name_end(reading, s, offset);
+        let here = trimmed(writer.text, last);
+        let offset = here.place.offset;
+        let end = openings::name_end(writer.reading, writer.text, offset);
         if end <= offset {
             return here;
         }
-        last = write_tag(s, full, store, area, here, Kind::LOOP_TAG, end - offset);
+        last = write_tag(writer, here, Kind::LOOP_TAG, end - offset);
     }
 }
 
 // A loop: its record counts the names, so they are counted first.
-fn write_loop_item(
-    reading: Reading,
-    s: &[u8],
-    full: bool,
-    store: &mut [u8],
-    area: &mut [u8],
-    c: Cursor,
-) -> Cursor
-    requires { ItemHere reading full s.now (desk c store.old area.old)
-        × (loop_at reading s.now c.place.offset ≡ true) }
-    ensures { WroteItem reading full s.now (desk c store.old area.old)
-        (desk result store.new area.new) }
+fn write_loop_item(writer: &mut Writer, c: Cursor) -> Cursor
+    requires { ItemHere writer.old.reading writer.old.full writer.old.text.now (desk_of writer.old c)
+        × (loop_at writer.old.reading writer.old.text.now c.place.offset ≡ true) }
+    ensures same { Same writer.old writer.new }
+    ensures wrote { WroteItem writer.old.reading writer.old.full writer.old.text.now (desk_of writer.old c)
+        (desk_of writer.new result) }
 {
-    let place = c.place;
-    let offset = place.offset;
-    let tags = count_tags(reading, s, offset + putting::KEYWORD);
-    let opened = putting::write_loop(s, full, store, c, tags);
-    let named = write_names(reading, s, full, store, area, opened);
-    let valued = write_values(reading, s, full, store, area, named);
-    putting::write_end(full, store, valued)
+    let names = c.place.offset + putting::KEYWORD;
+    let tags = count_tags(writer.reading, writer.text, names);
+    let opened = putting::write_loop(writer, c, tags);
+    let named = write_names(writer, opened);
+    let valued = write_values(writer, named);
+    putting::write_end(writer, valued)
 }
 
 // A tag and its value.
-fn write_tag_item(
-    reading: Reading,
-    s: &[u8],
-    full: bool,
-    store: &mut [u8],
-    area: &mut [u8],
-    c: Cursor,
-) -> Cursor
-    requires { ItemHere reading full s.now (desk c store.old area.old)
-        × (tag_at reading s.now c.place.offset ≡ true) }
-    ensures { WroteItem reading full s.now (desk c store.old area.old)
-        (desk result store.new area.new) }
+fn write_tag_item(writer: &mut Writer, c: Cursor) -> Cursor
+    requires { ItemHere writer.old.reading writer.old.full writer.old.text.now (desk_of writer.old c)
+        × (tag_at writer.old.reading writer.old.text.now c.place.offset ≡ true) }
+    ensures same { Same writer.old writer.new }
+    ensures wrote { WroteItem writer.old.reading writer.old.full writer.old.text.now (desk_of writer.old c)
+        (desk_of writer.new result) }
 {
-    let place = c.place;
-    let offset = place.offset;
-    let end = words::long_word_end(s, offset);
-    let tagged = write_tag(s, full, store, area, c, Kind::TAG, end - offset);
-    write_values(reading, s, full, store, area, tagged)
+    let offset = c.place.offset;
+    let end = words::long_word_end(writer.text, offset);
+    let tagged = write_tag(writer, c, Kind::TAG, end - offset);
+    write_values(writer, tagged)
 }
 
 // An item; most are tags.
-pub fn write_item(
-    reading: Reading,
-    s: &[u8],
-    full: bool,
-    store: &mut [u8],
-    area: &mut [u8],
-    c: Cursor,
-) -> Cursor
-    requires { ItemHere reading full s.now (desk c store.old area.old) }
-    ensures { WroteItem reading full s.now (desk c store.old area.old)
-        (desk result store.new area.new) }
+pub fn write_item(writer: &mut Writer, c: Cursor) -> Cursor
+    requires { ItemHere writer.old.reading writer.old.full writer.old.text.now (desk_of writer.old c) }
+    ensures same { Same writer.old writer.new }
+    ensures wrote { WroteItem writer.old.reading writer.old.full writer.old.text.now (desk_of writer.old c)
+        (desk_of writer.new result) }
 {
-    let place = c.place;
-    let offset = place.offset;
-    if openings::at_tag(reading, s, offset) {
-        return write_tag_item(reading, s, full, store, area, c);
+    if openings::at_tag(writer.reading, writer.text, c.place.offset) {
+        write_tag_item(writer, c)
+    } else {
+        write_loop_item(writer, c)
     }
-    write_loop_item(reading, s, full, store, area, c)
 }

@@ -25,11 +25,11 @@ use Rattle.grammar.specs.Tokens.{heading_at, loop_at, save_at}
 use Rattle.items.specs.Answers.{item_at}
 use Rattle.decisions.specs.Onward.{left, heads_block}
 use Rattle.desk.specs.declared.Cursor.{Cursor}
-use Rattle.writing.specs.declared.Next.TheVariants.{Item as Item', Stop}
+use Rattle.std.specs.Prelude.{Some, None}
 use Rattle.walking.specs.Writing.{tags_of, store_of}
 use Rattle.desk.specs.Desk.{Desk, desk, Going, Room, rec_at, TextAhead, WroteOne}
 use Rattle.walking.specs.Walk.{Wrote, Onward, behind_gap, item_recs, item_rest, is_taken, item_of, ItemHere, WroteItem, names_from, behind_names, values_from}
-use Rattle.writing.specs.Block.{recs_left, is_done, Ahead, Moved, WroteBeyond, WroteHeading, Closing, next_of}
+use Rattle.writing.specs.Block.{recs_left, is_done, Ahead, Moved, WroteBeyond, WroteHeading, Closing, stop_of}
 use Rattle.walking.proofs.Appends.{store-append, area-size-append}
 use Rattle.walking.proofs.Items.{loop-parts, tag-parts, tag-here, room-prefix}
 use Rattle.walking.proofs.Lists.{value-free}
@@ -208,20 +208,20 @@ module _ (r : Reading) (full : Bool) (s : List ℕ) (b : ℕ) (d : Desk) (a : Ah
   abbrev here : ℕ
   here = d.cursor.place.offset
 
-  pub frame-item-here : next_of (item_at r s here) ≡ Item' → ItemHere r full s d
+  pub frame-item-here : stop_of (item_at r s here) ≡ None → ItemHere r full s d
   frame-item-here e =
       let x : is_taken (item_of r s here) ≡ true = next-item (item_of r s here) (unfold item_at in e) in
       let t = frame-item-steps r s b here a.going.place.within a.bare a.reads x in
       record { going = a.going; bare = a.bare; read = x; alone = no-value-left r (some b) s _ (item-passes r s here a.going.place.within x).bare t.reads; room = room-prefix full _ _ d (rw t.recs at a.room) }
 
-  pub frame-item-moved : (e : Desk) → next_of (item_at r s here) ≡ Item' → WroteItem r full s d e → Moved r full s (some b) d (some b) e
+  pub frame-item-moved : (e : Desk) → stop_of (item_at r s here) ≡ None → WroteItem r full s d e → Moved r full s (some b) d (some b) e
   frame-item-moved e n w =
       let x : is_taken (item_of r s here) ≡ true = next-item (item_of r s here) (unfold item_at in n) in
       item-moved r full s (some b) d e a x (frame-item-steps r s b here a.going.place.within a.bare a.reads x) w
 
   -- Its end
 
-  pub frame-closing : (p : ℕ) → next_of (item_at r s here) ≡ Stop p → Closing s here p × Room full (rec_at 3 p 5 ∷ []) d
+  pub frame-closing : (p : ℕ) → stop_of (item_at r s here) ≡ Some p → Closing s here p × Room full (rec_at 3 p 5 ∷ []) d
   frame-closing p n =
       let h = next-stop r s b here p a.going.place.within a.bare a.reads n in
       let c = close-steps r s b here p h a.reads in (
@@ -229,7 +229,7 @@ module _ (r : Reading) (full : Bool) (s : List ℕ) (b : ℕ) (d : Desk) (a : Ah
         room-first full (rec_at 3 p 5) (recs_left r none s (gap_end s (p + 5))) d (rw c.1.recs at a.room),
       )
 
-  pub frame_closed : (e : Desk) (p : ℕ) → next_of (item_at r s here) ≡ Stop p → WroteBeyond full s 3 p 5 d e → Moved r full s (some b) d none e
+  pub frame_closed : (e : Desk) (p : ℕ) → stop_of (item_at r s here) ≡ Some p → WroteBeyond full s 3 p 5 d e → Moved r full s (some b) d none e
   unfolding is_count kind_of shape_of
   frame_closed e p n w =
       let h = next-stop r s b here p a.going.place.within a.bare a.reads n in

@@ -42,11 +42,11 @@ use Rattle.items.proofs.Passes.{AlikeItem, alike-taken, alike-failed, alike-abse
 use Rattle.decisions.proofs.Onward.{DroppedAt, PassedInside, first-left, left-item, item-inside, item-stepped, left-from, open-reads, heads-reads, left-gap, left-read}
 use Rattle.closing.proofs.Closing.{frame-closes, open-refused}
 use Rattle.deciding.proofs.Blocks.{begin-reads, end-answer, no-data, decided-from}
-use Rattle.writing.specs.declared.Next.TheVariants.{Item as Item', Stop}
+use Rattle.std.specs.Prelude.{Some, None}
 use Rattle.walking.specs.Walk.{item_recs, item_rest, is_taken, item_of}
 use Rattle.desk.specs.Desk.{IsToken, rec_at}
 use Rattle.desk.proofs.Lines.{part-token}
-use Rattle.writing.specs.Block.{answer_recs, is_done, recs_left, next_of}
+use Rattle.writing.specs.Block.{answer_recs, is_done, recs_left, stop_of}
 use Rattle.writing.proofs.Prefix.{prefixed, started, run-after}
 
 -- what is kept already comes before the rest
@@ -197,24 +197,24 @@ close-steps r s a o p h d = by (close_at r s p) refl
 
 -- What stands next in a frame
 
-never : (p : ℕ) → Stop p ≡ Item' → ⊥
+never : (p : ℕ) → Some p ≡ None → ⊥
 never p e = let z : ◌≡◌ {A = ℕ} 0 1 = cc in omega arith
 
-pub next-item : (x : Item) → next_of (item_answer x) ≡ Item' → is_taken x ≡ true
-unfolding item_answer next_of is_taken
+pub next-item : (x : Item) → stop_of (item_answer x) ≡ None → is_taken x ≡ true
+unfolding item_answer stop_of is_taken
 next-item (taken b rs rest) e = refl
 next-item (failed n o d rest) e = absurd (never (heading_at rest) e)
 next-item (absent rest) e = absurd (never (heading_at rest) e)
 next-item (broken n o d) e = absurd (never o e)
 
-stop_is : (p q : ℕ) → Stop p ≡ Stop q → p ≡ q
+stop_is : (p q : ℕ) → Some p ≡ Some q → p ≡ q
 stop_is p q e = cc
 
-pub next-stop : (r : Reading) (s : List ℕ) (a o p : ℕ) → o ≤ length s → gap (drop o s) ≡ 0 → is_done (left r 0 (some a) s o []) ≡ true → next_of (item_at r s o) ≡ Stop p → DroppedAt r s a o p
-unfolding PassedInside next_of told
+pub next-stop : (r : Reading) (s : List ℕ) (a o p : ℕ) → o ≤ length s → gap (drop o s) ≡ 0 → is_done (left r 0 (some a) s o []) ≡ true → stop_of (item_at r s o) ≡ Some p → DroppedAt r s a o p
+unfolding PassedInside stop_of told
 next-stop r s a o p h g d e = by (item_at r s o) (item-inside r s a o h g) e
   where
-    by : (i : Result Answered Fault) → PassedInside r s a o (in_frame_of i) → next_of i ≡ Stop p → DroppedAt r s a o p
+    by : (i : Result Answered Fault) → PassedInside r s a o (in_frame_of i) → stop_of i ≡ Some p → DroppedAt r s a o p
     by (Ok (Loop n z w)) x e = absurd (never p (sym e))
     by (Ok (Single n z)) x e = absurd (never p (sym e))
     by (Ok (Failed c q)) x e = rw (stop_is q p e) at x

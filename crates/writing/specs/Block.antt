@@ -1,6 +1,6 @@
 -- From item to item: what must hold before items, headings, a frame and the blocks are written, and what holds
 -- afterwards. Assumes nothing.
-use Rattle.std.specs.Prelude.{ℕ, ◌+◌, ◌≤◌, ◌<◌, ◌≡◌, Bool, true, false, List, [], length, drop, Result, Ok, Err}
+use Rattle.std.specs.Prelude.{Option as Maybe, Some, None, ℕ, ◌+◌, ◌≤◌, ◌<◌, ◌≡◌, Bool, true, false, List, [], length, drop, Result, Ok, Err}
 use Rattle.std.proofs.Math.Option.{Option, none}
 use Rattle.rules.specs.declared.Reading.{Reading}
 use Rattle.gaps.specs.Gaps.{gap}
@@ -13,8 +13,6 @@ use Rattle.items.specs.declared.Item.TheVariants.{Loop, Single, Failed, Absent}
 use Rattle.grammar.specs.declared.Fault.{Fault}
 use Rattle.sizes.specs.Sizes.{area_size}
 use Rattle.desk.specs.declared.Cursor.{Cursor}
-use Rattle.writing.specs.declared.Next.{Next}
-use Rattle.writing.specs.declared.Next.TheVariants.{Item, Stop}
 use Rattle.walking.specs.Writing.{store_of, area_in}
 use Rattle.desk.specs.Desk.{stored_length, Desk, desk, Going, Room, IsToken, StoreRoom, rec_at, WroteOne}
 use Rattle.walking.specs.Walk.{Wrote, Onward, behind_gap}
@@ -78,13 +76,13 @@ pub record CloseAhead (full : Bool) (s : List ℕ) (stop : ℕ) (c : Cursor) (l 
 abbrev pub WroteClose : Bool → List ℕ → ℕ → Cursor → List ℕ → Cursor → List ℕ → Type 0
 WroteClose full s stop c l e m = (a : List ℕ) → WroteBeyond full s 3 stop 5 (desk c l a) (desk e m a)
 
--- what stands next in a frame: an item that is read, or where the last one stopped
-unfoldable pub next_of : Result Answered Fault → Next
-next_of (Ok (Loop n z w)) = Item
-next_of (Ok (Single n z)) = Item
-next_of (Ok (Failed e p)) = Stop p
-next_of (Ok (Absent o)) = Stop o
-next_of (Err e) = Stop e.at
+-- where the items of a frame stop, unless one stands next that is read
+unfoldable pub stop_of : Result Answered Fault → Maybe ℕ
+stop_of (Ok (Loop n z w)) = None
+stop_of (Ok (Single n z)) = None
+stop_of (Ok (Failed e p)) = Some p
+stop_of (Ok (Absent o)) = Some o
+stop_of (Err e) = Some e.at
 
 -- the records of a text that is read, and what is written of them
 abbrev pub records_of : Reading → List ℕ → List Rec

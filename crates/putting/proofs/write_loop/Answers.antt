@@ -9,29 +9,33 @@ use Rattle.desk.specs.Desk.{rec_at}
 use Rattle.desk.proofs.Ones.{place-small, kind-length, one-length, loop-here, loop-length, loop-plain, plain-wrote}
 use Rattle.putting.proofs.write_loop.Goals as goal
 
-pub token_at-requires : goal.token_at-requires
-token_at-requires c =
+pub token_at-token-requires : goal.token_at-token-requires
+token_at-token-requires c =
     let a = c.args in
+    let w = a.writer.now in
     let p = c.requires in
-    place-small a.s.now a.c.place 5 p.going.place p.going.short (omega (arith, p.token.within))
+    place-small w.text.now a.c.place 5 p.going.place p.going.short (omega (arith, p.token.within))
 
 pub put_loop-requires : goal.put_loop-requires
 put_loop-requires c =
     let a = c.args in
+    let w = a.writer.now in
     let p = c.requires in
-    let t = ap (λ x. loop_bytes a.full x a.tags) c.token_at.ensures ∙ loop-here a.full a.s.now a.c.place 5 a.c.area a.tags p.going.place in
-    omega (arith, ap length t, one-length a.full a.s.now a.c.area a.tags (rec_at 5 a.c.place.offset 5), p.room)
+    let t = ap (λ x. loop_bytes w.full x a.tags) c.token_at-token.ensures ∙ loop-here w.full w.text.now a.c.place 5 a.c.area a.tags p.going.place in
+    omega (arith, ap length t, one-length w.full w.text.now a.c.area a.tags (rec_at 5 a.c.place.offset 5), p.room)
 
-pub overflow_add-result : goal.overflow_add-result
-overflow_add-result c =
+pub pass-requires-clause-room : goal.pass-requires-clause-room
+pass-requires-clause-room c =
     let a = c.args in
-    omega (arith, c.requires.room, c.record_length.ensures, loop-length a.full, kind-length a.full (rec_at 5 a.c.place.offset 5))
+    let w = a.writer.now in
+    (omega (arith, c.put_loop.auto.store, c.requires.room, c.record_length-stored.ensures, loop-length w.full, kind-length w.full (rec_at 5 a.c.place.offset 5)), omega arith)
 
-pub returns : goal.returns
-returns c =
+pub returns-clause-wrote : goal.returns-clause-wrote
+returns-clause-wrote c =
     let a = c.args in
+    let w = a.writer.now in
     let p = c.requires in
-    let t = ap (λ x. loop_bytes a.full x a.tags) c.token_at.ensures ∙ loop-here a.full a.s.now a.c.place 5 a.c.area a.tags p.going.place in
-    λ l. plain-wrote a.full a.s.now 5 5 a.tags a.c _ a.store.now _ l (loop-plain 5)
-    p.going p.token c.behind.ensures (ap (λ x. a.c.at + x) (c.record_length.ensures ∙ loop-length a.full)) refl
-    (c.put_loop.ensures ∙ ap (λ x. put a.c.at x a.store.now) t)
+    let t = ap (λ x. loop_bytes w.full x a.tags) c.token_at-token.ensures ∙ loop-here w.full w.text.now a.c.place 5 a.c.area a.tags p.going.place in
+    λ l. rw c.pass.ensures (plain-wrote w.full w.text.now 5 5 a.tags a.c _ w.store.now _ l (loop-plain 5)
+    p.going p.token refl (ap (λ x. a.c.at + x) (c.record_length-stored.ensures ∙ loop-length w.full)) (omega arith)
+    (c.put_loop.ensures ∙ ap (λ x. put a.c.at x w.store.now) t))

@@ -1,5 +1,4 @@
 -- `walking::count_tags`: those counted, and those from here on, are those from the start on. Assumes nothing.
-use Prim.Native.Nat.{◌-◌}
 use mathlib.Core.Path.{ap}
 use native.Mathlib.Omega.{arith}
 use lib.ListN.{length}

@@ -1,101 +1,40 @@
 -- `walking::write_loop_item`: head, names, values and end, one after the other. Assumes nothing.
-use Prim.Native.Nat.{◌+◌}
-use Rattle.places.proofs.Places.{place-offset}
-use Rattle.desk.specs.Desk.{desk}
-use Rattle.walking.proofs.SoFar.{room-first}
-use Rattle.walking.proofs.Items.{names-few, loop-names-room, loop-values-room, loop_token, loop-begun, loop-opened, loop-named, loop-valued, loop_ended}
+use Rattle.desk.specs.Writer.{desk_of}
+use Rattle.walking.proofs.Items.{loop_token}
+use Rattle.walking.proofs.Loops.{head-ahead, names-ahead, values-ahead, end-room, loop-written}
 use Rattle.walking.proofs.write_loop_item.Goals as goal
 
 pub count_tags-tags-requires : goal.count_tags-tags-requires
 count_tags-tags-requires c =
-    let a = c.args in
-    let s = a.s.now in
-    let r = a.reading in
-    let f = a.full in
-    let d = desk a.c a.store.now a.area.now in
-    let h = c.requires.0 in
-    let l = c.requires.1 in
-    (loop_token r f s d h l).within
+    let w = c.args.writer.now in
+    (loop_token w.reading w.full w.text.now (desk_of w c.args.c) c.requires.0 c.requires.1).within
 
 pub write_loop-opened-requires : goal.write_loop-opened-requires
 write_loop-opened-requires c =
-    let a = c.args in
-    let s = a.s.now in
-    let r = a.reading in
-    let f = a.full in
-    let d = desk a.c a.store.now a.area.now in
-    let h = c.requires.0 in
-    let l = c.requires.1 in
-    let e = c.count_tags-tags.ensures in
-    record {
-      going = h.going;
-      token = loop_token r f s d h l;
-      few = rw e (names-few r s (a.c.place.offset + 5) (loop_token r f s d h l).within h.going.short);
-      room = (room-first f _ _ d (loop-begun r f s d h l).room).store;
-    }
+    head-ahead c.args.writer.now c.args.c c.requires.0 c.requires.1 _ c.count_tags-tags.ensures
 
 pub write_names-named-requires : goal.write_names-named-requires
 write_names-named-requires c =
-    let a = c.args in
-    let s = a.s.now in
-    let r = a.reading in
-    let f = a.full in
-    let d = desk a.c a.store.now a.area.now in
-    let h = c.requires.0 in
-    let l = c.requires.1 in
-    let w1 = c.write_loop-opened.ensures a.area.now in
-    let p1 = loop-opened r f s d h l _ _ c.count_tags-tags.ensures w1 in
-    let o1 = place-offset s c.write_loop-opened.result.place _ w1.place in
-    record { going = w1.going; room = loop-names-room r f s d h l _ p1 o1 }
+    let x = c.write_loop-opened.ensures in
+    names-ahead c.args.writer.now c.args.c c.requires.0 c.requires.1 _ c.count_tags-tags.ensures _ _ x.same x.area x.wrote
 
 pub write_values-valued-requires : goal.write_values-valued-requires
 write_values-valued-requires c =
-    let a = c.args in
-    let s = a.s.now in
-    let r = a.reading in
-    let f = a.full in
-    let d = desk a.c a.store.now a.area.now in
-    let h = c.requires.0 in
-    let l = c.requires.1 in
-    let w1 = c.write_loop-opened.ensures a.area.now in
-    let p1 = loop-opened r f s d h l _ _ c.count_tags-tags.ensures w1 in
-    let o1 = place-offset s c.write_loop-opened.result.place _ w1.place in
-    let w2 = c.write_names-named.ensures in
-    let p2 = loop-named r f s d h l _ _ p1 o1 w2 in
-    record { going = w2.going; room = loop-values-room r f s d h l _ p2.0 p2.1 }
+    let x = c.write_loop-opened.ensures in
+    let y = c.write_names-named.ensures in
+    values-ahead c.args.writer.now c.args.c c.requires.0 c.requires.1 _ c.count_tags-tags.ensures _ _ x.same x.area x.wrote _ _ y.same y.wrote
 
 pub write_end-requires : goal.write_end-requires
 write_end-requires c =
-    let a = c.args in
-    let s = a.s.now in
-    let r = a.reading in
-    let f = a.full in
-    let d = desk a.c a.store.now a.area.now in
-    let h = c.requires.0 in
-    let l = c.requires.1 in
-    let w1 = c.write_loop-opened.ensures a.area.now in
-    let p1 = loop-opened r f s d h l _ _ c.count_tags-tags.ensures w1 in
-    let o1 = place-offset s c.write_loop-opened.result.place _ w1.place in
-    let w2 = c.write_names-named.ensures in
-    let p2 = loop-named r f s d h l _ _ p1 o1 w2 in
-    let w3 = c.write_values-valued.ensures in
-    let p3 = loop-valued r f s d h l _ _ p2.0 p2.1 w3 in
-    p3.0.room.store
+    let x = c.write_loop-opened.ensures in
+    let y = c.write_names-named.ensures in
+    let z = c.write_values-valued.ensures in
+    end-room c.args.writer.now c.args.c c.requires.0 c.requires.1 _ c.count_tags-tags.ensures _ _ x.same x.area x.wrote _ _ y.same y.wrote _ _ z.same z.wrote
 
-pub returns : goal.returns
-returns c =
-    let a = c.args in
-    let s = a.s.now in
-    let r = a.reading in
-    let f = a.full in
-    let d = desk a.c a.store.now a.area.now in
-    let h = c.requires.0 in
-    let l = c.requires.1 in
-    let w1 = c.write_loop-opened.ensures a.area.now in
-    let p1 = loop-opened r f s d h l _ _ c.count_tags-tags.ensures w1 in
-    let o1 = place-offset s c.write_loop-opened.result.place _ w1.place in
-    let w2 = c.write_names-named.ensures in
-    let p2 = loop-named r f s d h l _ _ p1 o1 w2 in
-    let w3 = c.write_values-valued.ensures in
-    let p3 = loop-valued r f s d h l _ _ p2.0 p2.1 w3 in
-    (loop_ended r f s d h l _ _ p3.0 p3.1 (c.write_end.ensures s _ w3.going)).1
+pub returns-clause-wrote : goal.returns-clause-wrote
+returns-clause-wrote c =
+    let x = c.write_loop-opened.ensures in
+    let y = c.write_names-named.ensures in
+    let z = c.write_values-valued.ensures in
+    let e = c.write_end.ensures in
+    loop-written c.args.writer.now c.args.c c.requires.0 c.requires.1 _ c.count_tags-tags.ensures _ _ x.same x.area x.wrote _ _ y.same y.wrote _ _ z.same z.wrote c.write_end.new.writer c.write_end.result e.area e.wrote

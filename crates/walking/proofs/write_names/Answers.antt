@@ -3,79 +3,80 @@ use Prim.Native.Nat.{◌-◌}
 use mathlib.Core.Path.{refl, ap}
 use native.Mathlib.Omega.{arith}
 use Rattle.kinds.specs.Kinds.{kind_of, shape_of}
-use Rattle.gaps.proofs.Gaps.{gap_from}
-use Rattle.desk.specs.Desk.{desk}
+use Rattle.desk.specs.Writer.{desk_of}
 use Rattle.desk.proofs.Ones.{loop-tag-marked}
 use Rattle.walking.specs.Walk.{names_from, behind_names}
 use Rattle.walking.proofs.SoFar.{start}
-use Rattle.walking.proofs.Lists.{name-room, name-next, name-gap, name-last, gap-again}
-use Rattle.walking.proofs.Values.{trim-offset, trim-going}
+use Rattle.walking.proofs.Lists.{name-room, name-next, name-last}
+use Rattle.walking.proofs.Trims.{same-then, same-own, name-gone, gone-again, gone-further}
 use Rattle.walking.proofs.write_names.Goals as goal
 
-pub loop-reading-init : goal.loop-reading-init
-loop-reading-init c =
-    let a = c.args in
-    let p = c.requires in
-    start a.full a.s.now (names_from a.reading a.s.now) (behind_names a.reading a.s.now) (desk a.c a.store.now a.area.now) p.going p.room
+pub loop-here-init : goal.loop-here-init
+loop-here-init c =
+    let w = c.args.writer.now in
+    record { same = same-own w; so_far = start w.full w.text.now (names_from w.reading w.text.now) (behind_names w.reading w.text.now) (desk_of w c.args.c) c.requires.going c.requires.room }
 
 pub trimmed-here-requires : goal.trimmed-here-requires
-trimmed-here-requires c = c.loop-reading.invariant.going.place
+trimmed-here-requires c =
+    let i = c.loop-here.invariant in
+    rw i.same.text i.so_far.going.place
 
 pub name_end-end-requires : goal.name_end-end-requires
 name_end-end-requires c =
-    let l = c.loop-reading in
-    let a = c.args in
-    let h = c.trimmed-here in
-    (trim-going a.s.now l.last h.result h.ensures l.invariant.going).place.within
+    let w = c.args.writer.now in
+    let i = c.loop-here.invariant in
+    let g = name-gone w _ i.same _ c.trimmed-here.result c.trimmed-here.ensures c.args.c i.so_far in
+    rw i.same.text g.going.place.within
 
-pub returns-then-end-offset : goal.returns-then-end-offset
-returns-then-end-offset c =
-    let l = c.loop-reading in
-    let a = c.args in
-    let h = c.trimmed-here in
-    let d₀ = desk a.c a.store.now a.area.now in
-    let d = desk h.result l.store l.area in
-    let i = name-gap a.reading a.full a.s.now d₀ l.last h.result l.store l.area l.invariant h.ensures in
-    let g = gap-again a.s.now l.last h.result h.ensures in
-    name-last a.reading a.full a.s.now d₀ d i g (rw (← c.name_end-end.ensures) c.if-end-offset.true)
-
-pub overflow_sub-end : goal.overflow_sub-end
-overflow_sub-end c = omega (arith, c.if-end-offset.false)
+pub returns-then-end-offset-clause-wrote : goal.returns-then-end-offset-clause-wrote
+returns-then-end-offset-clause-wrote c =
+    let w = c.args.writer.now in
+    let l = c.loop-here in
+    let h = c.trimmed-here.result in
+    let i = l.invariant in
+    let t = i.same in
+    let g = name-gone w _ t _ h c.trimmed-here.ensures c.args.c i.so_far in
+    let b = gone-again w _ t _ h c.trimmed-here.ensures in
+    let e = rw (t.reading, t.text) at c.name_end-end.ensures in
+    name-last w.reading w.full w.text.now (desk_of w c.args.c) (desk_of l.writer h) g b (rw (← e) c.if-end-offset.true)
 
 pub write_tag-last-requires : goal.write_tag-last-requires
 write_tag-last-requires c =
-    let l = c.loop-reading in
-    let a = c.args in
-    let h = c.trimmed-here in
-    let d₀ = desk a.c a.store.now a.area.now in
-    let d = desk h.result l.store l.area in
-    let i = name-gap a.reading a.full a.s.now d₀ l.last h.result l.store l.area l.invariant h.ensures in
-    let g = gap-again a.s.now l.last h.result h.ensures in
-    let e = c.name_end-end.ensures in
-    let room = name-room a.reading a.full a.s.now d₀ d _ i g (rw (← e) c.if-end-offset.false) (ap (λ x. x - h.result.place.offset) e) in
-    (record { going = i.going; token = room.0; content = unfold kind_of shape_of in refl; room = room.1 }, loop-tag-marked)
+    let w = c.args.writer.now in
+    let l = c.loop-here in
+    let h = c.trimmed-here.result in
+    let i = l.invariant in
+    let t = i.same in
+    let g = name-gone w _ t _ h c.trimmed-here.ensures c.args.c i.so_far in
+    let b = gone-again w _ t _ h c.trimmed-here.ensures in
+    let e = rw (t.reading, t.text) at c.name_end-end.ensures in
+    let room = name-room w.reading w.full w.text.now (desk_of w c.args.c) (desk_of l.writer h) _ g b (rw (← e) c.if-end-offset.false) (ap (λ x. x - h.place.offset) e) in
+    (rw (t.text, t.full) (record { going = g.going; token = room.0; content = unfold kind_of shape_of in refl; room = room.1 }), loop-tag-marked)
 
-pub loop-reading-smaller : goal.loop-reading-smaller
-loop-reading-smaller c =
-    let l = c.loop-reading in
-    let a = c.args in
-    let h = c.trimmed-here in
-    let d₀ = desk a.c a.store.now a.area.now in
-    let d = desk h.result l.store l.area in
-    let i = name-gap a.reading a.full a.s.now d₀ l.last h.result l.store l.area l.invariant h.ensures in
-    let g = gap-again a.s.now l.last h.result h.ensures in
-    let e = c.name_end-end.ensures in
-    let n = name-next a.reading a.full a.s.now d₀ d _ _ i g (rw (← e) c.if-end-offset.false) (ap (λ x. x - h.result.place.offset) e) c.write_tag-last.ensures in
-    omega (arith, n.1, n.2, trim-offset a.s.now l.last h.result h.ensures, gap_from a.s.now l.last.place.offset)
+pub loop-here-smaller : goal.loop-here-smaller
+loop-here-smaller c =
+    let w = c.args.writer.now in
+    let l = c.loop-here in
+    let h = c.trimmed-here.result in
+    let i = l.invariant in
+    let t = i.same in
+    let g = name-gone w _ t _ h c.trimmed-here.ensures c.args.c i.so_far in
+    let b = gone-again w _ t _ h c.trimmed-here.ensures in
+    let e = rw (t.reading, t.text) at c.name_end-end.ensures in
+    let n = name-next w.reading w.full w.text.now (desk_of w c.args.c) (desk_of l.writer h) (desk_of c.write_tag-last.new.writer c.write_tag-last.result) _ g b (rw (← e) c.if-end-offset.false) (ap (λ x. x - h.place.offset) e) (rw (t.text, t.full) at c.write_tag-last.ensures.wrote) in
+    omega (arith, n.1, n.2, gone-further w _ t _ h c.trimmed-here.ensures)
 
-pub loop-reading-preserved : goal.loop-reading-preserved
-loop-reading-preserved c =
-    let l = c.loop-reading in
-    let a = c.args in
-    let h = c.trimmed-here in
-    let d₀ = desk a.c a.store.now a.area.now in
-    let d = desk h.result l.store l.area in
-    let i = name-gap a.reading a.full a.s.now d₀ l.last h.result l.store l.area l.invariant h.ensures in
-    let g = gap-again a.s.now l.last h.result h.ensures in
-    let e = c.name_end-end.ensures in
-    (name-next a.reading a.full a.s.now d₀ d _ _ i g (rw (← e) c.if-end-offset.false) (ap (λ x. x - h.result.place.offset) e) c.write_tag-last.ensures).0
+pub loop-here-preserved : goal.loop-here-preserved
+loop-here-preserved c =
+    let w = c.args.writer.now in
+    let l = c.loop-here in
+    let h = c.trimmed-here.result in
+    let i = l.invariant in
+    let t = i.same in
+    let g = name-gone w _ t _ h c.trimmed-here.ensures c.args.c i.so_far in
+    let b = gone-again w _ t _ h c.trimmed-here.ensures in
+    let e = rw (t.reading, t.text) at c.name_end-end.ensures in
+    record {
+      same = same-then w l.writer c.write_tag-last.new.writer t c.write_tag-last.ensures.same;
+      so_far = (name-next w.reading w.full w.text.now (desk_of w c.args.c) (desk_of l.writer h) (desk_of c.write_tag-last.new.writer c.write_tag-last.result) _ g b (rw (← e) c.if-end-offset.false) (ap (λ x. x - h.place.offset) e) (rw (t.text, t.full) at c.write_tag-last.ensures.wrote)).0;
+    }
