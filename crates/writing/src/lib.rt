@@ -18,6 +18,7 @@ use kinds::Kind;
 use rules::Reading;
 
 // Where the items of a frame stop, unless one that is read stands here: it is decided before it is written, so that one that fails leaves no trace.
+#[tactic(auto, unfolding(crate::specs::Block::stop_of))]
 fn decide_stop(reading: Reading, s: &[u8], at: usize) -> Option<usize>
     requires { Here s.now at }
     ensures { result ≡ stop_of (item_at reading s.now at) }
