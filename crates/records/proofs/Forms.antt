@@ -1,15 +1,17 @@
 -- Laws of the records' bytes: their lengths, and how they come about field by field. Assumes nothing.
-use Prim.Native.Nat.{ℕ, ◌+◌, ◌%◌, ◌/◌, ◌≤◌, ◌<◌}
+use Prim.Native.Nat.{ℕ, zero, suc, ◌+◌, ◌-◌, ◌%◌, ◌/◌, ◌≤◌, ◌<◌}
 use mathlib.Core.Path.{◌≡◌, refl, ◌∙◌}
+use mathlib.Core.Bool.{Bool, true, false}
 use mathlib.Core.List.{List, [], ◌∷◌, ◌++◌, append_assoc}
 use native.Mathlib.Omega.{arith}
+use Rattle.std.specs.Int.{w64, to_le_bytes}
+use mir.Val.{bool_byte}
 use lib.ListN.{length}
 use Rattle.numbers.specs.declared.Decimal.{Decimal}
-use Rattle.kinds.specs.declared.Shape.{Shape}
-use Rattle.kinds.specs.declared.Shape.TheVariants.{Empty, Place, Content, Count, Parts, PartsUncertain}
+use Rattle.kinds.specs.declared.Shape.TheVariants.{Place, Content}
 use Rattle.records.specs.declared.Token.{Token}
 use Rattle.kinds.proofs.Numbering.{outline-place}
-use Rattle.kinds.specs.Kinds.{kind_of, shape_of, shape_length, outline_shape, body_length, outline_length}
+use Rattle.kinds.specs.Kinds.{kind_of, shape_of, shape_length, body_length, outline_length}
 use Rattle.records.specs.Bytes.{le32, le64, signed32, flag}
 use Rattle.records.specs.Put.{front, put}
 use Rattle.records.specs.Records.{token_bytes, decimal_bytes, end_record, place_record, content_record, loop_record, number_record, uncertain_record}
@@ -77,10 +79,30 @@ pub outline-whole : (k : ℕ) (t : Token) → 0 < body_length k → length (plac
 unfolding body_length outline_length
 outline-whole k t h = rw (outline-place (shape_of (kind_of k)) h) (length-place k t)
 
--- eight bytes by two fours
-pub long-put : (at v : ℕ) (l : List ℕ) → at + 8 ≤ length l → put (at + 4) (le32 (v / 4294967296)) (put at (le32 (v % 4294967296)) l) ≡ put at (le64 v) l
+-- a flag is the byte that std makes of it
+pub flag-byte : (b : Bool) → bool_byte b ≡ flag b
+unfolding flag
+flag-byte true = refl
+flag-byte false = refl
+
+-- a two's complement
+pub negated : (r n : ℕ) → (r + n) % 4294967296 ≡ 0 → r < 4294967296 → n < 4294967296 → le32 r ≡ le32 (4294967296 - n)
+unfolding le32
+negated r zero e h k = let z : r ≡ 0 = omega arith in rw z
+negated r (suc n) e h k = let z : r ≡ 4294967296 - suc n = omega arith in rw z
+
+-- eight bytes are two fours
+pub long-bytes : (v : ℕ) → to_le_bytes w64 v ≡ le64 v
 unfolding le64 le32
-long-put at v l h = put-more at (le32 (v % 4294967296)) (le32 (v / 4294967296)) l (omega arith)
+long-bytes v =
+    let a : v % 256 ≡ v % 4294967296 % 256 = omega arith in
+    let b : v / 256 % 256 ≡ v % 4294967296 / 256 % 256 = omega arith in
+    let c : v / 65536 % 256 ≡ v % 4294967296 / 65536 % 256 = omega arith in
+    let d : v / 16777216 % 256 ≡ v % 4294967296 / 16777216 % 256 = omega arith in
+    let e : v / 1099511627776 % 256 ≡ v / 4294967296 / 256 % 256 = omega arith in
+    let f : v / 281474976710656 % 256 ≡ v / 4294967296 / 65536 % 256 = omega arith in
+    let g : v / 72057594037927936 % 256 ≡ v / 4294967296 / 16777216 % 256 = omega arith in
+    rw (a, b, c, d, e, f, g)
 
 -- a token, number by number
 pub token-put : (at : ℕ) (t : Token) (l : List ℕ) → at + 16 ≤ length l → put (at + 12) (le32 t.column) (put (at + 8) (le32 t.line) (put (at + 4) (le32 t.length) (put at (le32 t.offset) l))) ≡ put at (token_bytes t) l

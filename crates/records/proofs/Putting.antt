@@ -6,6 +6,7 @@ use native.Mathlib.Omega.{arith}
 use native.Mathlib.Nat.{zero-add, suc-add}
 use lib.ListN.{length, take, drop, set, length-append, length-drop, length-take, drop_of_length-le}
 use lib.Seq.{take-append_seam, drop-append_seam, take_all, drop-drop}
+use borrow.Rule.Slice.PartMut.{put_mid}
 use Rattle.records.specs.Put.{front, put}
 
 pub length_front : (vs l : List ℕ) → length vs ≤ length l → length (front vs l) ≡ length l
@@ -99,19 +100,16 @@ set_more at v vs l h =
     set-put (at + length vs) v (put at vs l) (omega (arith, length-put at vs l (omega arith)))
     ∙ put-more at vs (v ∷ []) l (omega arith)
 
--- four bytes, one by one
-pub set-four : (at a b c d : ℕ) (l : List ℕ) → at + 4 ≤ length l → set (set (set (set l at a) (at + 1) b) (at + 2) c) (at + 3) d ≡ put at (a ∷ b ∷ c ∷ d ∷ []) l
-set-four at a b c d l h =
-    rw (
-      set-put at a l (omega arith),
-      set_more at b (a ∷ []) l (omega arith),
-      set_more at c (a ∷ b ∷ []) l (omega arith),
-      set_more at d (a ∷ b ∷ c ∷ []) l (omega arith),
-    )
-
 -- what a function put at the front of a lent part stands in the whole
 pub part-put : (at : ℕ) (vs l ys : List ℕ) → ys ≡ front vs (take (length l - at) (drop at l)) → take at l ++ (ys ++ drop (length l - at) (drop at l)) ≡ put at vs l
 unfolding put
 part-put at vs l ys e =
     let n : length (drop at l) ≤ length l - at = omega (arith, length-drop at l) in
     rw (e, drop_of_length-le (drop at l) n, take_all (length l - at) (drop at l) n, append-nil)
+
+-- a part of a store, with other bytes in its place
+pub put-part : (at e : ℕ) (vs l : List ℕ) → e ≡ at + length vs → put_mid at (e - at) l vs ≡ put at vs l
+unfolding put front
+put-part at e vs l n =
+    let m : e - at ≡ length vs = omega arith in
+    rw (m, drop-drop)

@@ -37,10 +37,7 @@ fn put_u32(store: &mut [u8], at: usize, v: u32)
     requires { at + 4 ≤ length store.old }
     ensures { store.new ≡ put at (le32 v) store.old }
 {
-    store[at] = (v % 256) as u8;
-    store[at + 1] = (v / 256 % 256) as u8;
-    store[at + 2] = (v / 65536 % 256) as u8;
-    store[at + 3] = (v / 16777216 % 256) as u8;
+    store[at..at + 4].copy_from_slice(&v.to_le_bytes());
 }
 
 // Eight bytes from an offset on.
@@ -48,8 +45,7 @@ pub fn put_u64(store: &mut [u8], at: usize, v: u64)
     requires { at + 8 ≤ length store.old }
     ensures { store.new ≡ put at (le64 v) store.old }
 {
-    put_u32(store, at, (v % 4294967296) as u32);
-    put_u32(store, at + 4, (v / 4294967296) as u32);
+    store[at..at + 8].copy_from_slice(&v.to_le_bytes());
 }
 
 // P from an offset on.
@@ -63,27 +59,11 @@ fn put_token(store: &mut [u8], at: usize, t: Token)
     put_u32(store, at + 12, t.column);
 }
 
-// A flag as a byte.
-fn byte_of(b: bool) -> u8
-    ensures { result ≡ flag b }
-{
-    if b {
-        return 1;
-    }
-    0
-}
-
 // A number by its sign and size, as its two's complement.
 fn signed(minus: bool, size: u32) -> u32
     ensures { le32 result ≡ signed32 minus size }
 {
-    if minus {
-        if 0 < size {
-            return 4294967295 - size + 1;
-        }
-        return 0;
-    }
-    size
+    if minus { size.wrapping_neg() } else { size }
 }
 
 // Decimal parts from an offset on, without the uncertainty.
@@ -91,7 +71,7 @@ fn put_decimal(store: &mut [u8], at: usize, d: Decimal)
     requires { (at + 18 ≤ length store.old) × (d.places < 256) }
     ensures { store.new ≡ put at (decimal_bytes d) store.old }
 {
-    put_u8(store, at, byte_of(d.minus));
+    put_u8(store, at, u8::from(d.minus));
     put_u32(store, at + 1, d.integer);
     put_u64(store, at + 5, d.fraction);
     put_u8(store, at + 13, d.places as u8);

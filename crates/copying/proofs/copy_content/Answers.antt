@@ -1,6 +1,7 @@
 -- `copying::copy_content`: Read puts the content, Outline nothing. Assumes nothing.
 use mathlib.Core.Path.{refl, sym}
-use Rattle.desk.proofs.Copy.{put-none, put-part}
+use Rattle.desk.proofs.Copy.{put-none}
+use Rattle.records.proofs.Putting.{put-part}
 use Rattle.copying.proofs.copy_content.Goals as goal
 
 pub returns-then-full : goal.returns-then-full
