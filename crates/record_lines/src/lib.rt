@@ -15,17 +15,16 @@ use kinds::{Kind, Shape};
 use numbers::Decimal;
 use rules::Reading;
 
-// A part of a source.
+// A part of a source; an empty one may start behind the source's end.
 fn put_part(out: &mut [u8], at: usize, source: &[u8], from: usize, size: usize) -> usize
     requires { (at + size ≤ length out.old) × (size ≤ length source.now - from) }
     ensures { Wrote at (take size (drop from source.now)) out.old out.new result }
 {
-    let mut i = 0;
-    while i < size {
-        out[at + i] = source[from + i];
-        i += 1;
+    let end = at + size;
+    if 0 < size {
+        out[at..end].copy_from_slice(&source[from..from + size]);
     }
-    at + size
+    end
 }
 
 // The size of an exponent that is kept in two's complement.
