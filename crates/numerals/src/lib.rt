@@ -34,13 +34,10 @@ fn digit_count(n: u32) -> usize
     requires { n < 10 ^ 9 }
     ensures { result ≡ length (plain n) }
 {
-    let mut rest = n;
-    let mut count = 1;
-    while 10 <= rest {
-        rest = rest / 10;
-        count += 1;
+    match n.checked_ilog10() {
+        Some(power) => power as usize + 1,
+        None => 1,
     }
-    count
 }
 
 // A number without leading zeros.
