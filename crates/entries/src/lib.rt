@@ -23,7 +23,7 @@ pub struct Parts {
 }
 
 // What a record holds: P, the area offset or the number of tags, and decimal parts; 0 where its shape has none.
-#[derive(Clone, Copy)]
+#[derive(Clone, Copy, Default)]
 pub struct Fields {
     pub token: Token,
     pub number: u32,
@@ -84,23 +84,6 @@ fn parts_at(store: &[u8], at: usize, uncertainty: u32) -> Parts
     }
 }
 
-// What an empty body holds.
-fn no_fields() -> Fields
-    ensures { result ≡ no_fields }
-{
-    let token = Token {
-        offset: 0,
-        length: 0,
-        line: 0,
-        column: 0,
-    };
-    Fields {
-        token,
-        number: 0,
-        parts: Parts::default(),
-    }
-}
-
 // P and a number.
 #[tactic(auto, unfolding(crate::specs::Entries::plain_fields))]
 fn plain_fields(store: &[u8], at: usize, number: u32) -> Fields
@@ -133,7 +116,7 @@ fn fields_at(store: &[u8], at: usize, shape: Shape) -> Fields
     ensures { result ≡ fields_of shape (drop at store.now) }
 {
     match shape {
-        Shape::Empty => no_fields(),
+        Shape::Empty => Fields::default(),
         Shape::Place => plain_fields(store, at, 0),
         Shape::Content | Shape::Count => plain_fields(store, at, u32_at(store, at + Kind::PLACE)),
         Shape::Parts => parts_fields(store, at, 0),
