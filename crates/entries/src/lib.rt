@@ -3,7 +3,7 @@
 
 ghost use Rattle.std.specs.Prelude.{◌≡◌, ◌+◌, ◌*◌, ◌≤◌, ◌<◌, length, drop};
 ghost use Rattle.kinds.specs.Kinds.{shape_length};
-ghost use Rattle.entries.specs.Entries.{de32, de64, token_of, parts_of, no_fields, plain_fields};
+ghost use Rattle.entries.specs.Entries.{exponent_size, de32, de64, token_of, parts_of, plain_fields};
 ghost use Rattle.entries.specs.Entries.{parts_fields, fields_of, entry_at};
 
 use kinds::{Kind, Shape};
@@ -20,6 +20,18 @@ pub struct Parts {
     pub places: u8,
     pub exponent: u32,
     pub uncertainty: u32,
+}
+
+// The size of an exponent that is kept in two's complement.
+#[tactic(auto, unfolding(crate::specs::Entries::exponent_size))]
+pub fn exponent_size(exponent: u32) -> u32
+    ensures { result ≡ exponent_size exponent }
+{
+    if 2147483648 <= exponent {
+        4294967295 - exponent + 1
+    } else {
+        exponent
+    }
 }
 
 // What a record holds: P, the area offset or the number of tags, and decimal parts; 0 where its shape has none.

@@ -6,7 +6,7 @@ ghost use Rattle.entries.specs.Entries.{whole};
 ghost use Rattle.readable.specs.Tokens.{mark};
 ghost use Rattle.contents.specs.Contents.{content_bytes, own_rule};
 ghost use Rattle.record_lines.specs.Lines.{decimal_of, is_end, plain_line, line_of};
-ghost use Rattle.record_lines.specs.Writing.{size_of, mark_of, opening_text, body_text, closing_text};
+ghost use Rattle.record_lines.specs.Writing.{mark_of, opening_text, body_text, closing_text};
 ghost use Rattle.record_lines.specs.Writing.{keeps_digits, is_writable, plain_length, line_length};
 ghost use Rattle.numerals.specs.Written.{Wrote};
 
@@ -27,18 +27,6 @@ fn put_part(out: &mut [u8], at: usize, source: &[u8], from: usize, size: usize) 
     end
 }
 
-// The size of an exponent that is kept in two's complement.
-#[tactic(auto, unfolding(crate::specs::Writing::size_of))]
-fn size_of(exponent: u32) -> u32
-    ensures { result ≡ size_of exponent }
-{
-    if 2147483648 <= exponent {
-        4294967295 - exponent + 1
-    } else {
-        exponent
-    }
-}
-
 // The decimal that stored parts stand for.
 fn decimal_of(uncertain: bool, parts: Parts) -> Decimal
     ensures { result ≡ decimal_of uncertain parts }
@@ -52,7 +40,7 @@ fn decimal_of(uncertain: bool, parts: Parts) -> Decimal
         fraction: parts.fraction,
         places: places as usize,
         lowers: 2147483648 <= exponent,
-        exponent: size_of(exponent),
+        exponent: entries::exponent_size(exponent),
         uncertain,
         uncertainty: parts.uncertainty,
     }
