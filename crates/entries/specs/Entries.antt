@@ -21,6 +21,10 @@ de32 b = get_or b 0 0 + get_or b 1 0 * 256 + get_or b 2 0 * 65536 + get_or b 3 0
 unfoldable pub de64 : List ℕ → ℕ
 de64 b = de32 b + de32 (drop 4 b) * 4294967296
 
+-- the size of an exponent that is kept in two's complement
+unfoldable pub exponent_size : ℕ → ℕ
+exponent_size e = cond (leb 2147483648 e) (4294967296 - e) e
+
 -- P
 unfoldable pub token_of : List ℕ → Token
 token_of b =

@@ -3,7 +3,7 @@
 
 ghost use Rattle.std.specs.Prelude.{◌≡◌, ◌+◌, ◌*◌, ◌≤◌, ◌<◌, length, drop};
 ghost use Rattle.kinds.specs.Kinds.{shape_length};
-ghost use Rattle.entries.specs.Entries.{de32, de64, token_of, parts_of, no_fields, plain_fields};
+ghost use Rattle.entries.specs.Entries.{exponent_size, de32, de64, token_of, parts_of, plain_fields};
 ghost use Rattle.entries.specs.Entries.{parts_fields, fields_of, entry_at};
 
 use kinds::{Kind, Shape};
@@ -22,8 +22,20 @@ pub struct Parts {
     pub uncertainty: u32,
 }
 
+// The size of an exponent that is kept in two's complement.
+#[tactic(auto, unfolding(crate::specs::Entries::exponent_size))]
+pub fn exponent_size(exponent: u32) -> u32
+    ensures { result ≡ exponent_size exponent }
+{
+    if 2147483648 <= exponent {
+        4294967295 - exponent + 1
+    } else {
+        exponent
+    }
+}
+
 // What a record holds: P, the area offset or the number of tags, and decimal parts; 0 where its shape has none.
-#[derive(Clone, Copy)]
+#[derive(Clone, Copy, Default)]
 pub struct Fields {
     pub token: Token,
     pub number: u32,
@@ -84,23 +96,6 @@ fn parts_at(store: &[u8], at: usize, uncertainty: u32) -> Parts
     }
 }
 
-// What an empty body holds.
-fn no_fields() -> Fields
-    ensures { result ≡ no_fields }
-{
-    let token = Token {
-        offset: 0,
-        length: 0,
-        line: 0,
-        column: 0,
-    };
-    Fields {
-        token,
-        number: 0,
-        parts: Parts::default(),
-    }
-}
-
 // P and a number.
 #[tactic(auto, unfolding(crate::specs::Entries::plain_fields))]
 fn plain_fields(store: &[u8], at: usize, number: u32) -> Fields
@@ -133,7 +128,7 @@ fn fields_at(store: &[u8], at: usize, shape: Shape) -> Fields
     ensures { result ≡ fields_of shape (drop at store.now) }
 {
     match shape {
-        Shape::Empty => no_fields(),
+        Shape::Empty => Fields::default(),
         Shape::Place => plain_fields(store, at, 0),
         Shape::Content | Shape::Count => plain_fields(store, at, u32_at(store, at + Kind::PLACE)),
         Shape::Parts => parts_fields(store, at, 0),

@@ -3,7 +3,7 @@
 
 ghost use Rattle.std.specs.Prelude.{◌≡◌, cond, eqb};
 ghost use Rattle.exports.specs.Exports.{exported, exported_part, exported_record, exported_fields};
-ghost use Rattle.exports.specs.Exports.{no_reading, no_part, no_record, is_negative, magnitude};
+ghost use Rattle.exports.specs.Exports.{no_reading, no_part, no_record, is_negative};
 
 use entries::Fields;
 use kinds::Kind;
@@ -122,17 +122,6 @@ fn negative(e: u32) -> u64
     (2147483648 <= e) as u64
 }
 
-// The number without its sign.
-#[tactic(auto, unfolding(crate::specs::Exports::magnitude, crate::specs::Exports::is_negative))]
-fn size_of(e: u32) -> u64
-    ensures { result ≡ magnitude e }
-{
-    if 2147483648 <= e {
-        return 4294967296 - e as u64;
-    }
-    e as u64
-}
-
 // Only a loop counts tags.
 fn tags_of(kind: u8, number: u32) -> u64
     ensures { result ≡ cond (eqb kind 5) number 0 }
@@ -141,7 +130,7 @@ fn tags_of(kind: u8, number: u32) -> u64
 }
 
 // A record that was met, field by field.
-#[tactic(auto, unfolding(crate::specs::Exports::exported_fields))]
+#[tactic(auto, unfolding(crate::specs::Exports::exported_fields, crate::specs::Exports::magnitude, crate::specs::Exports::is_negative, entries::specs::Entries::exponent_size))]
 fn met(kind: u8, f: Fields, from: usize, size: usize, next: usize) -> Record
     ensures { result ≡ exported_fields kind f from size next }
 {
@@ -163,7 +152,7 @@ fn met(kind: u8, f: Fields, from: usize, size: usize, next: usize) -> Record
         fraction: parts.fraction,
         digits: parts.places as u64,
         lowers: negative(exponent),
-        exponent: size_of(exponent),
+        exponent: entries::exponent_size(exponent) as u64,
         uncertainty: parts.uncertainty as u64,
         next: next as u64,
     }

@@ -3,7 +3,7 @@
 
 ghost use Rattle.std.specs.Prelude.{◌≡◌, ◌+◌, ◌^◌, ◌<◌, Bool};
 ghost use Rattle.entries.specs.Walk.{entries};
-ghost use Rattle.kinds.specs.Kinds.{is_value_kind};
+ghost use Rattle.kinds.specs.Kinds.{number_of, is_value_kind};
 ghost use Rattle.nesting.specs.Nesting.{opens_loop, further, at_items, at_names, ends_loop, at_values};
 ghost use Rattle.nesting.specs.Nesting.{stands, counted, standing, ended, nested};
 
@@ -70,13 +70,13 @@ fn open_loop(frame: bool, tags: usize) -> Option<Standing>
 }
 
 // A record that is no item's and no frame's: in the strict reading a further block may stand outside frames.
-fn next_block(reading: Reading, frame: bool, kind: u8) -> Option<Standing>
-    ensures { result ≡ further reading frame kind }
+fn next_block(reading: Reading, frame: bool, kind: Kind) -> Option<Standing>
+    ensures { result ≡ further reading frame (number_of kind) }
 {
     match reading {
         Reading::First => None,
         Reading::Strict => {
-            if kind != Kind::BLOCK || frame {
+            if !matches!(kind, Kind::Block) || frame {
                 return None;
             }
             to_items(false)
@@ -86,22 +86,22 @@ fn next_block(reading: Reading, frame: bool, kind: u8) -> Option<Standing>
 
 // A record between items.
 #[tactic(auto, unfolding(crate::specs::Nesting::at_items))]
-fn at_items(reading: Reading, frame: bool, empty: bool, kind: u8, tags: usize) -> Option<Standing>
-    ensures { result ≡ at_items reading frame empty kind tags }
+fn at_items(reading: Reading, frame: bool, empty: bool, kind: Kind, tags: usize) -> Option<Standing>
+    ensures { result ≡ at_items reading frame empty (number_of kind) tags }
 {
     match kind {
-        Kind::TAG => (!empty).then_some(Standing {
+        Kind::Tag => (!empty).then_some(Standing {
             frame,
             place: Where::Wants,
         }),
-        Kind::LOOP => open_loop(frame, tags),
-        Kind::FRAME_OPEN => {
+        Kind::Loop => open_loop(frame, tags),
+        Kind::FrameOpen => {
             if frame {
                 return None;
             }
             to_items(true)
         }
-        Kind::FRAME_CLOSE => {
+        Kind::FrameClose => {
             if !frame {
                 return None;
             }
@@ -113,10 +113,10 @@ fn at_items(reading: Reading, frame: bool, empty: bool, kind: u8, tags: usize) -
 
 // A record among a loop's tags.
 #[tactic(auto, using(crate::proofs::Nesting::names_last, crate::proofs::Nesting::names_more), unfolding(crate::specs::Nesting::at_names, crate::specs::Nesting::after_name))]
-fn at_names(frame: bool, all: usize, left: usize, kind: u8) -> Option<Standing>
-    ensures { result ≡ at_names frame all left kind }
+fn at_names(frame: bool, all: usize, left: usize, kind: Kind) -> Option<Standing>
+    ensures { result ≡ at_names frame all left (number_of kind) }
 {
-    if left == 0 || kind != Kind::LOOP_TAG {
+    if left == 0 || !matches!(kind, Kind::LoopTag) {
         return None;
     }
     let place = if left == 1 {
@@ -150,17 +150,23 @@ fn end_loop(reading: Reading, frame: bool, count: usize) -> Option<Standing>
 
 // A record among a loop's values; so many are whole rows at the end.
 #[tactic(auto, unfolding(crate::specs::Nesting::at_values))]
-fn at_values(reading: Reading, frame: bool, all: usize, count: usize, kind: u8) -> Option<Standing>
+fn at_values(
+    reading: Reading,
+    frame: bool,
+    all: usize,
+    count: usize,
+    kind: Kind,
+) -> Option<Standing>
     requires { count + 1 < 2 ^ 64 }
-    ensures { result ≡ at_values reading frame all count kind }
+    ensures { result ≡ at_values reading frame all count (number_of kind) }
 {
-    if kind == Kind::LOOP_END {
+    if matches!(kind, Kind::LoopEnd) {
         if count.is_multiple_of(all) {
             return end_loop(reading, frame, count);
         }
         return None;
     }
-    is_value(kind).then_some(Standing {
+    is_value(kind.number()).then_some(Standing {
         frame,
         place: Where::Values {
             all,
@@ -172,14 +178,14 @@ fn at_values(reading: Reading, frame: bool, all: usize, count: usize, kind: u8) 
 impl Standing {
     // Where a record of a kind, with its number of tags, leads; or that it may not stand here.
     #[tactic(auto, unfolding(crate::specs::Nesting::standing))]
-    fn after(self, reading: Reading, kind: u8, tags: usize) -> Option<Standing>
+    fn after(self, reading: Reading, kind: Kind, tags: usize) -> Option<Standing>
         requires { counted self.place + 1 < 2 ^ 64 }
-        ensures { result ≡ standing reading self.frame self.place kind tags }
+        ensures { result ≡ standing reading self.frame self.place (number_of kind) tags }
     {
         let frame = self.frame;
         match self.place {
             Where::Start => {
-                if kind != Kind::BLOCK {
+                if !matches!(kind, Kind::Block) {
                     return None;
                 }
                 to_items(frame)
@@ -188,7 +194,7 @@ impl Standing {
             Where::Names { all, left } => at_names(frame, all, left, kind),
             Where::Values { all, count } => at_values(reading, frame, all, count, kind),
             Where::Wants => {
-                if !is_value(kind) {
+                if !is_value(kind.number()) {
                     return None;
                 }
                 to_items(frame)
@@ -219,7 +225,7 @@ pub fn is_nested(reading: Reading, store: &[u8]) -> bool
         let Some(Entry { kind, fields, next }) = entries::read_record(store, at) else {
             return false;
         };
-        let Some(then) = here.after(reading, kind.number(), fields.number as usize) else {
+        let Some(then) = here.after(reading, kind, fields.number as usize) else {
             return false;
         };
         here = then;

@@ -21,12 +21,10 @@ fn put_digits(out: &mut [u8], at: usize, count: usize, n: u64) -> usize
     requires { at + count ≤ length out.old }
     ensures { Wrote at (padded count n) out.old out.new result }
 {
-    let mut left = count;
     let mut rest = n;
-    while 0 < left {
-        left -= 1;
+    for left in (0..count).rev() {
         out[at + left] = b'0' + (rest % 10) as u8;
-        rest = rest / 10;
+        rest /= 10;
     }
     at + count
 }
@@ -36,13 +34,10 @@ fn digit_count(n: u32) -> usize
     requires { n < 10 ^ 9 }
     ensures { result ≡ length (plain n) }
 {
-    let mut rest = n;
-    let mut count = 1;
-    while 10 <= rest {
-        rest = rest / 10;
-        count += 1;
+    match n.checked_ilog10() {
+        Some(power) => power as usize + 1,
+        None => 1,
     }
-    count
 }
 
 // A number without leading zeros.

@@ -1,18 +1,22 @@
 -- Laws of line feeds: where no CR stands, lines are counted by their LF, and the last one begins behind the last of them. Assumes nothing.
-use Prim.Native.Nat.{ℕ, zero, suc, ◌+◌, ◌-◌, ◌≤◌, ◌<◌}
+use Prim.Native.Nat.{ℕ, zero, suc, ◌+◌, ◌-◌, ◌*◌, ◌≤◌, ◌<◌}
 use mathlib.Core.Path.{◌≡◌, refl, sym, ap, ◌∙◌}
 use mathlib.Core.Bool.{Bool, true, false, cond, not, ◌&&◌, and-false}
-use mathlib.Core.List.{List}
+use mathlib.Core.List.{List, [], ◌∷◌}
 use native.Mathlib.Numerals.{add-one}
-use native.Mathlib.Nat.{add-suc, add-zero}
+use native.Mathlib.Nat.{add-suc, add-zero, zero-add, zero-mul}
 use native.Mathlib.Omega.{arith}
 use borrow.Author.Tests.{ne_eqb}
-use lib.Dec.{eqb}
-use lib.ListN.{length, get_or}
+use lib.Dec.{eqb, leb, leb-zero, leb-suc-suc}
+use lib.ListN.{length, get_or, take, drop, length-take, length-drop}
+use lib.Seq.{drop-drop}
+use Rattle.std.specs.Simd.{first_chunks}
 use Rattle.places.specs.declared.Place.{Place}
 use Rattle.places.specs.declared.Scan.{Scan}
 use Rattle.text.specs.Bytes.{is_eol}
-use Rattle.text.specs.Runs.{runs}
+use Rattle.text.specs.Runs.{span, runs}
+use Rattle.text.specs.Parts.{part}
+use Rattle.text.proofs.Parts.{part-at}
 use Rattle.places.specs.Lines.{feed, feeds, no_carriage, feeds_or, last_start}
 use Rattle.places.specs.Places.{step, scan_at, place_at, closes, Whole, IsPlace}
 use Rattle.text.proofs.Bools.{and_l, and_r}
@@ -110,55 +114,88 @@ other-told other n count s o e h d = by (runs no_carriage n s o) refl e
     by true q e = absurd (omega (arith, feeds-le n s o))
     by false q e = q
 
--- from o to here no CR stands, and count bytes are LF
-pub record Counted (s : List ℕ) (o at count : ℕ) : Type 0 where
-  pub goes : o ≤ at
-  pub free : runs no_carriage (at - o) s o ≡ true
-  pub sum : count ≡ feeds (at - o) s o
+-- up to here no CR stands, and count bytes are LF
+pub record Counted (s : List ℕ) (at count : ℕ) : Type 0 where
+  pub free : runs no_carriage at s 0 ≡ true
+  pub sum : count ≡ feeds at s 0
 
-pub counted_start : (s : List ℕ) (o : ℕ) → Counted s o o 0
-counted_start s o =
-    let z : o - o ≡ 0 = omega arith in
-    record { goes = omega arith; free = rw z (runs_none no_carriage s o); sum = rw z (sym (feeds-none s o)) }
+pub counted_start : (s : List ℕ) → Counted s 0 0
+counted_start s = record { free = runs_none no_carriage s 0; sum = sym (feeds-none s 0) }
 
-module _ (s : List ℕ) (o at count : ℕ) (c : Counted s o at count) where
-  pub counted-le : count ≤ at - o
-  counted-le = omega (arith, c.sum, feeds-le (at - o) s o)
+module _ (s : List ℕ) (at count : ℕ) (c : Counted s at count) where
+  pub counted-le : count ≤ at
+  counted-le = omega (arith, c.sum, feeds-le at s 0)
 
-  pub counted-block : (n r : ℕ) → Free s at n r → Counted s o (at + n) (count + r)
+  pub counted-block : (n r : ℕ) → Free s at n r → Counted s (at + n) (count + r)
   counted-block n r f =
-      let g : o ≤ at = c.goes in
-      let k : at + n - o ≡ at - o + n = omega arith in
-      let j : o + (at - o) ≡ at = omega arith in
       record {
-        goes = omega arith;
-        free = rw k (runs-join no_carriage s o (at - o) n c.free ∙ rw j f.free);
-        sum = rw (k, feeds-join (at - o) n s o, j, ← f.sum, ← c.sum);
+        free = runs-join no_carriage s 0 at n c.free ∙ rw (zero-add at) f.free;
+        sum = rw (feeds-join at n s 0, zero-add at, ← f.sum, ← c.sum);
       }
 
-  pub counted-byte : at < length s → ¬ (get_or s at 0 ≡ 13) → Counted s o (at + 1) (count + feed (get_or s at 0))
+  pub counted-byte : at < length s → ¬ (get_or s at 0 ≡ 13) → Counted s (at + 1) (count + feed (get_or s at 0))
   counted-byte h d =
-      let g : o ≤ at = c.goes in
-      let k : at + 1 - o ≡ at - o + 1 = omega arith in
-      let j : o + (at - o) ≡ at = omega arith in
       record {
-        goes = omega arith;
-        free = rw (k, runs-more no_carriage s o (at - o) (omega arith), j, c.free, no-carriage (get_or s at 0) d);
-        sum = rw (k, feeds-more (at - o) s o, j, ← c.sum);
+        free = rw (runs-more no_carriage s 0 at (omega arith), zero-add at, c.free, no-carriage (get_or s at 0) d);
+        sum = rw (feeds-more at s 0, zero-add at, ← c.sum);
       }
 
   -- a CR further on
-  pub counted-other : (n to other : ℕ) → runs no_carriage n s at ≡ false → at + n ≤ to → other ≡ feeds_or other (to - o) s o
-  counted-other n to other e h =
-      let g : o ≤ at = c.goes in
-      let j : o + (at - o) ≡ at = omega arith in
-      feeds-other other (to - o) s o (runs-less no_carriage s o (at - o + n) (to - o) (omega arith) (runs-join no_carriage s o (at - o) n c.free ∙ rw j e))
+  pub counted-other : (n to other : ℕ) → runs no_carriage n s at ≡ false → at + n ≤ to → other ≡ feeds_or other to s 0
+  counted-other n to other e h = feeds-other other to s 0 (runs-less no_carriage s 0 (at + n) to h (runs-join no_carriage s 0 at n c.free ∙ rw (zero-add at) e))
 
-  pub counted-carriage : (to other : ℕ) → at < to → to ≤ length s → get_or s at 0 ≡ 13 → other ≡ feeds_or other (to - o) s o
+  pub counted-carriage : (to other : ℕ) → at < to → to ≤ length s → get_or s at 0 ≡ 13 → other ≡ feeds_or other to s 0
   counted-carriage to other h w e = counted-other 1 to other (runs-stop no_carriage s at (omega arith) (carriage (get_or s at 0) e)) (omega arith)
 
-  pub counted-end : (to other : ℕ) → at ≡ to → count ≡ feeds_or other (to - o) s o
-  counted-end to other e = c.sum ∙ rw e (feeds-or other (to - o) s o (rw (← e) c.free))
+  pub counted-end : (to other : ℕ) → at ≡ to → count ≡ feeds_or other to s 0
+  counted-end to other e = c.sum ∙ rw e (feeds-or other to s 0 (rw (← e) c.free))
+
+-- A part by itself
+
+module _ (s : List ℕ) (a : ℕ) where
+  byte-part : (m k : ℕ) → k < m → get_or (take m (drop a s)) k 0 ≡ get_or s (a + k) 0
+  unfolding part
+  byte-part m k h = part-at s a m k h
+
+  feeds-part : (n m : ℕ) → n ≤ m → feeds n (take m (drop a s)) 0 ≡ feeds n s a
+  unfolding feeds
+  feeds-part zero m h = refl
+  feeds-part (suc n) m h = rw (zero-add n, byte-part m n (omega arith)) (ap (λ (k : ℕ). k + feed (get_or s (a + n) 0)) (feeds-part n m (omega arith)))
+
+span-take : (p : ℕ → Bool) (n : ℕ) (l : List ℕ) → leb n (span p (take n l)) ≡ leb n (span p l)
+unfolding span
+span-take p zero l = leb-zero (span p (take 0 l)) ∙ sym (leb-zero (span p l))
+span-take p (suc n) [] = refl
+span-take p (suc n) (b ∷ l) = by (p b) (span-take p n l)
+  where
+    by : (t : Bool) → leb n (span p (take n l)) ≡ leb n (span p l) → leb (suc n) (cond t (suc (span p (take n l))) 0) ≡ leb (suc n) (cond t (suc (span p l)) 0)
+    by true e = rw (leb-suc-suc, leb-suc-suc) e
+    by false e = refl
+
+runs-part : (p : ℕ → Bool) (n : ℕ) (s : List ℕ) (a : ℕ) → runs p n (take n (drop a s)) 0 ≡ runs p n s a
+unfolding runs
+runs-part p n s a = span-take p n (drop a s)
+
+feeds_or-part : (other n : ℕ) (s : List ℕ) (a : ℕ) → feeds_or other n (take n (drop a s)) 0 ≡ feeds_or other n s a
+unfolding feeds_or
+feeds_or-part other n s a = rw (runs-part no_carriage n s a, feeds-part s a n n (omega arith))
+
+-- what an answer says of a part that is lent by itself
+pub part-feeds : (s : List ℕ) (a to r : ℕ) → a ≤ to → to ≤ length s → (let p = take (to - a) (drop a s) in r ≡ feeds_or (length p + 1) (length p) p 0) → r ≡ feeds_or (to - a + 1) (to - a) s a
+part-feeds s a to r h w e =
+    let size : length (take (to - a) (drop a s)) ≡ to - a = omega (arith, length-take (to - a) (drop a s), length-drop a s) in
+    rw size at e ∙ feeds_or-part (to - a + 1) (to - a) s a
+
+chunk-at : (n k i : ℕ) (s : List ℕ) → i < k → get_or (first_chunks n k s) i [] ≡ take n (drop (i * n) s)
+chunk-at n zero i s h = absurd (omega arith)
+chunk-at n (suc k) zero s h = rw zero-mul
+chunk-at n (suc k) (suc i) s h =
+    let e : n + i * n ≡ suc i * n = omega arith in
+    chunk-at n k i (drop n s) (omega arith) ∙ rw (drop-drop, e)
+
+-- what an answer says of one of the blocks that a part is cut into
+pub block-feeds : (s : List ℕ) (m k r : ℕ) (bs : List (List ℕ)) → bs ≡ first_chunks 32 m s → k < m → r ≡ feeds_or 255 32 (get_or bs k []) 0 → r ≡ feeds_or 255 32 s (k * 32)
+block-feeds s m k r bs e h g = g ∙ rw (e, chunk-at 32 m k s h) (feeds_or-part 255 32 s (k * 32))
 
 -- Where the last line begins
 

@@ -182,14 +182,13 @@ fn feed(b: u8) -> u8
 // The answer of a block that holds a CR.
 const HAS_RETURN: u8 = 255;
 
-// How many of the 32 bytes at an offset are LF, or `HAS_RETURN`; every byte is looked at here too.
-fn feeds_in_block(s: &[u8], at: usize) -> u8
-    requires { at + 32 ≤ length s.now }
-    ensures { result ≡ feeds_or 255 32 s.now at }
+// How many of a block's bytes are LF, or `HAS_RETURN`; every byte is looked at here too.
+fn feeds_in_block(block: &[u8; 32]) -> u8
+    ensures { result ≡ feeds_or 255 32 block.now 0 }
 {
     let mut carriage = false;
     let mut count: u8 = 0;
-    for b in text::part(s, at, 32) {
+    for b in block {
         carriage |= *b == b'\r';
         count += feed(*b);
     }
@@ -197,27 +196,23 @@ fn feeds_in_block(s: &[u8], at: usize) -> u8
 }
 
 // How many bytes of a part are LF, or one more than it has bytes where one is CR.
-fn line_feeds(s: &[u8], from: usize, to: usize) -> usize
-    requires { (from ≤ to) × (to ≤ length s.now) }
-    ensures { result ≡ feeds_or (to - from + 1) (to - from) s.now from }
+fn line_feeds(part: &[u8]) -> usize
+    ensures { result ≡ feeds_or (length part.now + 1) (length part.now) part.now 0 }
 {
+    let (blocks, rest) = part.as_chunks::<32>();
     let mut count: usize = 0;
-    let mut at = from;
-    while 32 <= to - at {
-        let feeds = feeds_in_block(s, at);
+    for block in blocks {
+        let feeds = feeds_in_block(block);
         if feeds == HAS_RETURN {
-            return to - from + 1;
+            return part.len() + 1;
         }
         count += feeds as usize;
-        at += 32;
     }
-    while at < to {
-        let b = s[at];
-        if b == b'\r' {
-            return to - from + 1;
+    for b in rest {
+        if *b == b'\r' {
+            return part.len() + 1;
         }
-        count += feed(b) as usize;
-        at += 1;
+        count += feed(*b) as usize;
     }
     count
 }
@@ -242,7 +237,7 @@ pub fn advance(s: &[u8], p: Place, to: usize) -> Place
     ensures { result ≡ place_at s.now to }
 {
     let from = p.offset;
-    let feeds = line_feeds(s, from, to);
+    let feeds = line_feeds(&s[from..to]);
     if to - from < feeds {
         return advance_by_line(s, p, to);
     }

@@ -1,5 +1,5 @@
 -- How a record's line is written: what opens its token, stands in it and closes it, and its length. Assumes nothing.
-use Rattle.std.specs.Prelude.{ℕ, ◌+◌, ◌-◌, Bool, true, false, cond, ◌&&◌, List, [], ◌∷◌, ◌++◌, leb, length}
+use Rattle.std.specs.Prelude.{ℕ, ◌+◌, Bool, true, false, cond, ◌&&◌, List, [], ◌∷◌, ◌++◌, length}
 use Rattle.rules.specs.declared.Reading.{Reading}
 use Rattle.keywords.specs.Keywords.{key_data, key_loop, key_save}
 use Rattle.numbers.specs.Spelling.{render_number}
@@ -13,10 +13,6 @@ use Rattle.kinds.specs.Kinds.{shape_of, is_content}
 use Rattle.readable.specs.Tokens.{mark, is_led}
 use Rattle.contents.specs.Contents.{content_bytes, parts_kept, is_inside}
 use Rattle.record_lines.specs.Lines.{decimal_of}
-
--- the size of an exponent that is kept in two's complement
-unfoldable pub size_of : ℕ → ℕ
-size_of e = cond (leb 2147483648 e) (4294967296 - e) e
 
 -- the one byte that opens a token; 0 where none does
 unfoldable pub mark_of : Kind → ℕ

@@ -6,7 +6,7 @@ ghost use Rattle.entries.specs.Entries.{whole};
 ghost use Rattle.readable.specs.Tokens.{mark};
 ghost use Rattle.contents.specs.Contents.{content_bytes, own_rule};
 ghost use Rattle.record_lines.specs.Lines.{decimal_of, is_end, plain_line, line_of};
-ghost use Rattle.record_lines.specs.Writing.{size_of, mark_of, opening_text, body_text, closing_text};
+ghost use Rattle.record_lines.specs.Writing.{mark_of, opening_text, body_text, closing_text};
 ghost use Rattle.record_lines.specs.Writing.{keeps_digits, is_writable, plain_length, line_length};
 ghost use Rattle.numerals.specs.Written.{Wrote};
 
@@ -15,29 +15,16 @@ use kinds::{Kind, Shape};
 use numbers::Decimal;
 use rules::Reading;
 
-// A part of a source.
+// A part of a source; an empty one may start behind the source's end.
 fn put_part(out: &mut [u8], at: usize, source: &[u8], from: usize, size: usize) -> usize
     requires { (at + size ≤ length out.old) × (size ≤ length source.now - from) }
     ensures { Wrote at (take size (drop from source.now)) out.old out.new result }
 {
-    let mut i = 0;
-    while i < size {
-        out[at + i] = source[from + i];
-        i += 1;
+    let end = at + size;
+    if 0 < size {
+        out[at..end].copy_from_slice(&source[from..from + size]);
     }
-    at + size
-}
-
-// The size of an exponent that is kept in two's complement.
-#[tactic(auto, unfolding(crate::specs::Writing::size_of))]
-fn size_of(exponent: u32) -> u32
-    ensures { result ≡ size_of exponent }
-{
-    if 2147483648 <= exponent {
-        4294967295 - exponent + 1
-    } else {
-        exponent
-    }
+    end
 }
 
 // The decimal that stored parts stand for.
@@ -53,7 +40,7 @@ fn decimal_of(uncertain: bool, parts: Parts) -> Decimal
         fraction: parts.fraction,
         places: places as usize,
         lowers: 2147483648 <= exponent,
-        exponent: size_of(exponent),
+        exponent: entries::exponent_size(exponent),
         uncertain,
         uncertainty: parts.uncertainty,
     }

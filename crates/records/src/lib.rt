@@ -11,7 +11,7 @@ use kinds::Kind;
 use numbers::Decimal;
 
 // Where a token lies: document 01's P.
-#[derive(Clone, Copy)]
+#[derive(Clone, Copy, Default)]
 pub struct Token {
     pub offset: u32,
     pub length: u32,

@@ -25,7 +25,7 @@ returns-in_default-after c =
     let now = c.loop-at in
     let r = c.in-Some.field-0 in
     let e : entry_at st now.at ≡ whole r.kind r.fields r.next = sym c.read_record.ensures ∙ c.in-Some.is in
-    let s : standing c.args.reading now.here.frame now.here.place (number_of r.kind) r.fields.number ≡ None = rw (← c.number.ensures) (sym c.after.ensures ∙ c.in_default-after.is) in
+    let s : standing c.args.reading now.here.frame now.here.place (number_of r.kind) r.fields.number ≡ None = sym c.after.ensures ∙ c.in_default-after.is in
     sym (now.invariant.2 ∙ nest-falls _ st now.at now.here.frame now.here.place _ _ _ c.loop-at-test.true e s)
 
 pub loop-at-smaller : goal.loop-at-smaller
@@ -43,7 +43,7 @@ loop-at-preserved c =
     let then = c.in-Some-after.then in
     let inside : now.at < length st = omega arith in
     let e : entry_at st now.at ≡ whole r.kind r.fields r.next = sym c.read_record.ensures ∙ c.in-Some.is in
-    let s : standing c.args.reading now.here.frame now.here.place (number_of r.kind) r.fields.number ≡ stands then.frame then.place = rw (← c.number.ensures) (sym c.after.ensures ∙ c.in-Some-after.is) in
+    let s : standing c.args.reading now.here.frame now.here.place (number_of r.kind) r.fields.number ≡ stands then.frame then.place = sym c.after.ensures ∙ c.in-Some-after.is in
     let far = next-at st now.at _ _ _ inside e in
     let more = counted-one _ _ now.here.place _ _ _ then.place s in
     (far.within, omega (arith, more, now.invariant.1, far.onwards), now.invariant.2 ∙ nest-stands _ st now.at now.here.frame now.here.place _ _ _ inside e _ _ s)

@@ -2,23 +2,8 @@
 use Prim.Native.Nat.{◌+◌, ◌-◌}
 use native.Mathlib.Omega.{arith}
 use Rattle.places.proofs.Places.{place-line, place-column}
-use Rattle.places.proofs.Feeds.{Free, feeds-told, last_within, place_same, place-later}
+use Rattle.places.proofs.Feeds.{Free, feeds-told, part-feeds, last_within, place_same, place-later}
 use Rattle.places.proofs.advance.Goals as goal
-
-pub line_feeds-feeds-requires : goal.line_feeds-feeds-requires
-line_feeds-feeds-requires c = (c.requires.1, c.requires.2)
-
-pub overflow_sub-to : goal.overflow_sub-to
-overflow_sub-to c = omega arith
-
-pub advance_by_line-requires : goal.advance_by_line-requires
-advance_by_line-requires c = c.requires
-
-pub returns-then-to-from : goal.returns-then-to-from
-returns-then-to-from c = c.advance_by_line.ensures
-
-pub overflow_sub-result : goal.overflow_sub-result
-overflow_sub-result c = omega arith
 
 pub overflow_add-result : goal.overflow_add-result
 overflow_add-result c =
@@ -31,11 +16,8 @@ returns-then-feeds-eq0 c =
     let a = c.args in
     let i = c.requires in
     let n = c.line_feeds-feeds in
-    let f : Free a.s.now a.p.offset (a.to - a.p.offset) n.result = feeds-told (a.to - a.p.offset + 1) _ _ _ _ n.ensures (omega arith) in
+    let f : Free a.s.now a.p.offset (a.to - a.p.offset) n.result = feeds-told (a.to - a.p.offset + 1) _ _ _ _ (part-feeds a.s.now a.p.offset a.to _ i.1 i.2 n.ensures) (omega arith) in
     place_same a.s.now a.p a.to _ i.0 i.1 i.2 f c.if-feeds-eq0.true
-
-pub last_start-start-requires : goal.last_start-start-requires
-last_start-start-requires c = (c.requires.1, c.requires.2)
 
 pub overflow_add-result-2 : goal.overflow_add-result-2
 overflow_add-result-2 c =
@@ -48,13 +30,10 @@ overflow_sub-result-2 c =
     let a = c.args in
     omega (arith, c.last_start-start.ensures, last_within (a.to - a.p.offset) a.s.now a.p.offset)
 
-pub overflow_add-result-3 : goal.overflow_add-result-3
-overflow_add-result-3 c = omega arith
-
 pub returns : goal.returns
 returns c =
     let a = c.args in
     let i = c.requires in
     let n = c.line_feeds-feeds in
-    let f : Free a.s.now a.p.offset (a.to - a.p.offset) n.result = feeds-told (a.to - a.p.offset + 1) _ _ _ _ n.ensures (omega arith) in
+    let f : Free a.s.now a.p.offset (a.to - a.p.offset) n.result = feeds-told (a.to - a.p.offset + 1) _ _ _ _ (part-feeds a.s.now a.p.offset a.to _ i.1 i.2 n.ensures) (omega arith) in
     rw c.last_start-start.ensures (place-later a.s.now a.p a.to _ i.0 i.1 i.2 f (omega arith))

@@ -5,4 +5,4 @@ use Rattle.text.specs.Runs.{runs}
 use Rattle.places.proofs.feeds_in_block.Given as goal
 
 abbrev pub invariant-loop-b : goal.invariant-loop-b
-invariant-loop-b l = (l.carriage ≡ not (runs no_carriage l.b-index l.s l.at)) × (l.count ≡ feeds l.b-index l.s l.at)
+invariant-loop-b l = (l.carriage ≡ not (runs no_carriage l.b-index l.block 0)) × (l.count ≡ feeds l.b-index l.block 0)

@@ -1,95 +1,67 @@
 -- `places::line_feeds`: by blocks, then byte by byte. Assumes nothing.
 use mathlib.Core.Path.{◌≡◌}
 use mathlib.Core.Bool.{false}
+use Prim.Native.Nat.{◌+◌, ◌*◌, ◌/◌}
 use native.Mathlib.Omega.{arith}
-use lib.ListN.{get_or}
+use lib.ListN.{length, get_or}
+use lib.Seq.{get_or-drop}
 use Rattle.places.specs.Lines.{no_carriage}
 use Rattle.text.specs.Runs.{runs}
-use Rattle.places.proofs.Feeds.{Free, feed-le, feeds-le, feeds-told, other-told, counted_start, counted-le, counted-block, counted-byte, counted-other, counted-carriage, counted-end}
+use Rattle.places.proofs.Feeds.{Free, feed-le, feeds-le, feeds-told, other-told, block-feeds, counted_start, counted-le, counted-block, counted-byte, counted-other, counted-carriage, counted-end}
 use Rattle.places.proofs.line_feeds.Goals as goal
 
-pub loop-at-init : goal.loop-at-init
-loop-at-init c = (c.requires.0, c.requires.1, counted_start _ _)
-
-pub overflow_sub-to : goal.overflow_sub-to
-overflow_sub-to c = omega arith
-
-pub feeds_in_block-feeds-requires : goal.feeds_in_block-feeds-requires
-feeds_in_block-feeds-requires c = omega arith
-
-pub overflow_sub-result : goal.overflow_sub-result
-overflow_sub-result c = omega arith
-
-pub overflow_add-result : goal.overflow_add-result
-overflow_add-result c = omega arith
+pub loop-block-init : goal.loop-block-init
+loop-block-init c = counted_start _
 
 pub returns-then-feeds : goal.returns-then-feeds
 returns-then-feeds c =
-    let l = c.loop-at in
-    let a = c.args in
-    let met : runs no_carriage 32 a.s.now l.at ≡ false = other-told 255 32 _ _ _ c.feeds_in_block-feeds.ensures (omega arith) c.if-feeds.true in
-    counted-other _ _ l.at l.count l.invariant.2 32 a.to _ met (omega arith)
-
-pub overflow_cast-count : goal.overflow_cast-count
-overflow_cast-count c = omega arith
+    let l = c.loop-block in
+    let s = c.args.part.now in
+    let told = block-feeds s _ l.block-index _ _ c.as_chunks.ensures.front (omega (arith, c.as_chunks.ensures.front_len)) c.feeds_in_block-feeds.ensures in
+    let met : runs no_carriage 32 s (l.block-index * 32) ≡ false = other-told 255 32 _ _ _ told (omega arith) c.if-feeds.true in
+    counted-other s _ l.count l.invariant 32 (length s) _ met (omega (arith, c.as_chunks.ensures.front_len))
 
 pub overflow_add-count : goal.overflow_add-count
 overflow_add-count c =
-    let l = c.loop-at in
-    let a = c.args in
-    let f : Free a.s.now l.at 32 c.feeds_in_block-feeds.result = feeds-told 255 32 _ _ _ c.feeds_in_block-feeds.ensures c.if-feeds.false in
-    omega (arith, counted-le _ _ _ _ l.invariant.2, f.sum, feeds-le 32 a.s.now l.at)
+    let l = c.loop-block in
+    let s = c.args.part.now in
+    let told = block-feeds s _ l.block-index _ _ c.as_chunks.ensures.front (omega (arith, c.as_chunks.ensures.front_len)) c.feeds_in_block-feeds.ensures in
+    let f : Free s (l.block-index * 32) 32 c.feeds_in_block-feeds.result = feeds-told 255 32 _ _ _ told c.if-feeds.false in
+    omega (arith, c.as_chunks.ensures.front_len, counted-le s _ _ l.invariant, f.sum, feeds-le 32 s (l.block-index * 32))
 
-pub overflow_add-at : goal.overflow_add-at
-overflow_add-at c = omega arith
-
-pub loop-at-smaller : goal.loop-at-smaller
-loop-at-smaller c = omega arith
-
-pub loop-at-preserved : goal.loop-at-preserved
-loop-at-preserved c =
-    let l = c.loop-at in
-    let a = c.args in
-    let f : Free a.s.now l.at 32 c.feeds_in_block-feeds.result = feeds-told 255 32 _ _ _ c.feeds_in_block-feeds.ensures c.if-feeds.false in
-    (omega arith, l.invariant.1, counted-block _ _ _ _ l.invariant.2 32 _ f)
-
-pub loop-at-2-init : goal.loop-at-2-init
-loop-at-2-init c = c.loop-at.invariant
-
-pub bounds-s-at : goal.bounds-s-at
-bounds-s-at c = omega arith
-
-pub overflow_sub-result-then-b-eq13 : goal.overflow_sub-result-then-b-eq13
-overflow_sub-result-then-b-eq13 c = omega arith
-
-pub overflow_add-result-then-b-eq13 : goal.overflow_add-result-then-b-eq13
-overflow_add-result-then-b-eq13 c = omega arith
+pub loop-block-preserved : goal.loop-block-preserved
+loop-block-preserved c =
+    let l = c.loop-block in
+    let s = c.args.part.now in
+    let told = block-feeds s _ l.block-index _ _ c.as_chunks.ensures.front (omega (arith, c.as_chunks.ensures.front_len)) c.feeds_in_block-feeds.ensures in
+    let f : Free s (l.block-index * 32) 32 c.feeds_in_block-feeds.result = feeds-told 255 32 _ _ _ told c.if-feeds.false in
+    let k : (l.block-index + 1) * 32 ≡ l.block-index * 32 + 32 = omega arith in
+    rw k (counted-block s _ _ l.invariant 32 _ f)
 
 pub returns-then-b-eq13 : goal.returns-then-b-eq13
 returns-then-b-eq13 c =
-    let l = c.loop-at-2 in
-    counted-carriage _ _ l.at l.count l.invariant.2 _ _ c.loop-at-2-test.true l.invariant.1 c.if-b-eq13.true
+    let l = c.loop-b in
+    let s = c.args.part.now in
+    let at = length s / 32 * 32 in
+    let b : get_or c.as_chunks.result.1.now l.b-index 0 ≡ get_or s (at + l.b-index) 0 = rw c.as_chunks.ensures.back (get_or-drop at s l.b-index 0) in
+    counted-carriage s _ l.count l.invariant (length s) _ (omega (arith, c.as_chunks.ensures.back_len)) (omega arith) (rw b at c.if-b-eq13.true)
 
-pub overflow_cast-count-in-loop-at-2 : goal.overflow_cast-count-in-loop-at-2
-overflow_cast-count-in-loop-at-2 c = omega arith
+pub overflow_add-count-in-loop-b : goal.overflow_add-count-in-loop-b
+overflow_add-count-in-loop-b c =
+    let l = c.loop-b in
+    let s = c.args.part.now in
+    omega (arith, c.as_chunks.ensures.back_len, counted-le s _ _ l.invariant, c.feed.ensures, feed-le (get_or c.as_chunks.result.1.now l.b-index 0))
 
-pub overflow_add-count-in-loop-at-2 : goal.overflow_add-count-in-loop-at-2
-overflow_add-count-in-loop-at-2 c =
-    let l = c.loop-at-2 in
-    let a = c.args in
-    omega (arith, counted-le _ _ _ _ l.invariant.2, c.feed.ensures, feed-le (get_or a.s.now l.at 0))
-
-pub overflow_add-at-in-loop-at-2 : goal.overflow_add-at-in-loop-at-2
-overflow_add-at-in-loop-at-2 c = omega arith
-
-pub loop-at-2-smaller : goal.loop-at-2-smaller
-loop-at-2-smaller c = omega arith
-
-pub loop-at-2-preserved : goal.loop-at-2-preserved
-loop-at-2-preserved c =
-    let l = c.loop-at-2 in
-    let a = c.args in
-    (omega arith, l.invariant.1, rw c.feed.ensures (counted-byte a.s.now a.from l.at l.count l.invariant.2 (omega arith) c.if-b-eq13.false))
+pub loop-b-preserved : goal.loop-b-preserved
+loop-b-preserved c =
+    let l = c.loop-b in
+    let s = c.args.part.now in
+    let at = length s / 32 * 32 in
+    let b : get_or c.as_chunks.result.1.now l.b-index 0 ≡ get_or s (at + l.b-index) 0 = rw c.as_chunks.ensures.back (get_or-drop at s l.b-index 0) in
+    let k : at + (l.b-index + 1) ≡ at + l.b-index + 1 = omega arith in
+    rw (k, c.feed.ensures, b) (counted-byte s _ l.count l.invariant (omega (arith, c.as_chunks.ensures.back_len)) (rw b at c.if-b-eq13.false))
 
 pub returns : goal.returns
-returns c = counted-end _ _ _ _ c.loop-at-2.invariant.2 _ _ (omega arith)
+returns c =
+    let l = c.loop-b in
+    counted-end c.args.part.now _ l.count l.invariant _ _ (omega (arith, c.as_chunks.ensures.back_len))
