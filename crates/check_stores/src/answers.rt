@@ -36,13 +36,15 @@ pub fn content<W: Write>(
 // The record at an offset: its kind, its fields, the part of the area, and where the next one starts.
 pub fn walked<W: Write>(out: &mut W, pair: Pair<'_>, at: usize) -> io::Result<()> {
     match stores::record_at(pair.store, pair.area, at) {
-        Some(Walked {
-            number,
-            fields,
-            from,
-            size,
-            next,
-        }) => {
+        Some(
+            Walked {
+                number,
+                fields,
+                from,
+                size,
+                next,
+            },
+        ) => {
             write!(out, " -> {number}{} ", Numbers(fields))?;
             write!(out, "{from} {size} {next}")
         }
@@ -61,7 +63,12 @@ pub fn rendered<W: Write>(
     size: usize,
 ) -> io::Result<()> {
     let mut text = [BEFORE; 512];
-    let answer = rendering::report(rendering::render(reading, pair.store, pair.area, room(&mut text, size)));
+    let answer = rendering::report(rendering::render(
+        reading,
+        pair.store,
+        pair.area,
+        room(&mut text, size),
+    ));
     let length = counted(answer, answer.first);
     write!(out, " ->{}", Answer(answer))?;
     if !is_all(&text, length, BEFORE) {

@@ -46,9 +46,14 @@ fn walks(pair: Pair<'_>) -> bool {
         if at == pair.store.len() {
             return filled == pair.area.len();
         }
-        let Some(Walked {
-            from, size, next, ..
-        }) = stores::record_at(pair.store, pair.area, at)
+        let Some(
+            Walked {
+                from,
+                size,
+                next,
+                ..
+            },
+        ) = stores::record_at(pair.store, pair.area, at)
         else {
             return false;
         };

@@ -4,7 +4,7 @@ use mathlib.Core.Path.{◌≡◌, refl, ap, ◌∙◌}
 use mathlib.Core.Bool.{Bool, true, false, cond, ◌&&◌}
 use mathlib.Core.List.{List, [], ◌∷◌}
 use native.Mathlib.Omega.{arith}
-use borrow.Author.Tests.{leb-true}
+use borrow.Author.Tests.{leb-true, leb-false}
 use lib.Dec.{leb}
 use lib.ListN.{length, drop, length-drop, drop_of_length-le}
 use lib.Seq.{drop-drop}
@@ -15,7 +15,7 @@ use Rattle.entries.specs.declared.Entry.{Entry}
 use Rattle.kinds.specs.Kinds.{kind_of, shape_of, body_length}
 use Rattle.entries.specs.Entries.{is_kind, fields_of, entry_of, entry_at, whole}
 use Rattle.entries.specs.Walk.{onward, entries_from, entries}
-use Rattle.std.specs.Prelude.{Option, None}
+use Rattle.std.specs.Prelude.{Option, Some, None}
 use Rattle.entries.proofs.Wholes.{one}
 
 -- the entries from an offset on
@@ -120,3 +120,15 @@ module _ (st : List ℕ) (at : ℕ) where
         onwards = fr.onwards;
         within = omega (arith, fr.within, length-drop at st);
       }
+
+-- where a record stands, the store goes on
+pub some-within : (st : List ℕ) (at : ℕ) (e : Entry) → entry_at st at ≡ Some e → at < length st
+unfolding entry_at entry_of
+some-within st at e q = by (leb (length st) at) refl
+  where
+    by : (t : Bool) → leb (length st) at ≡ t → at < length st
+    by true o =
+        let none : drop at st ≡ [] = drop_of_length-le st (leb-true (length st) at o) in
+        let z : None ≡ Some e = rw none at q in
+        cc
+    by false o = leb-false (length st) at o

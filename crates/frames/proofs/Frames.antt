@@ -14,7 +14,7 @@ use Rattle.entries.specs.declared.Entry.{Entry}
 use Rattle.entries.specs.Entries.{entry_at}
 use Rattle.entries.proofs.Walking.{rest, rest-is, rest_all, rest_over, rest-none, next-at, entries-first}
 use Rattle.steps.specs.Steps.{held_by, held_at}
-use Rattle.steps.proofs.Steps.{some-within}
+use Rattle.entries.proofs.Walking.{some-within}
 use Rattle.naming.specs.Names.{repeat_from, first_repeat, naming_of}
 use Rattle.naming.specs.Search.{Tells, Follows}
 use Rattle.frames.specs.declared.Mark.{Mark}

@@ -13,6 +13,11 @@ use Rattle.cuts.specs.Digits.{value, value_from}
 use Rattle.numbers.specs.Spelling.{padded, trim, plain}
 use Rattle.numbers.proofs.Spelled.{value-padded, length-padded, length-trim}
 
+-- a number's digits are the last nine, less the zeros before them
+pub plain-digits : (n : ℕ) → plain n ≡ trim (padded 9 n)
+unfolding plain
+plain-digits n = refl
+
 -- a list of zeros
 all_zero : List ℕ → Bool
 all_zero [] = true

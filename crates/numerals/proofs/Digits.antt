@@ -7,7 +7,7 @@ use native.Mathlib.Nat.{add-zero, zero-add}
 use lib.ListN.{length, drop, set, drop_of_length-le}
 use Rattle.numbers.specs.Spelling.{padded, trim, plain}
 use Rattle.numbers.proofs.Spelled.{length-padded}
-use Rattle.numbers.proofs.Counting.{count-more, count-last}
+use Rattle.numbers.proofs.Counting.{plain-digits, count-more, count-last}
 use Rattle.records.specs.Put.{put}
 use Rattle.numerals.proofs.Wrote.{put-none, set_before}
 
@@ -40,8 +40,7 @@ counted (suc k) j n a b c =
     rw m (omega (arith, count-more (suc (k + j)) n (omega (arith, ten-pos k)) d, counted k j (n / 10) (omega arith) (omega arith) (omega arith)))
 
 pub counted-plain : (k n : ℕ) → k < 10 → 10 ^ k ≤ n → n < 10 * 10 ^ k → n < 10 ^ 9 → k + 1 ≡ length (plain n)
-unfolding plain
-counted-plain k n f a b c = go (9 - k) refl
+counted-plain k n f a b c = rw (plain-digits n) (go (9 - k) refl)
   where
     go : (j : ℕ) → 9 - k ≡ j → k + 1 ≡ length (trim (padded 9 n))
     go zero e =
@@ -55,5 +54,4 @@ counted-plain k n f a b c = go (9 - k) refl
 
 -- nothing has one
 pub none-plain : (n : ℕ) → n ≡ 0 → 1 ≡ length (plain n)
-unfolding plain
-none-plain n e = sym (count-last 8 n (omega arith))
+none-plain n e = rw (plain-digits n) (sym (count-last 8 n (omega arith)))

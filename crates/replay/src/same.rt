@@ -90,13 +90,15 @@ fn same_records(entry: Entry<'_>, store: &[u8], area: &[u8]) -> bool {
     let mut at = 0;
     let mut numbers = entry.numbers;
     for [told, a, b, c, d] in entry.records.as_chunks::<5>().0 {
-        let Some(Walked {
-            number: kind,
-            fields,
-            size,
-            next,
-            ..
-        }) = stores::record_at(store, area, at)
+        let Some(
+            Walked {
+                number: kind,
+                fields,
+                size,
+                next,
+                ..
+            },
+        ) = stores::record_at(store, area, at)
         else {
             return false;
         };

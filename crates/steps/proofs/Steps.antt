@@ -13,7 +13,7 @@ use Rattle.kinds.specs.Kinds.{number_of, marks_of}
 use Rattle.entries.specs.declared.Entry.{Entry}
 use Rattle.entries.specs.Entries.{entry_of, entry_at}
 use Rattle.contents.specs.Contents.{content_bytes}
-use Rattle.entries.proofs.Walking.{rest_over, rest-none, next-at}
+use Rattle.entries.proofs.Walking.{some-within, rest_over, rest-none, next-at}
 use Rattle.entries.proofs.Walking.{rest-is, entries-first}
 use Rattle.contents.proofs.Kept.{content-bytes}
 use Rattle.names.specs.declared.Named.{Named}
@@ -44,18 +44,6 @@ content-is ar e from n p q = by (leb e.fields.number (length ar)) refl
         let none : drop e.fields.number ar ≡ [] = drop_of_length-le ar (omega arith) in
         let size : from + n - from ≡ 0 = omega arith in
         rw (size, content-bytes ar e.kind e.fields, none) (sym (take-nil (e.fields.token.length - marks_of e.kind)))
-
--- where a record stands, the store goes on
-pub some-within : (st : List ℕ) (at : ℕ) (e : Entry) → entry_at st at ≡ Some e → at < length st
-unfolding entry_at entry_of
-some-within st at e q = by (leb (length st) at) refl
-  where
-    by : (t : Bool) → leb (length st) at ≡ t → at < length st
-    by true o =
-        let none : drop at st ≡ [] = drop_of_length-le st (leb-true (length st) at o) in
-        let z : None ≡ Some e = rw none at q in
-        cc
-    by false o = leb-false (length st) at o
 
 -- the walk so far: no name was met between a spot and another
 module _ (st ar : List ℕ) (from : Spot) where
