@@ -11,7 +11,7 @@
 mod lists;
 
 use harness::stores::{Buffers, Lengths};
-use harness::{input, lines as vectors};
+use harness::{input, vectors};
 use rules::Reading;
 use std::io;
 use std::io::Write;

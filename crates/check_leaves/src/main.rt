@@ -4,7 +4,7 @@
 
 mod leaves;
 
-use harness::{input, lines as vectors};
+use harness::{input, vectors};
 use std::io;
 use std::io::Write;
 

@@ -6,7 +6,7 @@
 mod shown;
 
 use harness::say::{Answer, Text};
-use harness::{input, lines as vectors, parts};
+use harness::{input, parts, vectors};
 use kinds::Kind;
 use places::Report;
 use rules::Reading;

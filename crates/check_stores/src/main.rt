@@ -16,7 +16,7 @@ mod services;
 use harness::parts::room;
 use harness::say::Answer;
 use harness::stores::{Buffers, Lengths};
-use harness::{input, lines as vectors};
+use harness::{input, vectors};
 use rules::Reading;
 use std::io;
 use std::io::Write;

@@ -1,7 +1,7 @@
 // What is read from standard input.
 ghost use Rattle.std.specs.Prelude.{◌≤◌, length, IfOk};
 
-use crate::lines::vector;
+use crate::vectors::vector;
 use std::io;
 use std::io::{Read, Write};
 

@@ -3,7 +3,7 @@
 
 pub mod fields;
 pub mod input;
-pub mod lines;
 pub mod parts;
 pub mod say;
 pub mod stores;
+pub mod vectors;

@@ -1,8 +1,8 @@
 // Stores with their areas, and the buffers that they lie in.
 ghost use Rattle.std.specs.Prelude.{◌≡◌, ◌≤◌, length};
 
-use crate::lines::text;
 use crate::parts::part;
+use crate::vectors::text;
 use places::Report;
 use rules::Reading;
 
