@@ -74,14 +74,15 @@ pub fn parse_multiline_string(s: &[u8], from: usize) -> Option<usize>
     ensures { result ≡ field_end s.now from }
 {
     let mut at = from;
-    loop {
+    let end = loop {
         at = next_semicolon(s, at);
         if s.len() <= at {
             return None;
         }
         if from < at && text::is_eol(s[at - 1]) {
-            return Some(at + 1);
+            break at;
         }
         at += 1;
-    }
+    };
+    Some(end + 1)
 }

@@ -38,7 +38,10 @@ loop-at-preserved c =
     ] in
     (omega (arith, l.invariant.0, e, span-from (clear 0 59) c.args.s.now l.at), l.invariant.1 ∙ on)
 
-pub returns-then-is_eol : goal.returns-then-is_eol
-returns-then-is_eol c =
+pub overflow_add-result : goal.overflow_add-result
+overflow_add-result c = omega arith
+
+pub returns : goal.returns
+returns c =
     let l = c.loop-at in
     sym (l.invariant.1 ∙ past-here _ _ _ _ l.invariant.0 c.next_semicolon-at.ensures c.if-s-at.false c.if-from-at.true (sym c.is_eol.ensures ∙ c.if-is_eol.true))
