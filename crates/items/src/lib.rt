@@ -78,22 +78,21 @@ fn count_values(reading: Reading, s: &[u8], from: usize) -> Result<Values, Fault
     let mut count: usize = 0;
     let mut sizes = Sizes::default();
     loop {
-        match Found::of(values::pack_value(reading, s, at)) {
-            Found::Value { kind, size } => {
-                sizes = sizes.with(kind, size);
-                count += 1;
-                at = gaps::gap_end(s, at + size);
-            }
-            Found::Over => return Err(Cause::OverLimit.at(at)),
-            Found::Missing { why } => {
-                return Ok(Values {
-                    count,
-                    next: at,
-                    sizes,
-                    why,
-                });
-            }
-        }
+        let found = Found::of(values::pack_value(reading, s, at));
+        let Found::Value { kind, size } = found else {
+            let Found::Missing { why } = found else {
+                return Err(Cause::OverLimit.at(at));
+            };
+            return Ok(Values {
+                count,
+                next: at,
+                sizes,
+                why,
+            });
+        };
+        sizes = sizes.with(kind, size);
+        count += 1;
+        at = gaps::gap_end(s, at + size);
     }
 }
 
@@ -176,17 +175,18 @@ fn parse_tag(reading: Reading, s: &[u8], at: usize) -> Result<Item, Fault>
         return Err(Cause::BadName.at(at));
     }
     let stop = gaps::gap_end(s, end);
-    match Found::of(values::pack_value(reading, s, stop)) {
-        Found::Value { kind, size } => Ok(Item::Single {
+    let found = Found::of(values::pack_value(reading, s, stop));
+    if let Found::Value { kind, size } = found {
+        return Ok(Item::Single {
             next: gaps::gap_end(s, stop + size),
             sizes: Sizes::default().with(Kind::TAG, end - at).with(kind, size),
-        }),
-        Found::Over => Err(Cause::OverLimit.at(stop)),
-        Found::Missing { why } => {
-            let reason = why.number();
-            failed(reading, Cause::NoValue { reason }.at(at), stop, why)
-        }
+        });
     }
+    let Found::Missing { why } = found else {
+        return Err(Cause::OverLimit.at(stop));
+    };
+    let reason = why.number();
+    failed(reading, Cause::NoValue { reason }.at(at), stop, why)
 }
 
 // The item at an offset where no space or comment stands, or what ends the whole reading there; most are tags.

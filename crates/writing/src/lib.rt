@@ -43,10 +43,10 @@ fn stop_in_frame(reading: Reading, s: &[u8], at: usize) -> Option<usize>
         return decide_stop(reading, s, at);
     }
     let stop = gaps::gap_end(s, end);
-    match Found::of(values::pack_value(reading, s, stop)) {
-        Found::Value { .. } => None,
-        _ => decide_stop(reading, s, at),
-    }
+    let Found::Value { .. } = Found::of(values::pack_value(reading, s, stop)) else {
+        return decide_stop(reading, s, at);
+    };
+    None
 }
 
 // A heading of a block or a frame, of so many bytes, and the space behind it.

@@ -1,9 +1,11 @@
 -- `items::parse_tag`: by its name, and by what is found behind it. Assumes nothing.
+use borrow.Enum.Refused.{opened}
 use Prim.Native.Nat.{◌*◌}
 use mathlib.Core.Path.{sym, ◌∙◌}
 use native.Mathlib.Omega.{arith}
 use Rattle.text.specs.Limits.{limit}
 use Rattle.sizes.specs.Sizes.{no_sizes}
+use Rattle.found.proofs.Choices.{over-left}
 use Rattle.values.proofs.Packs.{found-packed}
 use Rattle.items.proofs.Lists.{tag-end}
 use Rattle.items.proofs.Items.{tag-read, item-misnamed, tag-value-within, tag-value, tag-over, tag-missing}
@@ -39,7 +41,7 @@ pub with-requires-in-Value : goal.with-requires-in-Value
 unfolding limit
 with-requires-in-Value c =
     let p = c.requires in
-    let t = tag-read p.0.none p.1 c.long_word_end-end.ensures (sym c.tag_fits.ensures ∙ c.if-not-tag_fits.false) c.gap_end-stop.ensures (found-packed _ _ _ _ _ c.pack_value.ensures c.of.ensures) in
+    let t = tag-read p.0.none p.1 c.long_word_end-end.ensures (sym c.tag_fits.ensures ∙ c.if-not-tag_fits.false) c.gap_end-stop.ensures (found-packed _ _ _ _ _ c.pack_value.ensures c.of-found.ensures) in
     let w = tag-end _ _ _ p.0.none p.1 in (
       rw (c.with.ensures, default-none c.default.ensures) (upto-added 0 4 _ (limit * limit) no_sizes (upto-none 0) (omega (arith, t.ends, w.onward)) (omega (arith, t.ends, w.within, p.0.small))),
       omega (arith, (tag-value-within t _ _ c.in-Value.is).1, p.0.small),
@@ -49,23 +51,23 @@ pub overflow_add-stop : goal.overflow_add-stop
 unfolding limit
 overflow_add-stop c =
     let p = c.requires in
-    let t = tag-read p.0.none p.1 c.long_word_end-end.ensures (sym c.tag_fits.ensures ∙ c.if-not-tag_fits.false) c.gap_end-stop.ensures (found-packed _ _ _ _ _ c.pack_value.ensures c.of.ensures) in
+    let t = tag-read p.0.none p.1 c.long_word_end-end.ensures (sym c.tag_fits.ensures ∙ c.if-not-tag_fits.false) c.gap_end-stop.ensures (found-packed _ _ _ _ _ c.pack_value.ensures c.of-found.ensures) in
     omega (arith, (tag-value-within t _ _ c.in-Value.is).1, p.0.small)
 
 pub returns-in-Value : goal.returns-in-Value
 returns-in-Value c =
     let p = c.requires in
-    let t = tag-read p.0.none p.1 c.long_word_end-end.ensures (sym c.tag_fits.ensures ∙ c.if-not-tag_fits.false) c.gap_end-stop.ensures (found-packed _ _ _ _ _ c.pack_value.ensures c.of.ensures) in
+    let t = tag-read p.0.none p.1 c.long_word_end-end.ensures (sym c.tag_fits.ensures ∙ c.if-not-tag_fits.false) c.gap_end-stop.ensures (found-packed _ _ _ _ _ c.pack_value.ensures c.of-found.ensures) in
     tag-value t _ _ _ _ c.in-Value.is c.gap_end.ensures (c.with-in-Value.ensures ∙ rw (c.with.ensures, default-none c.default.ensures))
 
-pub returns-in-Over : goal.returns-in-Over
-returns-in-Over c =
+pub returns-in_default-found : goal.returns-in_default-found
+returns-in_default-found c =
     let p = c.requires in
-    let t = tag-read p.0.none p.1 c.long_word_end-end.ensures (sym c.tag_fits.ensures ∙ c.if-not-tag_fits.false) c.gap_end-stop.ensures (found-packed _ _ _ _ _ c.pack_value.ensures c.of.ensures) in
-    rw c.at-in-Over.ensures (tag-over t c.in-Over.is)
+    let t = tag-read p.0.none p.1 c.long_word_end-end.ensures (sym c.tag_fits.ensures ∙ c.if-not-tag_fits.false) c.gap_end-stop.ensures (found-packed _ _ _ _ _ c.pack_value.ensures c.of-found.ensures) in
+    rw c.at-in_default-found.ensures (tag-over t (over-left c.of-found.result (opened c.in_default.in_default-own.keys2) (opened c.in_default-found.in_default-found-own.keys2)))
 
-pub returns-in-Missing : goal.returns-in-Missing
-returns-in-Missing c =
+pub returns : goal.returns
+returns c =
     let p = c.requires in
-    let t = tag-read p.0.none p.1 c.long_word_end-end.ensures (sym c.tag_fits.ensures ∙ c.if-not-tag_fits.false) c.gap_end-stop.ensures (found-packed _ _ _ _ _ c.pack_value.ensures c.of.ensures) in
-    c.failed.ensures ∙ rw (c.at-in-Missing.ensures, c.number-reason.ensures) (tag-missing t _ c.in-Missing.is)
+    let t = tag-read p.0.none p.1 c.long_word_end-end.ensures (sym c.tag_fits.ensures ∙ c.if-not-tag_fits.false) c.gap_end-stop.ensures (found-packed _ _ _ _ _ c.pack_value.ensures c.of-found.ensures) in
+    c.failed.ensures ∙ rw (c.at-2.ensures, c.number-reason.ensures) (tag-missing t _ c.in-Missing.is)

@@ -11,8 +11,8 @@ pub pack_value-requires : goal.pack_value-requires
 unfolding limit
 pack_value-requires c = omega (arith, c.requires.small)
 
-pub returns-in-Value : goal.returns-in-Value
-returns-in-Value c =
+pub returns : goal.returns
+returns c =
     let found : c.of.result ≡ found_at c.args.reading c.args.s.now c.gap_end-stop.result =
     found-packed _ _ _ _ _ c.pack_value.ensures c.of.ensures in
     let a = c.args in
