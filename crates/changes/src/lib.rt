@@ -23,7 +23,8 @@ pub struct Change {
 // The bytes of an entry.
 pub const ENTRY: usize = 17;
 
-// How many columns are remembered at a time.
+// How many columns are remembered at a time, in 13 KiB of stack; the two functions that have them are never made part of one
+// that also calls the name check, whose table takes 48 KiB.
 const SLOTS: usize = 128;
 
 // Where a walk over the values of one store stands, the spot behind the last partner in the other, and what is remembered
@@ -122,6 +123,7 @@ impl Walk {
 }
 
 // How many bytes the entries of a store's values take.
+#[inline(never)]
 pub fn count_side(old: bool, here: Side<'_>, there: Side<'_>) -> usize
     requires { between Comparable here there }
     ensures { result ≡ length (changes_bytes (between (side_of old) here.entry there.entry)) }
@@ -145,6 +147,7 @@ fn put_entry(list: &mut [u8], at: usize, change: Change)
 }
 
 // The entries of a store's values, from an offset on.
+#[inline(never)]
 pub fn write_side(old: bool, here: Side<'_>, there: Side<'_>, list: &mut [u8], from: usize)
     requires { between Comparable here there × (from + length (changes_bytes (between (side_of old) here there)) ≤ length list.old) }
     ensures { list.new ≡ put from (changes_bytes (between (side_of old) here.entry there.entry)) list.old }
