@@ -8,8 +8,17 @@ use Rattle.text.specs.Parts.{part}
 use Rattle.text.proofs.Parts.{part_length, part_none, part-cons}
 use Rattle.folding.specs.Folding.{lower, folded}
 
+-- nothing stays nothing, and each byte is folded by itself
+pub folded-none : folded [] ≡ []
+unfolding folded
+folded-none = refl
+
+pub folded-cons : (b : ℕ) (u : List ℕ) → folded (b ∷ u) ≡ lower b ∷ folded u
+unfolding folded
+folded-cons b u = refl
+
 -- folding leaves the length as it is
-folded-length : (u : List ℕ) → length (folded u) ≡ length u
+pub folded-length : (u : List ℕ) → length (folded u) ≡ length u
 unfolding folded
 folded-length [] = refl
 folded-length (b ∷ u) = ap suc (folded-length u)

@@ -57,3 +57,7 @@ same-told t u v h = by t (same_name u v) refl refl
     by false false p q = refl
     by true false p q = sym (folded-same u v (folded-map u ∙ h.0 p ∙ sym (folded-map v))) ∙ q
     by false true p q = sym p ∙ h.1 (sym (folded-map u) ∙ same-folded u v q ∙ folded-map v)
+
+-- whichever way what is compared is written
+pub same-cut : (t : Bool) (u v a b : List ℕ) → a ≡ u → b ≡ v → IsTrue t ↔ (map to_ascii_lowercase a ≡ map to_ascii_lowercase b) → t ≡ same_name u v
+same-cut t u v a b p q h = rw (← p, ← q) (same-told t a b h)

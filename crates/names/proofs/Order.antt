@@ -9,14 +9,9 @@ use native.Mathlib.Numerals.{add-one}
 use lib.ListN.{length, get_or, drop, drop_of_length-le}
 use lib.Seq.{drop-cons}
 use Rattle.folding.specs.Folding.{lower, folded, same_name}
+use Rattle.folding.proofs.Parts.{folded-none, folded-cons, folded-length}
 use Rattle.folding.proofs.Same.{same-folded}
 use Rattle.names.specs.Order.{less_bytes, less_folded, less_name}
-
--- folding leaves the length as it is
-folded-length : (u : List ℕ) → length (folded u) ≡ length u
-unfolding folded
-folded-length [] = refl
-folded-length (b ∷ u) = ap suc (folded-length u)
 
 pub less-alike : (w u v : List ℕ) → same_name u v ≡ true → less_name w u ≡ less_name w v
 unfolding less_name
@@ -38,8 +33,9 @@ module _ (u v : List ℕ) where
 
   step : (i : ℕ) → i < length u → i < length v →
       less_left i ≡ cond (eqb (lower (get_or u i 0)) (lower (get_or v i 0))) (less_left (i + 1)) (ltb (lower (get_or u i 0)) (lower (get_or v i 0)))
-  unfolding less_left less_bytes folded
-  step i h k = rw (drop-cons u i 0 h, drop-cons v i 0 k, add-one)
+  unfolding less_left less_bytes
+  step i h k =
+      rw (drop-cons u i 0 h, drop-cons v i 0 k, folded-cons (get_or u i 0) (drop (suc i) u), folded-cons (get_or v i 0) (drop (suc i) v), add-one)
 
   pub less-go : (i : ℕ) → i < length u → i < length v → lower (get_or u i 0) ≡ lower (get_or v i 0) → less_left i ≡ less_left (i + 1)
   less-go i h k e = step i h k ∙ rw (eq-eqb (lower (get_or u i 0)) (lower (get_or v i 0)) e)
@@ -48,5 +44,5 @@ module _ (u v : List ℕ) where
   less-stop i h k e = step i h k ∙ rw (ne_eqb (lower (get_or u i 0)) (lower (get_or v i 0)) e)
 
   pub less_done : (i : ℕ) → length u ≤ i → length v ≤ i → less_left i ≡ false
-  unfolding less_left less_bytes folded
-  less_done i h k = rw (drop_of_length-le u h, drop_of_length-le v k)
+  unfolding less_left less_bytes
+  less_done i h k = rw (drop_of_length-le u h, drop_of_length-le v k, folded-none)
