@@ -74,7 +74,9 @@ names-end r s o h =
 
 -- where its values end
 pub record ValuesEnd (s : List ℕ) (o : ℕ) (values : Values) : Type 0 where
+  pub onward : o ≤ values.next
   pub within : values.next ≤ length s
+  pub bare : gap (drop values.next s) ≡ 0
   pub fits : Upto (values.next - o) values.sizes
 
 pub values-end : (r : Reading) (s : List ℕ) (o : ℕ) → o ≤ length s → (values : Values) → Ok values ≡ values_at r s o → ValuesEnd s o values
@@ -90,7 +92,28 @@ values-end r s o h values e = by (head_over (after_values (tokens_at r in_block 
         let c : values ≡ counted (value_recs ts) (after_values ts) = cc in
         let a = values-alike (both r s o h) in
         let p = both-spot a.rest in
-        rw c (record { within = p.within; fits = upto-more (a.to - o) _ _ a.fits (omega (arith, p.onward)) })
+        rw c (record {
+          onward = omega (arith, a.onward, p.onward);
+          within = p.within;
+          bare = p.bare;
+          fits = upto-more (a.to - o) _ _ a.fits (omega (arith, p.onward));
+        })
+
+-- where they are cut off by a number over a limit
+pub over-end : (r : Reading) (s : List ℕ) (o : ℕ) → o ≤ length s → (e : Fault) → Err e ≡ values_at r s o → (o ≤ e.at) × (e.at ≤ length s) × (gap (drop e.at s) ≡ 0)
+unfolding values_at values_of
+over-end r s o h e x = by (head_over (after_values (tokens_at r in_block s o))) x
+  where
+    ts : List Tok
+    ts = tokens_at r in_block s o
+
+    by : (b : Bool) → Err e ≡ cond b (Err (fault OverLimit (heading_at (after_values ts)))) (Ok (counted (value_recs ts) (after_values ts))) → (o ≤ e.at) × (e.at ≤ length s) × (gap (drop e.at s) ≡ 0)
+    by true q =
+        let c : e ≡ fault OverLimit (heading_at (after_values ts)) = cc in
+        let a = values-alike (both r s o h) in
+        let p = both-spot a.rest in
+        rw c (omega (arith, a.onward, p.onward), p.within, p.bare)
+    by false q = let z : ◌≡◌ {A = ℕ} 0 1 = cc in absurd (omega arith)
 
 -- the sizes of a loop's records
 loop-size : (t : Tok) (ns vs : List Rec) → t.size ≡ 5 → sizes_of (rec 5 t ∷ (ns ++ (vs ++ (loop_end ∷ [])))) ≡ added (joined (joined (added no_sizes 5 5) (sizes_of ns)) (sizes_of vs)) 7 0
@@ -348,7 +371,7 @@ module _ {r : Reading} {s : List ℕ} {o end stop : ℕ} {f : Found} (t : TagRea
   tag-value k w next z e p q =
       rw (p, q, t.stops, t.ends) (sym (item-value r s o t.bare t.tagged fits k w (rw (← t.ends, ← t.stops) (sym t.finds ∙ e))))
 
-  tag-alone : ((k w : ℕ) → f ≡ Value k w → ⊥) → alone_answer r o stop f ≡ item_at r s o
+  pub tag-alone : ((k w : ℕ) → f ≡ Value k w → ⊥) → alone_answer r o stop f ≡ item_at r s o
   tag-alone n =
       rw (t.finds, t.stops, t.ends) (sym (item-alone r s o t.bare t.tagged fits (λ k w e. n k w (rw (t.finds, t.stops, t.ends) e))))
 

@@ -84,7 +84,7 @@ module _ (s : List ℕ) where
   unfolding told
   screens-long o e = sym (ap tells (checked-long s (decided Strict s) o e) ∙ tells-refused 16 o 0)
 
-  screens-control : (o : ℕ) → screened s ≡ Err (Control o) → told (Err (fault ControlByte o)) ≡ tells (checked Strict s (decided Strict s))
+  pub screens-control : (o : ℕ) → screened s ≡ Err (Control o) → told (Err (fault ControlByte o)) ≡ tells (checked Strict s (decided Strict s))
   unfolding told
   screens-control o e = sym (ap tells (checked-control s (decided Strict s) o e) ∙ tells-refused 18 o 0)
 
