@@ -6,7 +6,7 @@ use mathlib.Core.List.{List, [], ◌∷◌, ◌++◌, append_assoc, append-nil}
 use mathlib.Core.Option.{Option, none, some}
 use native.Mathlib.Omega.{arith}
 use lib.Dec.{eqb}
-use lib.ListN.{length, set, get_or, length-append, take-append-drop}
+use lib.ListN.{length, set, get_or, replicate, length-append, take-append-drop}
 use Rattle.records.specs.Bytes.{le64}
 use Rattle.records.specs.Put.{front, put}
 use Rattle.records.proofs.Forms.{length-long}
@@ -39,6 +39,7 @@ use Rattle.changes.specs.declared.Walk.{Walk}
 use Rattle.changes.specs.Steps.{Comparable, bytes_at, outset, Walks, Stepped}
 use Rattle.changes.specs.Changes.{change, listed, of_old, of_new, of_side, of_all, side_of, change_bytes, changes_bytes}
 use Rattle.std.specs.Prelude.{Option as Maybe, Some, None}
+use Rattle.std.specs.Borrow.{MutBor}
 use Rattle.std.proofs.lemmas.List.{length-replicate, length-set}
 
 -- nothing put over a list leaves it as it is
@@ -93,13 +94,13 @@ get-any (x ∷ l) (suc i) d e h = get-any l i d e (omega arith)
 -- what a search for the partner of the next value asks
 pub asks-next :
     (st ar st' ar' : List ℕ) → Comparable st ar st' ar' → (w : Walk) → Walks st ar st' ar' w → (x : Found) (after : Here) → Meets st w.here x after → (d : Slot) →
-    Asks st ar st' ar' x (get_or w.slots (x.tag % 128) d) w.last
+    Asks st ar st' ar' x (get_or w.slots.now (x.tag % 128) d) w.last
 asks-next st ar st' ar' c w k x after m d =
-    let b : x.tag % 128 < length w.slots = omega (arith, k.sized) in
+    let b : x.tag % 128 < length w.slots.now = omega (arith, k.sized) in
     record {
       lies = m.lies;
       singular = c.singular;
-      claim = rw (get-any w.slots (x.tag % 128) d blank b) (k.remembers.claims (x.tag % 128));
+      claim = rw (get-any w.slots.now (x.tag % 128) d blank b) (k.remembers.claims (x.tag % 128));
       reached = k.remembers.reached;
     }
 
@@ -148,18 +149,18 @@ module _ (old : Bool) (st ar st' ar' : List ℕ) where
   rest_next h x after m c e = rw (m.values, e) (bytes-append (of_side old st ar st' ar' (cell_of x)) (of_all old st ar st' ar' (cells_at st after)))
 
   -- the walk's start, and behind a value
-  pub walks-first : Walks st ar st' ar' outset
-  walks-first = record { placed = placed_first st; remembers = remembers-first st ar st' ar' 128 blank first refl refl; sized = length-replicate 128 blank }
+  pub walks-first : (s : MutBor (List Slot)) → s.now ≡ replicate 128 blank → Walks st ar st' ar' (outset s)
+  walks-first s e = record { placed = placed_first st; remembers = rw e (remembers-first st ar st' ar' 128 blank first refl refl); sized = rw e (length-replicate 128 blank) }
 
   module _ (w : Walk) (k : Walks st ar st' ar' w) (x : Found) (after : Here) (m : Meets st w.here x after) (i : ℕ) (r : Sought) (f : Finds st ar st' ar' (cell_of x) r) where
-    pub walks-next : Walks st ar st' ar' (record { here = after; last = r.last; slots = set w.slots i r.slot })
-    walks-next = record { placed = m.placed; remembers = remembers-next st ar st' ar' w.slots w.last i (cell_of x) r k.remembers f; sized = length-set w.slots i r.slot ∙ k.sized }
+    pub walks-next : Walks st ar st' ar' (record { here = after; last = r.last; slots = record w.slots { now = set w.slots.now i r.slot } })
+    walks-next = record { placed = m.placed; remembers = remembers-next st ar st' ar' w.slots.now w.last i (cell_of x) r k.remembers f; sized = length-set w.slots.now i r.slot ∙ k.sized }
 
     pub rest-same : listed None ≡ of_side old st ar st' ar' (cell_of x) → rest w.here ≡ rest after
     unfolding listed changes_bytes
     rest-same e = rest_next w.here x after m None e
 
-    pub step-some : (from : Walk) → rest from.here ≡ rest w.here → (c : Change) → listed (Some c) ≡ of_side old st ar st' ar' (cell_of x) → Stepped old st ar st' ar' from (Some c) (record { here = after; last = r.last; slots = set w.slots i r.slot })
+    pub step-some : (from : Walk) → rest from.here ≡ rest w.here → (c : Change) → listed (Some c) ≡ of_side old st ar st' ar' (cell_of x) → Stepped old st ar st' ar' from (Some c) (record { here = after; last = r.last; slots = record w.slots { now = set w.slots.now i r.slot } })
     unfolding Stepped listed changes_bytes
     step-some from q c e = (walks-next, q ∙ rest_next w.here x after m (Some c) e ∙ ap (λ (l : List ℕ). l ++ rest after) (append-nil (change_bytes c)))
 
@@ -172,8 +173,8 @@ module _ (old : Bool) (st ar st' ar' : List ℕ) where
     pub walks : Walks st ar st' ar' w
     pub sum : total + length (rest w.here) ≡ length all
 
-  pub count-first : Counts outset 0
-  count-first = record { walks = walks-first; sum = omega (arith, ap length rest-first) }
+  pub count-first : (s : MutBor (List Slot)) → s.now ≡ replicate 128 blank → Counts (outset s) 0
+  count-first s e = record { walks = walks-first s e; sum = omega (arith, ap length rest-first) }
 
   pub count-end : (w w' : Walk) (total : ℕ) (r : Maybe Change) → Counts w total → Stepped old st ar st' ar' w r w' → r ≡ None → total ≡ length all
   unfolding Stepped
@@ -208,8 +209,8 @@ module _ (old : Bool) (st ar st' ar' : List ℕ) where
     pub whole : done ++ rest w.here ≡ all
     pub room : from + length all ≤ length l₀
 
-  pub write-first : (from : ℕ) (l : List ℕ) → from + length all ≤ length l → Writes from l l outset from
-  write-first from l r = record { walks = walks-first; done = []; stands = omega arith; holds = sym (put-none from l); whole = rest-first; room = r }
+  pub write-first : (s : MutBor (List Slot)) → s.now ≡ replicate 128 blank → (from : ℕ) (l : List ℕ) → from + length all ≤ length l → Writes from l l (outset s) from
+  write-first s e from l r = record { walks = walks-first s e; done = []; stands = omega arith; holds = sym (put-none from l); whole = rest-first; room = r }
 
   pub write-length : (from : ℕ) (l₀ l : List ℕ) (w : Walk) (at : ℕ) → Writes from l₀ l w at → length l ≡ length l₀
   write-length from l₀ l w at k = ap length k.holds ∙ length-put from k.done l₀ (omega (arith, length-append k.done (rest w.here), ap length k.whole, k.room))

@@ -23,17 +23,17 @@ pub struct Change {
 // The bytes of an entry.
 pub const ENTRY: usize = 17;
 
-// How many columns are remembered at a time, in 13 KiB of stack; the two functions that have them are never made part of one
-// that also calls the name check, whose table takes 48 KiB.
+// How many columns are remembered at a time, in 13 KiB of stack, where a walk borrows them, so that it is moved without them;
+// the two functions that have them are never made part of one that also calls the name check, whose table takes 48 KiB.
 const SLOTS: usize = 128;
 
 // Where a walk over the values of one store stands, the spot behind the last partner in the other, and what is remembered
-// of some columns.
+// of some columns, which is lent.
 #[derive(Drop)]
-struct Walk {
+struct Walk<'s> {
     here: Here,
     last: Here,
-    slots: [Slot; SLOTS],
+    slots: &'s mut [Slot; SLOTS],
 }
 
 // The entry of a value of the old store.
@@ -91,15 +91,15 @@ fn of_side(
     }
 }
 
-impl Walk {
+impl<'s> Walk<'s> {
     // Nothing is passed over.
-    fn start() -> Walk
-        ensures { result ≡ outset }
+    fn start(slots: &'s mut [Slot; SLOTS]) -> Walk<'s>
+        ensures { result ≡ outset slots.entry }
     {
         Walk {
             here: cells::start(),
             last: cells::start(),
-            slots: [matching::empty(); SLOTS],
+            slots,
         }
     }
 
@@ -128,7 +128,8 @@ pub fn count_side(old: bool, here: Side<'_>, there: Side<'_>) -> usize
     requires { between Comparable here there }
     ensures { result ≡ length (changes_bytes (between (side_of old) here.entry there.entry)) }
 {
-    let mut walk = Walk::start();
+    let mut slots = [matching::empty(); SLOTS];
+    let mut walk = Walk::start(&mut slots);
     let mut total = 0;
     while let Some(_) = walk.next(old, here, there) {
         total += ENTRY;
@@ -152,7 +153,8 @@ pub fn write_side(old: bool, here: Side<'_>, there: Side<'_>, list: &mut [u8], f
     requires { between Comparable here there × (from + length (changes_bytes (between (side_of old) here there)) ≤ length list.old) }
     ensures { list.new ≡ put from (changes_bytes (between (side_of old) here.entry there.entry)) list.old }
 {
-    let mut walk = Walk::start();
+    let mut slots = [matching::empty(); SLOTS];
+    let mut walk = Walk::start(&mut slots);
     let mut at = from;
     while let Some(change) = walk.next(old, here, there) {
         put_entry(list, at, change);

@@ -1,10 +1,11 @@
 -- `changes::count_side`: what is counted and what is left make all. Assumes nothing.
+use mathlib.Core.Path.{refl}
 use native.Mathlib.Omega.{arith}
 use Rattle.changes.proofs.Changes.{count-first, count-end, count-within, count_next, stepped-less}
 use Rattle.changes.proofs.count_side.Goals as goal
 
 pub loop-total-init : goal.loop-total-init
-loop-total-init c = rw c.start-walk.ensures (count-first _ _ _ _ _)
+loop-total-init c = rw c.start-walk.ensures (count-first _ _ _ _ _ _ (rw c.empty-slots.ensures refl))
 
 pub overflow_add-total : goal.overflow_add-total
 overflow_add-total c =
