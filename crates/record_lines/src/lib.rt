@@ -15,16 +15,16 @@ use kinds::{Kind, Shape};
 use numbers::Decimal;
 use rules::Reading;
 
-// A part of a source; an empty one may start behind the source's end.
+// A part of a source, byte by byte, which the compiler makes wide: `copy_from_slice` would be a call of memmove, which the archive needs from
+// nowhere else.
 fn put_part(out: &mut [u8], at: usize, source: &[u8], from: usize, size: usize) -> usize
     requires { (at + size ≤ length out.old) × (size ≤ length source.now - from) }
     ensures { Wrote at (take size (drop from source.now)) out.old out.new result }
 {
-    let end = at + size;
-    if 0 < size {
-        out[at..end].copy_from_slice(&source[from..from + size]);
+    for i in 0..size {
+        out[at + i] = source[from + i];
     }
-    end
+    at + size
 }
 
 // The decimal that stored parts stand for.

@@ -1,26 +1,41 @@
--- `record_lines::put_part` meets its contract. Assumes nothing.
-use Rattle.std.proofs.Common.{ℕ, List, ◌≡◌, ◌+◌, ◌-◌, length, take, drop, arith}
-use lib.ListN.{length-take, length-drop}
-use borrow.Rule.Slice.PartMut.{put_mid}
-use Rattle.records.specs.Put.{front, put}
-use Rattle.numerals.proofs.Wrote.{wrote_none}
+-- `record_lines::put_part` meets its contract: where the loop stands, i bytes are copied. Assumes nothing.
+use Prim.Native.Nat.{◌-◌}
+use mathlib.Core.Path.{◌≡◌, refl, sym}
+use native.Mathlib.Omega.{arith}
+use lib.ListN.{length, take, drop, length-set, length-take, length-drop}
+use Rattle.numerals.proofs.Wrote.{put-none, part-more}
 use Rattle.record_lines.proofs.put_part.Goals as goal
 
-over : (at size : ℕ) (ys vs l : List ℕ) → ys ≡ vs → size ≡ length vs → put_mid at size l ys ≡ put at vs l
-unfolding put front
-over at size ys vs l e k = rw (e, k)
+pub loop-i-init : goal.loop-i-init
+loop-i-init c = (omega arith, refl, sym (put-none _ _))
 
-pub returns-then-size-gt0 : goal.returns-then-size-gt0
-returns-then-size-gt0 c =
+pub overflow_add-out : goal.overflow_add-out
+overflow_add-out c = omega arith
+
+pub bounds-source-from : goal.bounds-source-from
+bounds-source-from c = omega arith
+
+pub overflow_add-out-in-loop-i : goal.overflow_add-out-in-loop-i
+overflow_add-out-in-loop-i c = omega arith
+
+pub bounds-out-at : goal.bounds-out-at
+bounds-out-at c = omega arith
+
+pub loop-i-preserved : goal.loop-i-preserved
+loop-i-preserved c =
+    let l = c.loop-i in
+    let a = c.args in (
+      omega arith,
+      simp length-set l.invariant.1,
+      rw l.invariant.2 (part-more a.source.now a.out.now a.from a.at l.i (omega arith) (omega arith)),
+    )
+
+pub overflow_add-result : goal.overflow_add-result
+overflow_add-result c = omega arith
+
+pub returns : goal.returns
+returns c =
     let a = c.args in
-    let part = take a.size (drop a.from a.source.now) in
-    let size : length part ≡ a.size = omega (arith, length-take a.size (drop a.from a.source.now), length-drop a.from a.source.now) in
-    let all : a.from + a.size - a.from ≡ a.size = omega arith in
-    let bytes : c.copy_from_slice.new.self ≡ part = rw all at c.copy_from_slice.ensures.after in
-    record { bytes = over a.at _ _ part a.out.now bytes (omega arith); next = omega arith }
-
-pub returns-else-size-gt0 : goal.returns-else-size-gt0
-returns-else-size-gt0 c =
-    let z : c.args.size ≡ 0 = omega arith in
-    let n : c.args.at + 0 ≡ c.args.at = omega arith in
-    rw (z, n) (wrote_none c.args.at c.args.out.now)
+    let whole : c.loop-i.i ≡ a.size = omega arith in
+    let size : length (take a.size (drop a.from a.source.now)) ≡ a.size = omega (arith, length-take a.size (drop a.from a.source.now), length-drop a.from a.source.now) in
+    record { bytes = rw whole at c.loop-i.invariant.2; next = omega arith }
