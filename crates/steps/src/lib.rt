@@ -63,7 +63,9 @@ fn behind(entry: Entry, spot: Spot) -> Spot
     }
 }
 
-// The next name at or behind a spot.
+// The next name at or behind a spot. Inline, here and below, where a walk over many names is made of it: a call would hand each name and
+// each spot over through memory.
+#[inline(always)]
 pub fn next_name<'a>(store: &[u8], area: &'a [u8], spot: Spot) -> Option<Met<'a>>
     requires { Counted spot }
     ensures { Ahead store.now area.now spot result }
@@ -86,6 +88,7 @@ pub fn next_name<'a>(store: &[u8], area: &'a [u8], spot: Spot) -> Option<Met<'a>
 }
 
 // The next name at or behind a spot with fewer than so many names before it.
+#[inline(always)]
 pub fn next_before<'a>(store: &[u8], area: &'a [u8], end: usize, spot: Spot) -> Option<Met<'a>>
     requires { Counted spot }
     ensures { Before store.now area.now end spot result }

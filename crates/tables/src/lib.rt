@@ -21,6 +21,7 @@ pub struct Scope<'a> {
 
 impl<'a> Scope<'a> {
     // The next name at or behind a spot, of any scope.
+    #[inline(always)]
     pub fn next(self, spot: Spot) -> Option<Met<'a>>
         requires { Counted spot }
         ensures { Before self.entry.store.now self.entry.area.now self.entry.end spot result }
