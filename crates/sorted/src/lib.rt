@@ -10,11 +10,22 @@ const STEPS: usize = 14;
 // Half of the entries that so many steps can tell apart.
 const HALF: usize = 8191;
 
-// Whether the record at one offset comes before that at another: by their names, and those of one name by their offsets.
+// Whether the record at one offset comes before that at another: by their names, in the order of `names::is_before`, and those of one name by
+// their offsets. Both names are gone through once; to ask `is_before` both ways would be twice.
 fn precedes(store: &[u8], area: &[u8], a: u32, b: u32) -> bool {
-    let x = steps::bytes_at(store, area, a as usize);
-    let y = steps::bytes_at(store, area, b as usize);
-    names::is_before(x, y) || !names::is_before(y, x) && a < b
+    let u = steps::bytes_at(store, area, a as usize);
+    let v = steps::bytes_at(store, area, b as usize);
+    if u.len() != v.len() {
+        return u.len() < v.len();
+    }
+    for (x, y) in u.iter().zip(v) {
+        let x = folding::to_lower(*x);
+        let y = folding::to_lower(*y);
+        if x != y {
+            return x < y;
+        }
+    }
+    a < b
 }
 
 // Of the two entries below one in a heap, the place of the one that comes later; none where there is neither.
